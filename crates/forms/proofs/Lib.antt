@@ -1,0 +1,10 @@
+pub mod Orders
+pub mod CompareLaws
+pub mod ReadLaws
+pub mod NumberLaws
+pub mod KeyLaws
+pub mod RowLaws
+pub mod EntryLaws
+pub mod JudgeLaws
+pub mod BatchLaws
+pub mod AscendLaws

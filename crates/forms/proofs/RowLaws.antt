@@ -1,0 +1,179 @@
+-- Rows: what each way over a section says, the loop over the texts, and what a row in form is.
+-- Assumes nothing.
+use Prim.Native.Nat.{ℕ, suc, _+_, _-_, _*_, _≤_, _<_}
+use native.Mathlib.Omega.{arith}
+use mathlib.Core.Path.{_≡_, refl, sym, _∙_, ap}
+use mathlib.Core.Bool.{Bool, true, false, not, _&&_}
+use mathlib.Core.List.{List, [], _∷_}
+use mathlib.Core.Option.{Option, none, some}
+use lib.ListN.{length, getD, drop}
+use lib.Dec.{leb, eqb}
+use borrow.Author.Tests.{le-leb, lt-leb, leb-true, not-true, not-false}
+use Rattle.seqs.proofs.Tests.{and-left, and-right}
+use Rattle.forms.specs.Bytes.{Bytes}
+use Rattle.forms.specs.Readers.{Read, readOn, _>>=_, just, when, byte, stretch, piece, upTo, times, section, ended, whole, isSome}
+use Rattle.forms.specs.Row.{Row, integers, texts, fields, rowForm}
+use Rattle.forms.specs.Places.{restOf, RestAt, PartAt}
+use Rattle.forms.specs.declared.part.Part.{Part}
+use Rattle.forms.specs.declared.row.Rest.{Rest}
+use Rattle.forms.proofs.ReadLaws.{after, byte-none, byte-at, stretch-good, stretch-short, upTo-none, upTo-many, upTo-good, readMore, times-bad, times-more, isEmpty, end-at, reads-bad, reads-good, part-reads}
+
+abbrev noRest : Rest
+noRest = record { ok = false; at = 0 }
+
+no-rest : {A : Type 0} {s : Bytes} {o : Option (Read A)} → o ≡ none → RestAt s (restOf o) noRest
+no-rest e = record { is = ap restOf e; within = omega arith }
+
+-- ---- "count byte 0 to 8"
+
+module _ (s : Bytes) (at : ℕ) where
+  count-none : length s ≤ at → upTo 8 byte (drop at s) ≡ none
+  count-none h = upTo-none 8 byte (drop at s) (byte-none s at h)
+
+  count-many : at < length s → 8 < getD s at 0 → upTo 8 byte (drop at s) ≡ none
+  count-many l h = upTo-many 8 byte (drop at s) (byte-at s at l) h
+
+  count-at : at < length s → getD s at 0 ≤ 8 → upTo 8 byte (drop at s) ≡ some (record { got = getD s at 0; rest = drop (at + 1) s })
+  count-at l h = upTo-good 8 byte (drop at s) (byte-at s at l) h
+
+-- ---- `integers_end`
+
+module _ (s : Bytes) (at : ℕ) where
+  pub integers-none : length s ≤ at → RestAt s (restOf (integers (drop at s))) noRest
+  unfolding integers _>>=_ readOn
+  integers-none h = no-rest (after (λ n. stretch (8 * n)) (count-none s at h))
+
+  pub integers-many : at < length s → 8 < getD s at 0 → RestAt s (restOf (integers (drop at s))) noRest
+  unfolding integers _>>=_ readOn
+  integers-many l h = no-rest (after (λ n. stretch (8 * n)) (count-many s at l h))
+
+  pub integers-short : at < length s → getD s at 0 ≤ 8 → length s - at - 1 < 8 * getD s at 0 → RestAt s (restOf (integers (drop at s))) noRest
+  unfolding integers _>>=_ readOn
+  integers-short l h m = no-rest (after (λ n. stretch (8 * n)) (count-at s at l h) ∙ stretch-short s (at + 1) (8 * getD s at 0) (omega arith))
+
+  pub integers-good : at < length s → getD s at 0 ≤ 8 → 8 * getD s at 0 ≤ length s - at - 1 → RestAt s (restOf (integers (drop at s))) (record { ok = true; at = at + 1 + 8 * getD s at 0 })
+  unfolding integers _>>=_ readOn
+  integers-good l h m = record {
+    is = ap restOf (after (λ n. stretch (8 * n)) (count-at s at l h) ∙ stretch-good s (at + 1) (8 * getD s at 0) (omega arith));
+    within = omega arith;
+  }
+
+-- ---- `pieces_end`: the pieces from `end` on are still to come
+
+pub record Passing (s : Bytes) (at count end left : ℕ) : Type 0 where
+  pub within : end ≤ length s
+  pub is : restOf (times count piece (drop at s)) ≡ restOf (times left piece (drop end s))
+
+pub passing-start : {s : Bytes} {at : ℕ} (count : ℕ) → at ≤ length s → Passing s at count at count
+passing-start count h = record { within = h; is = refl }
+
+rest-more : {A : Type 0} (x : A) (o : Option (Read (List A))) → restOf (readMore x o) ≡ restOf o
+rest-more x none = refl
+rest-more x (some q) = refl
+
+module _ {s : Bytes} {at count end left : ℕ} (v : Passing s at count end left) where
+  module _ {p : Part} (q : PartAt s end p) (more : 0 < left) where
+    pub passing-bad : not (p .ok) ≡ true → RestAt s (restOf (times count piece (drop at s))) noRest
+    passing-bad h =
+        let e : left ≡ suc (left - 1) = omega arith in
+        record {
+          is = v .is ∙ ap (λ (n : ℕ). restOf (times n piece (drop end s))) e ∙ ap restOf (times-bad piece (left - 1) (drop end s) (reads-bad (part-reads q) h));
+          within = omega arith;
+        }
+
+    pub passing-more : not (p .ok) ≡ false → Passing s at count (p .at + p .len) (left - 1)
+    passing-more h =
+        let e : left ≡ suc (left - 1) = omega arith in
+        record {
+          within = q .within;
+          is = v .is ∙ ap (λ (n : ℕ). restOf (times n piece (drop end s))) e ∙ ap restOf (times-more piece (left - 1) (drop end s) (reads-good (part-reads q) h)) ∙ rest-more _ (times (left - 1) piece (drop (p .at + p .len) s));
+        }
+
+  pub passing-end : left ≤ 0 → RestAt s (restOf (times count piece (drop at s))) (record { ok = true; at = end })
+  unfolding times just
+  passing-end h = let z : left ≡ 0 = omega arith in record { is = v .is ∙ ap (λ (n : ℕ). restOf (times n piece (drop end s))) z; within = v .within }
+
+-- ---- `texts_end`
+
+module _ (s : Bytes) (at : ℕ) where
+  pub texts-none : length s ≤ at → RestAt s (restOf (texts (drop at s))) noRest
+  unfolding texts section _>>=_ readOn
+  texts-none h = no-rest (after (λ n. times n piece) (count-none s at h))
+
+  pub texts-many : at < length s → 8 < getD s at 0 → RestAt s (restOf (texts (drop at s))) noRest
+  unfolding texts section _>>=_ readOn
+  texts-many l h = no-rest (after (λ n. times n piece) (count-many s at l h))
+
+  pub texts-good : {r : Rest} → at < length s → getD s at 0 ≤ 8 → RestAt s (restOf (times (getD s at 0) piece (drop (at + 1) s))) r → RestAt s (restOf (texts (drop at s))) r
+  unfolding texts section _>>=_ readOn
+  texts-good l h v = record { is = ap restOf (after (λ n. times n piece) (count-at s at l h)) ∙ v .is; within = v .within }
+
+-- ---- `row_in_form`
+
+-- "nothing may follow": all was read where what is left is empty
+abbrev isEnd : Option Bytes → Bool
+isEnd none = false
+isEnd (some t) = isEmpty t
+
+end-is : {A : Type 0} (o : Option (Read A)) → isSome (ended o) ≡ isEnd (restOf o)
+unfolding ended
+end-is none = refl
+end-is (some r) = go (r .rest)
+  where
+    go : (t : Bytes) → isSome (ended (some (record { got = r .got; rest = t }))) ≡ isEmpty t
+    go [] = refl
+    go (x ∷ t) = refl
+
+abbrev textsAfter : Option Bytes → Option Bytes
+textsAfter none = none
+textsAfter (some t) = restOf (texts t)
+
+fields-rest : (s : Bytes) → restOf (fields s) ≡ textsAfter (restOf (integers s))
+unfolding fields _>>=_ readOn
+fields-rest s = go (integers s)
+  where
+    go : (o : Option (Read Bytes)) → restOf (readOn o (λ _. texts)) ≡ textsAfter (restOf o)
+    go none = refl
+    go (some q) = refl
+
+module _ (s : Bytes) where
+  pub row-tiny : length s < 2 → false ≡ rowForm s
+  unfolding rowForm
+  row-tiny h = simp (lt-leb _ _ h)
+
+  pub row-long : 255 < length s → false ≡ rowForm s
+  unfolding rowForm
+  row-long h = let l : 2 ≤ length s = omega arith in simp (le-leb _ _ l, lt-leb _ _ h)
+
+module _ (s : Bytes) (l : 2 ≤ length s) (h : length s ≤ 255) where
+  row-is : rowForm s ≡ isEnd (restOf (fields s))
+  unfolding rowForm whole
+  row-is = simp (le-leb _ _ l, le-leb _ _ h) (end-is (fields s))
+
+  module _ {i : Rest} (v : RestAt s (restOf (integers s)) i) where
+    row-fields : (b : Bool) → i .ok ≡ b → rowForm s ≡ isEnd (textsAfter (when b (drop (i .at) s)))
+    row-fields b p = row-is ∙ ap isEnd (fields-rest s ∙ ap textsAfter (v .is ∙ ap (λ (b : Bool). when b (drop (i .at) s)) p))
+
+    pub row-integers : not (i .ok) ≡ true → false ≡ rowForm s
+    row-integers n = sym (row-fields false (not-true (i .ok) n))
+
+    module _ (good : not (i .ok) ≡ false) {t : Rest} (u : RestAt s (restOf (texts (drop (i .at) s))) t) where
+      row-texts : (b : Bool) → t .ok ≡ b → rowForm s ≡ isEnd (when b (drop (t .at) s))
+      row-texts b p = row-fields true (not-false (i .ok) good) ∙ ap isEnd (u .is ∙ ap (λ (b : Bool). when b (drop (t .at) s)) p)
+
+      pub row-no-texts : not (t .ok) ≡ true → false ≡ rowForm s
+      row-no-texts n = sym (row-texts false (not-true (t .ok) n))
+
+      pub row-end : not (t .ok) ≡ false → eqb (t .at) (length s) ≡ rowForm s
+      row-end n = end-at s (t .at) (u .within) ∙ sym (row-texts true (not-false (t .ok) n))
+
+-- "Length 2 to 255"
+pub record RowBounds (r : Row) : Type 0 where
+  pub long : 2 ≤ length r
+  pub short : length r ≤ 255
+
+pub row-bounds : (r : Row) → rowForm r ≡ true → RowBounds r
+unfolding rowForm
+row-bounds r h =
+    let g : leb 2 (length r) && leb (length r) 255 ≡ true = and-left _ _ h in
+    record { long = leb-true _ _ (and-left _ _ g); short = leb-true _ _ (and-right (leb 2 (length r)) _ g) }

@@ -1,0 +1,27 @@
+// The forms on bytes of document 01, "Key, row, batch, image": what every call is told and what the store keeps.
+// Every function here takes any bytes and any place, and says what the definition in specs/ says of them.
+pub mod batch;
+pub mod key;
+pub mod number;
+pub mod part;
+pub mod row;
+
+pub use batch::Cursor;
+pub use batch::Entry;
+pub use batch::entry_at;
+pub use batch::first;
+pub use batch::keys_in_form;
+pub use batch::mutations_in_form;
+pub use key::Order;
+pub use key::below;
+pub use key::compare;
+pub use key::key_in_form;
+pub use key::same;
+pub use number::Number;
+pub use number::Width;
+pub use number::bytes_in;
+pub use number::number_at;
+pub use number::put_number;
+pub use part::Part;
+pub use part::part_at;
+pub use row::row_in_form;

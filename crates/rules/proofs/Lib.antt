@@ -1,0 +1,5 @@
+-- The laws of this crate that others cite, and its theorems.
+pub mod SoundLaws
+pub mod RoomLaws
+pub mod Worked
+pub mod ShownRows

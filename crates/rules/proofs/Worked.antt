@@ -1,0 +1,201 @@
+-- Document 01, "Proved table": W1 to W11, one table under one claim. Each row says what a call gives and what the paper says, both as the
+-- numbers that a caller sees; the claim is that the list of rows which differ is empty, so that a wrong row is named.
+-- "Table 1, key a = 00 00 00 01 61 (b ends in 62), row 00 00, transaction 7; where unsaid, primary a, time to live 1, row limit 1, no bounds."
+-- Assumes nothing.
+use Prim.Native.Nat.{ℕ, zero, suc, _-_}
+use Prim.Native.String.{String}
+use mathlib.Core.Path.{_≡_, refl}
+use mathlib.Core.Bool.{Bool, true, false, _&&_, _||_, not}
+use mathlib.Core.List.{List, [], _∷_, _++_, reverse}
+use mathlib.Core.Option.{Option, none, some}
+use lib.ListN.{length, replicate}
+use Rattle.forms.specs.Bytes.{Bytes, cmp, eqBytes, ltBytes}
+use Rattle.forms.specs.Readers.{readOn, _>>=_, just, only, byte, stretch, piece, upTo, times, section, ended, whole}
+use Rattle.forms.specs.Numbers.{numberFrom, digits, numberOf}
+use Rattle.forms.specs.Key.{Key, tableOf, keyForm}
+use Rattle.forms.specs.Row.{Row, integers, texts, fields, rowForm}
+use Rattle.forms.specs.Batch.{Mutation, ofKind, mutation, above, ascend, ifAscend, batchOf, mutations, keys}
+use Rattle.rules.specs.declared.answers.Answer.{Answer}
+use Rattle.rules.specs.declared.records.Kind.the-variants.{Delete}
+use Rattle.rules.specs.Answers.{number, holder, _▸_, need, needOwn, Reply, nothing, shown, refused, answerOf, ifPassed}
+use Rattle.rules.specs.Box.{Box, fresh, Lock, Line, Standing, Finished, KeyLine, Default, recordsOf, addRecord, lockOf, addLock, rowOf, addRow, before, rowBefore, putIn, insertBy, dropLock, unlessLock, dropRow, unlessRow}
+use Rattle.rules.specs.Sound.{allSound, soundLock}
+use Rattle.rules.specs.Room.{sumOf, loadOf, fits, roomFor}
+use Rattle.rules.specs.Read.{lockLets, keepIf, atOrBelow, newestFirst, showIf, showRow, oneRecord, walk, read}
+use Rattle.rules.specs.Page.{Bounds, Limits, boundsStep, pageArguments, keysOf, keysWithin, onPage, tooLarge, costStep, limitStep, onJudged, pageWalk, unlessPast, readKey, page}
+use Rattle.rules.specs.Written.{kindByte, keyRowBytes, allBytes, pageBytes, Written, writeIf, written, scanPage}
+use Rattle.rules.specs.Calls.{Done, settle, zeroStep, allBelow, foundIf, stampedAt, recordFor}
+use Rattle.rules.specs.Prewrite.{Head, headStep, lockStep, prewriteEntry, prewriteEntries, storeIf, lockLine, unlessLocked, applyPrewrite, applyPrewrites, prewriteRoom, prewriteSteps, prewrite}
+use Rattle.rules.specs.Commit.{Ending, endingStep, withStart, commitLock, commitStep, commitKey, commitKeys, commitTo, applyCommit, commitSteps, commit}
+use Rattle.rules.specs.Rollback.{rollbackRecords, rollbackLock, rollbackStep, rollbackKey, rollbackKeys, rollbackTo, applyRollback, applyRollbacks, rollbackRoom, rollbackSteps, rollback}
+use Rattle.rules.specs.OneStep.{Counted, argumentsStep, appliedIf, appliedBy, appliedIn, noneOther, allApplied, someApplied, stepLock, stepEntry, stepEntries, newestStep, replaceIf, applyStep, applySteps, stepNew, stepApplied, stepArguments, thenApplied, countIf, stepDone, stepAll, ofCounted, oneStep}
+
+-- ---- a row of the table, and the rows that differ
+
+pub record Case : Type 0 where
+  name : String
+  got : List ℕ
+  wanted : List ℕ
+
+nameUnless : Bool → String → List String → List String
+nameUnless true n ns = ns
+nameUnless false n ns = n ∷ ns
+
+pub differing : List Case → List String
+differing [] = []
+differing (c ∷ cs) = nameUnless (eqBytes (c .got) (c .wanted)) (c .name) (differing cs)
+
+-- ---- what a caller sees, as numbers: the answer's number and the holder's transaction and start; then what else the call gives
+
+saw : Answer → List ℕ → List ℕ
+saw a more = number a ∷ holder a .txn ∷ holder a .start ∷ more
+
+sawDone : Done → List ℕ
+sawDone d = saw (d .answer) []
+
+-- 0 where nothing is shown, 1 and the row
+sawRow : Reply Row → List ℕ
+sawRow nothing = saw (answerOf {A = Row} nothing) (0 ∷ [])
+sawRow (shown r) = saw (answerOf (shown r)) (1 ∷ r)
+sawRow (refused a) = saw a (0 ∷ [])
+
+sawCount : Counted → List ℕ
+sawCount c = saw (c .done .answer) (c .count ∷ [])
+
+sawPage : Written → List ℕ
+sawPage w = saw (w .answer) (w .count ∷ w .buffer)
+
+-- a box as numbers, each entry after its length
+flatLine : Line → List ℕ
+flatLine (Standing l) = 1 ∷ l .txn ∷ l .start ∷ l .ttl ∷ kindByte (l .kind) ∷ length (l .primary) ∷ l .primary
+flatLine (Finished w) = 2 ∷ w .stamp ∷ w .start ∷ w .commit ∷ kindByte (w .kind) ∷ []
+
+flatLines : List KeyLine → List ℕ
+flatLines [] = []
+flatLines (e ∷ es) = length (e .key) ∷ e .key ++ flatLine (e .line) ++ flatLines es
+
+flatDefaults : List Default → List ℕ
+flatDefaults [] = []
+flatDefaults (d ∷ ds) = length (d .key) ∷ d .key ++ (d .start ∷ length (d .row) ∷ d .row) ++ flatDefaults ds
+
+flat : Box → List ℕ
+flat b = length (b .lines) ∷ flatLines (b .lines) ++ flatDefaults (b .defaults)
+
+-- ---- the calls of the table
+
+keyA : Key
+keyA = 0 ∷ 0 ∷ 0 ∷ 1 ∷ 0x61 ∷ []
+
+keyB : Key
+keyB = 0 ∷ 0 ∷ 0 ∷ 1 ∷ 0x62 ∷ []
+
+row : Row
+row = 0 ∷ 0 ∷ []
+
+put : Key → Mutation
+put k = record { key = k; row = some row }
+
+head : ℕ → Head
+head start = record { txn = 7; start = start; primary = keyA; ttl = 1 }
+
+ending : ℕ → ℕ → Ending
+ending start commit = record { txn = 7; start = start; commit = commit }
+
+prewriteA : ℕ → Box → Done
+prewriteA start b = prewrite (head start) (put keyA) b
+
+commitA : ℕ → ℕ → Box → Done
+commitA start at b = commit (ending start at) keyA b
+
+rollbackA : ℕ → Box → Done
+rollbackA start b = rollback 7 start keyA b
+
+-- a mutation batch of Puts, as bytes
+batchA : Bytes
+batchA = 0 ∷ 1 ∷ 5 ∷ 0 ∷ 0 ∷ 0 ∷ 1 ∷ 0x61 ∷ 1 ∷ 2 ∷ 0 ∷ 0 ∷ []
+
+batchAB : Bytes
+batchAB = 0 ∷ 2 ∷ 5 ∷ 0 ∷ 0 ∷ 0 ∷ 1 ∷ 0x61 ∷ 1 ∷ 2 ∷ 0 ∷ 0 ∷ 5 ∷ 0 ∷ 0 ∷ 0 ∷ 1 ∷ 0x62 ∷ 1 ∷ 2 ∷ 0 ∷ 0 ∷ []
+
+noBounds : Bounds
+noBounds = record { from = none; to = none; resume = none }
+
+-- a page at 12 with row limit 1, into a buffer of 14 bytes that hold 238
+buffer : Bytes
+buffer = replicate 14 238
+
+pageAt12 : ℕ → Box → Written
+pageAt12 bytes b = scanPage noBounds 12 (record { rows = 1; bytes = bytes }) b buffer
+
+box1 : Box
+box1 = prewriteA 10 fresh .box
+
+box2 : Box
+box2 = commitA 10 12 box1 .box
+
+box6 : Box
+box6 = rollbackA 5 fresh .box
+
+-- "a shown, b locked by the moment"
+box11 : Box
+box11 = prewrite (head 11) (put keyB) box2 .box
+
+pub table : List Case
+table =
+    record { name = "W1 prewrite Put start 10"; got = sawDone (prewriteA 10 fresh); wanted = 0 ∷ 0 ∷ 0 ∷ [] } ∷
+    record { name = "W1 read at 9 nothing"; got = sawRow (read keyA 9 box1); wanted = 0 ∷ 0 ∷ 0 ∷ 0 ∷ [] } ∷
+    record { name = "W1 read at 10 answer 7 with 7, 10"; got = sawRow (read keyA 10 box1); wanted = 7 ∷ 7 ∷ 10 ∷ 0 ∷ [] } ∷
+    record { name = "W2 then commit at 12"; got = sawDone (commitA 10 12 box1); wanted = 0 ∷ 0 ∷ 0 ∷ [] } ∷
+    record { name = "W2 read at 11 nothing"; got = sawRow (read keyA 11 box2); wanted = 0 ∷ 0 ∷ 0 ∷ 0 ∷ [] } ∷
+    record { name = "W2 read at 12 the row"; got = sawRow (read keyA 12 box2); wanted = 0 ∷ 0 ∷ 0 ∷ 1 ∷ 0 ∷ 0 ∷ [] } ∷
+    record { name = "W3 then rollback of start 12: 9"; got = sawDone (rollbackA 12 box2); wanted = 9 ∷ 0 ∷ 0 ∷ [] } ∷
+    record { name = "W4 after W2, rollback of start 10: 8"; got = sawDone (rollbackA 10 box2); wanted = 8 ∷ 0 ∷ 0 ∷ [] } ∷
+    record { name = "W5 after W2, prewrite start 12: 8"; got = sawDone (prewriteA 12 box2); wanted = 8 ∷ 0 ∷ 0 ∷ [] } ∷
+    record { name = "W5 start 13: 0"; got = sawDone (prewriteA 13 box2); wanted = 0 ∷ 0 ∷ 0 ∷ [] } ∷
+    record { name = "W6 fresh, rollback start 5: 0, one line"; got = saw (rollbackA 5 fresh .answer) (length (box6 .lines) ∷ []); wanted = 0 ∷ 0 ∷ 0 ∷ 1 ∷ [] } ∷
+    record { name = "W6 again: 0, same state"; got = saw (rollbackA 5 box6 .answer) (flat (rollbackA 5 box6 .box)); wanted = 0 ∷ 0 ∷ 0 ∷ flat box6 } ∷
+    record { name = "W7 then prewrite start 5: 8"; got = sawDone (prewriteA 5 box6); wanted = 8 ∷ 0 ∷ 0 ∷ [] } ∷
+    record { name = "W8 after W2, one-step (10, 12) of a alone with that row: 0, count 1"; got = sawCount (oneStep (ending 10 12) batchA box2); wanted = 0 ∷ 0 ∷ 0 ∷ 1 ∷ [] } ∷
+    record { name = "W8 of a and b: 9"; got = sawCount (oneStep (ending 10 12) batchAB box2); wanted = 9 ∷ 0 ∷ 0 ∷ 0 ∷ [] } ∷
+    record {
+      name = "W9 after W2, page at 12, byte limit 7";
+      got = sawPage (pageAt12 7 box2);
+      wanted = 0 ∷ 0 ∷ 0 ∷ 12 ∷ 0x00 ∷ 0x01 ∷ 0x05 ∷ 0x00 ∷ 0x00 ∷ 0x00 ∷ 0x01 ∷ 0x61 ∷ 0x02 ∷ 0x00 ∷ 0x00 ∷ 0x00 ∷ 238 ∷ 238 ∷ [];
+    } ∷
+    record { name = "W10 byte limit 6: 10"; got = sawPage (pageAt12 6 box2); wanted = 10 ∷ 0 ∷ 0 ∷ 0 ∷ buffer } ∷
+    record { name = "W11 a shown, b locked by the moment, row limit 1: 7"; got = sawPage (pageAt12 7 box11); wanted = 7 ∷ 7 ∷ 11 ∷ 0 ∷ buffer } ∷
+    []
+
+-- ---- "Room": the load that a caller could count, and 11 only after every earlier refusal
+
+sawLoad : Box → List ℕ
+sawLoad b = loadOf b .lines ∷ loadOf b .locks ∷ loadOf b .defaults ∷ loadOf b .bytes ∷ []
+
+-- n locks, on keys of table 2 that ascend
+locks : ℕ → List KeyLine
+locks zero = []
+locks (suc n) = record { key = 0 ∷ 0 ∷ 0 ∷ 2 ∷ (255 - n) ∷ []; line = Standing (record { txn = 9; primary = keyA; start = 20; ttl = 1; kind = Delete }) } ∷ locks n
+
+-- a record of a at 12, and as many locks as there may be
+full : Box
+full = record { lines = record { key = keyA; line = Finished (recordFor 10 12 Delete) } ∷ locks 256; defaults = [] }
+
+pub roomTable : List Case
+roomTable =
+    record { name = "a lock counts key plus primary, a default key plus row"; got = sawLoad box1; wanted = 1 ∷ 1 ∷ 1 ∷ 17 ∷ [] } ∷
+    record { name = "a record counts its key"; got = sawLoad box2; wanted = 1 ∷ 0 ∷ 1 ∷ 12 ∷ [] } ∷
+    record { name = "256 locks of 10 bytes each, and a record"; got = sawLoad full; wanted = 257 ∷ 256 ∷ 0 ∷ 2565 ∷ [] } ∷
+    record { name = "no room for one lock more: 11"; got = sawDone (prewriteA 13 full); wanted = 11 ∷ 0 ∷ 0 ∷ [] } ∷
+    record { name = "no room, and history forbids it: 8 goes before 11"; got = sawDone (prewriteA 12 full); wanted = 8 ∷ 0 ∷ 0 ∷ [] } ∷
+    []
+
+-- no row of either table differs
+both : (differing table ≡ []) × (differing roomTable ≡ [])
+unfolding sawLoad locks full roomTable nameUnless differing saw sawDone sawRow sawCount sawPage flatLine flatLines flatDefaults flat keyA keyB row put head ending prewriteA commitA rollbackA batchA batchAB noBounds buffer pageAt12 box1 box2 box6 box11 table cmp eqBytes ltBytes readOn _>>=_ just only byte stretch piece upTo times section ended whole numberFrom digits numberOf tableOf keyForm integers texts fields rowForm ofKind mutation above ascend ifAscend batchOf mutations keys _▸_ need needOwn ifPassed fresh recordsOf addRecord lockOf addLock rowOf addRow before rowBefore putIn insertBy dropLock unlessLock dropRow unlessRow allSound soundLock sumOf loadOf fits roomFor lockLets keepIf atOrBelow newestFirst showIf showRow oneRecord walk read boundsStep pageArguments keysOf keysWithin onPage tooLarge costStep limitStep onJudged pageWalk unlessPast readKey page keyRowBytes allBytes pageBytes writeIf written scanPage settle zeroStep allBelow foundIf stampedAt headStep lockStep prewriteEntry prewriteEntries storeIf lockLine unlessLocked applyPrewrite applyPrewrites prewriteRoom prewriteSteps prewrite endingStep withStart commitLock commitStep commitKey commitKeys commitTo applyCommit commitSteps commit rollbackRecords rollbackLock rollbackStep rollbackKey rollbackKeys rollbackTo applyRollback applyRollbacks rollbackRoom rollbackSteps rollback argumentsStep appliedIf appliedBy appliedIn noneOther allApplied someApplied stepLock stepEntry stepEntries newestStep replaceIf applyStep applySteps stepNew stepApplied stepArguments thenApplied countIf stepDone stepAll ofCounted oneStep
+both = (refl, refl)
+
+pub worked : differing table ≡ []
+worked = both .0
+
+pub room-worked : differing roomTable ≡ []
+room-worked = both .1

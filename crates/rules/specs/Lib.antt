@@ -1,0 +1,17 @@
+pub mod Answers
+pub mod Box
+pub mod Sound
+pub mod Room
+pub mod Read
+pub mod Shown
+pub mod Intent
+pub mod Page
+pub mod Written
+pub mod Calls
+pub mod Prewrite
+pub mod Commit
+pub mod Rollback
+pub mod OneStep
+pub mod Image
+pub mod Restore
+pub mod Figures
