@@ -1,0 +1,139 @@
+//! Damaged traces: one fault in the trace's own form, or a form just at its edge.
+
+use paper::store::Bytes;
+use paper::trace::{Call, MOST_BYTES, read_trace, write_trace};
+
+use crate::Ops;
+use crate::random::Random;
+
+/// A trace that is empty, has no calls, or stands at or one past the most bytes.
+pub fn edge(random: &mut Random, ops: Ops) -> Bytes {
+    let fill = |length: usize| write_trace(&[Call::Restore { image: vec![0; length - 9] }]);
+    match random.below(8) {
+        0 | 1 => Bytes::new(),
+        2 => vec![0],
+        3 => vec![0, 0],
+        4 => vec![0, 0, 0],
+        5 => vec![0, 1],
+        6 if ops.has(32) => fill(MOST_BYTES),
+        7 if ops.has(32) => fill(MOST_BYTES + 1),
+        _ => vec![0, 1, 0, 0],
+    }
+}
+
+/// The calls' trace with a fault. Whether a fault it is, the paper says; where ops are left out, no call of such an op
+/// may come of it.
+pub fn damaged(random: &mut Random, calls: &[Call], ops: Ops) -> Bytes {
+    let sound = write_trace(calls);
+    for _ in 0..20 {
+        let bytes = one_fault(random, calls, &sound);
+        let allowed = read_trace(&bytes).is_none_or(|calls| calls.iter().all(|call| ops.has(call.op())));
+        if allowed {
+            return bytes;
+        }
+    }
+    sound
+}
+
+fn one_fault(random: &mut Random, calls: &[Call], sound: &[u8]) -> Bytes {
+    let mut bytes = sound.to_vec();
+    match random.below(10) {
+        0 => bytes.truncate(random.below(bytes.len())),
+        1 => bytes.push(random.number() as u8),
+        2 => bytes[1] = bytes[1].wrapping_add(*random.pick(&[1, 255])),
+        3 => {
+            let at = random.below(bytes.len());
+            bytes[at] = random.number() as u8;
+        }
+        4 | 8 | 9 => return call_fault(random, calls),
+        5 => return long_length(random, calls),
+        6 => {
+            // Cut within the last call, lengths kept: bytes are missing in it.
+            bytes.pop();
+        }
+        _ => return op_fault(random, calls),
+    }
+    bytes
+}
+
+/// The trace of the calls, the one at a place given as bytes of its own.
+fn with_call(calls: &[Call], at: usize, own: impl FnOnce(Bytes) -> Bytes) -> Bytes {
+    let mut out = (calls.len() as u16).to_be_bytes().to_vec();
+    let mut own = Some(own);
+    for (place, call) in calls.iter().enumerate() {
+        let mut bytes = call.write();
+        if place == at {
+            bytes = own.take().expect("one place")(bytes);
+        }
+        if bytes.len() < 65_535 {
+            out.extend_from_slice(&(bytes.len() as u16).to_be_bytes());
+        } else {
+            out.extend_from_slice(&[255, 255]);
+            out.extend_from_slice(&(bytes.len() as u32).to_be_bytes());
+        }
+        out.extend_from_slice(&bytes);
+    }
+    out
+}
+
+/// A byte more or less in one call, its length telling so; a kind or a flag of another value.
+fn call_fault(random: &mut Random, calls: &[Call]) -> Bytes {
+    let mut at = random.below(calls.len());
+    let with_mark: Vec<usize> = (0..calls.len()).filter(|place| mark_of(&calls[*place]).is_some()).collect();
+    if !with_mark.is_empty() && random.percent(80) {
+        at = *random.pick(&with_mark);
+    }
+    let marked = mark_of(&calls[at]);
+    let choice = random.below(if marked.is_some() { 8 } else { 2 });
+    let marks = if matches!(calls[at], Call::Prewrite { .. }) { [0, 3, 3, 255] } else { [2, 2, 3, 255] };
+    let mark = *random.pick(&marks);
+    with_call(calls, at, |mut bytes| {
+        match (choice, marked) {
+            (0, _) => bytes.push(0),
+            (1, _) => {
+                bytes.pop();
+            }
+            (_, Some(place)) => bytes[place] = mark,
+            _ => unreachable!("a choice above 1 needs a marked place"),
+        }
+        bytes
+    })
+}
+
+/// Where a call has its kind or its first flag.
+fn mark_of(call: &Call) -> Option<usize> {
+    match call {
+        Call::Prewrite { .. } | Call::Page { .. } | Call::Conflicting { .. } => Some(25),
+        Call::IntentPage { .. } => Some(9),
+        _ => None,
+    }
+}
+
+/// An op that the table does not have.
+fn op_fault(random: &mut Random, calls: &[Call]) -> Bytes {
+    let at = random.below(calls.len());
+    let op = *random.pick(&[0, 13, 31, 35, 64, 128, 255]);
+    with_call(calls, at, |mut bytes| {
+        bytes[0] = op;
+        bytes
+    })
+}
+
+/// One call's length given the long way although it is short: in form, if the length is the call's own.
+fn long_length(random: &mut Random, calls: &[Call]) -> Bytes {
+    let at = random.below(calls.len());
+    let wrong = random.below(3) as u32;
+    let mut out = (calls.len() as u16).to_be_bytes().to_vec();
+    for (place, call) in calls.iter().enumerate() {
+        let bytes = call.write();
+        if place == at || bytes.len() >= 65_535 {
+            out.extend_from_slice(&[255, 255]);
+            let more = if place == at { wrong / 2 } else { 0 };
+            out.extend_from_slice(&(bytes.len() as u32 + more).to_be_bytes());
+        } else {
+            out.extend_from_slice(&(bytes.len() as u16).to_be_bytes());
+        }
+        out.extend_from_slice(&bytes);
+    }
+    out
+}

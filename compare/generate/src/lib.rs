@@ -1,0 +1,182 @@
+//! A seeded generator of traces that is hard on the box: few keys with common prefixes in several tables, small and
+//! extreme numbers, replays, batches, rows and images in and out of form, every combination of bounds, buffers and
+//! byte limits at and one short of what is needed, boxes at and one past each of the four rooms, images longer than
+//! 65,535 bytes, damaged traces.
+
+pub mod batch;
+mod damage;
+mod grow;
+mod image;
+mod looks;
+mod maker;
+pub mod named;
+pub mod random;
+mod room;
+mod stock;
+mod writes;
+
+use paper::restore::Image;
+use paper::store::Bytes;
+use paper::trace::{Call, write_trace};
+
+use crate::maker::Maker;
+
+/// The ops that calls may have.
+#[derive(Clone, Copy, Debug, PartialEq, Eq)]
+pub struct Ops(u64);
+
+impl Ops {
+    /// Every op of TRACE.md's table.
+    pub const LIST: [u8; 15] = [1, 2, 3, 4, 5, 6, 7, 8, 9, 10, 11, 12, 32, 33, 34];
+
+    pub fn all() -> Self {
+        Ops(Self::LIST.iter().fold(0, |ops, op| ops | 1 << op))
+    }
+
+    /// A list such as `32,33,34`; none if it holds another word, or no op at all.
+    pub fn read(list: &str) -> Option<Self> {
+        let mut ops = Ops(0);
+        for word in list.split(',').map(str::trim).filter(|word| !word.is_empty()) {
+            let op: u8 = word.parse().ok().filter(|op| Self::LIST.contains(op))?;
+            ops.0 |= 1 << op;
+        }
+        (ops.0 != 0).then_some(ops)
+    }
+
+    pub fn has(self, op: u8) -> bool {
+        op < 64 && self.0 >> op & 1 == 1
+    }
+}
+
+/// What a trace is about.
+#[derive(Clone, Copy, Debug, PartialEq, Eq)]
+pub enum Kind {
+    /// Calls of every op from a fresh store.
+    Fresh,
+    /// The same from an odd but sound image.
+    Odd,
+    /// Images, sound and not, with the store's figures between.
+    Images,
+    /// A box at one of the four rooms, and calls that pass it.
+    Room,
+    /// All four rooms full, or an image far beyond, of more than 65,535 bytes.
+    Large,
+    /// A fault in the trace's own form.
+    Damaged,
+    /// A trace at an edge of its form.
+    Edge,
+}
+
+const KINDS: [(Kind, usize); 7] = [
+    (Kind::Fresh, 245),
+    (Kind::Odd, 380),
+    (Kind::Images, 150),
+    (Kind::Room, 70),
+    (Kind::Large, 10),
+    (Kind::Damaged, 120),
+    (Kind::Edge, 25),
+];
+
+/// The kind of trace that a seed gives.
+pub fn kind_of(seed: u64) -> Kind {
+    let weights: Vec<usize> = KINDS.iter().map(|(_, weight)| *weight).collect();
+    KINDS[random::Random::new(!seed).weighted(&weights)].0
+}
+
+/// The trace of a seed.
+pub fn trace(seed: u64, ops: Ops) -> Bytes {
+    trace_of(kind_of(seed), seed, ops)
+}
+
+/// A trace of this kind.
+pub fn trace_of(kind: Kind, seed: u64, ops: Ops) -> Bytes {
+    let mut maker = Maker::new(seed, ops);
+    match kind {
+        Kind::Fresh => some_calls(&mut maker, 4, 50),
+        Kind::Odd => {
+            let restore = maker.sound_restore();
+            maker.push(restore);
+            some_calls(&mut maker, 4, 35);
+        }
+        Kind::Images => {
+            for _ in 0..maker.random.between(1, 6) {
+                let restore = maker.restore();
+                maker.push(restore);
+                maker.look();
+            }
+        }
+        Kind::Room => room(&mut maker),
+        Kind::Large => large(&mut maker),
+        Kind::Damaged => {
+            if maker.random.percent(50) {
+                let restore = maker.sound_restore();
+                maker.push(restore);
+            }
+            some_calls(&mut maker, 1, 8);
+            return damage::damaged(&mut maker.random, &maker.calls, ops);
+        }
+        Kind::Edge => return damage::edge(&mut maker.random, ops),
+    }
+    write_trace(&maker.calls)
+}
+
+fn some_calls(maker: &mut Maker, least: usize, most: usize) {
+    for _ in 0..maker.random.between(least, most) {
+        maker.any_call();
+    }
+}
+
+/// A box short of, at or one past a room, by an image or by calls alone, then calls around it.
+fn room(maker: &mut Maker) {
+    let which = maker.random.below(4);
+    if maker.ops.has(32) && maker.random.percent(80) {
+        let past = *maker.random.pick(&[-40, -3, -2, -1, -1, 0, 0, 1]);
+        let image = room::beside_room(&mut maker.random, which, past);
+        maker.push(Call::Restore { image: image.write() });
+    } else {
+        maker.fill(which);
+    }
+    for _ in 0..maker.random.between(2, 6) {
+        maker.grow();
+    }
+    some_calls(maker, 2, 8);
+    maker.look();
+    if maker.random.percent(50) {
+        let past = *maker.random.pick(&[0, 1]);
+        let image = room::beside_room(&mut maker.random, which, past);
+        let mut image = if past == 1 && maker.random.percent(50) { with_last_fault(image) } else { image };
+        image.defaults.reverse();
+        maker.push(Call::Restore { image: image.write() });
+        maker.look();
+    }
+}
+
+/// All four rooms full and calls on them, or images beyond.
+fn large(maker: &mut Maker) {
+    if maker.random.percent(50) {
+        let image = room::all_full(&mut maker.random);
+        maker.push(Call::Restore { image: image.write() });
+        maker.look();
+        some_calls(maker, 2, 6);
+    } else {
+        let entries = *maker.random.pick(&[257, 1025, 3000, 6000]);
+        let mut image = room::far_beyond(&mut maker.random, entries);
+        if maker.random.percent(40) {
+            image = with_last_fault(image);
+        }
+        maker.push(Call::Restore { image: image.write() });
+        maker.look();
+    }
+}
+
+/// A fault in the last entry: 13 goes before 11.
+fn with_last_fault(mut image: Image) -> Image {
+    if let Some((key, ..)) = image.writes.last_mut() {
+        key[0] ^= 1;
+    } else if let Some((_, lock)) = image.locks.last_mut() {
+        lock.time_to_live = 0;
+    } else if let Some((_, start, _)) = image.defaults.last_mut() {
+        *start = 0;
+    }
+    image
+}

@@ -1,0 +1,193 @@
+//! What calls are made of: few keys with common prefixes in several tables, rows, and small or extreme numbers, drawn
+//! from the store as it stands where that is sharper.
+
+use paper::store::{Bytes, Store};
+
+use crate::random::Random;
+
+/// The numbers at the ends of the width.
+pub const EXTREMES: [u64; 7] = [0, 1, u32::MAX as u64, i64::MAX as u64, i64::MAX as u64 + 1, u64::MAX - 1, u64::MAX];
+
+/// The keys of one trace: those in form, and those that are not.
+pub struct Stock {
+    pub keys: Vec<Bytes>,
+}
+
+fn key(table: u32, name: &[u8]) -> Bytes {
+    [&table.to_be_bytes(), name].concat()
+}
+
+impl Stock {
+    pub fn new(random: &mut Random) -> Self {
+        let mut all = vec![
+            key(1, b"a"),
+            key(1, b"b"),
+            key(1, &[b'a', 0]),
+            key(1, b"aa"),
+            key(1, b"ab"),
+            key(1, &[0]),
+            key(1, &[255]),
+            key(1, &[b'a'; 44]),
+            key(1, &[[b'a'; 43].as_slice(), b"b"].concat()),
+            key(1, &[255; 44]),
+            key(2, b"a"),
+            key(2, &[b'k'; 44]),
+            key(0x0100_0000, b"a"),
+            key(u32::MAX, b"z"),
+            key(256, &[0, 0]),
+        ];
+        random.shuffle(&mut all);
+        let wanted = random.between(2, 8);
+        all.truncate(wanted);
+        all.push(key(1, b"a"));
+        all.sort();
+        all.dedup();
+        Stock { keys: all }
+    }
+
+    /// A key out of form: of 0, 3, 4, 49 or 255 bytes, or of table 0; alone also of 300 bytes.
+    pub fn key_out_of_form(&self, random: &mut Random, alone: bool) -> Bytes {
+        match random.below(if alone { 9 } else { 8 }) {
+            0 => Bytes::new(),
+            1 => vec![0, 0, 1],
+            2 => vec![0, 0, 0, 1],
+            3 => key(1, &[b'a'; 45]),
+            4 => key(u32::MAX, &[255; 45]),
+            5 => key(0, b"a"),
+            6 => vec![255; 255],
+            7 => key(1, &[b'm'; 251]),
+            _ => key(1, &[b'n'; 296]),
+        }
+    }
+
+    /// A key in form: of the store, of the stock, or right beside one of them.
+    pub fn key(&self, random: &mut Random, store: &Store) -> Bytes {
+        let held = held_keys(random, store);
+        match held {
+            Some(key) if random.percent(60) => key,
+            Some(key) if random.percent(10) => beside(random, key),
+            _ => random.pick(&self.keys).clone(),
+        }
+    }
+
+    /// A key, now and then out of form.
+    pub fn any_key(&self, random: &mut Random, store: &Store, faulty: bool) -> Bytes {
+        if random.percent(if faulty { 35 } else { 3 }) {
+            self.key_out_of_form(random, true)
+        } else {
+            self.key(random, store)
+        }
+    }
+}
+
+/// A key of a lock, a record or a default, if there is one.
+fn held_keys(random: &mut Random, store: &Store) -> Option<Bytes> {
+    let (locks, records, defaults) = (store.locks.len(), store.records.len(), store.defaults.len());
+    let all = locks + records + defaults;
+    if all == 0 {
+        return None;
+    }
+    let at = random.below(all);
+    let mut keys = store.locks.keys().chain(store.records.keys()).chain(store.defaults.keys());
+    keys.nth(at).cloned()
+}
+
+/// The key right after, or a near one in form.
+fn beside(random: &mut Random, mut key: Bytes) -> Bytes {
+    match random.below(3) {
+        0 if key.len() < 48 => key.push(0),
+        1 if key.len() > 5 => {
+            key.pop();
+        }
+        _ => {
+            let last = key.len() - 1;
+            key[last] = key[last].wrapping_add(1);
+        }
+    }
+    key
+}
+
+/// A transaction: few, so that they meet.
+pub fn transaction(random: &mut Random, faulty: bool) -> u64 {
+    match random.below(100) {
+        0..3 => *random.pick(&EXTREMES),
+        3..25 if faulty => 0,
+        _ => random.between(1, 3) as u64,
+    }
+}
+
+/// A start, stamp or moment: small, extreme, or at or beside one of this key's.
+pub fn stamp(random: &mut Random, store: &Store, key: &[u8], faulty: bool) -> u64 {
+    if faulty && random.percent(20) {
+        return 0;
+    }
+    match random.below(100) {
+        0..4 => *random.pick(&EXTREMES),
+        4..50 => {
+            let known = stamps_of(store, key);
+            if known.is_empty() {
+                return random.between(1, 14) as u64;
+            }
+            let at = *random.pick(&known);
+            match random.below(4) {
+                0 => at.wrapping_sub(1),
+                1 => at.wrapping_add(1),
+                _ => at,
+            }
+        }
+        _ => random.between(1, 14) as u64,
+    }
+}
+
+/// Every start and stamp that stands at the key.
+pub fn stamps_of(store: &Store, key: &[u8]) -> Vec<u64> {
+    let mut known: Vec<u64> = store.records_of(key).flat_map(|(stamp, record)| [stamp, record.start]).collect();
+    known.extend(store.lock_of(key).map(|lock| lock.start));
+    known.extend(store.defaults.get(key).into_iter().flat_map(|chain| chain.keys().copied()));
+    known
+}
+
+/// A row in form; most are short.
+pub fn row(random: &mut Random) -> Bytes {
+    match random.below(20) {
+        0..6 => vec![0, 0],
+        6..9 => vec![0, 1, 1, *random.pick(b"xyz")],
+        9..12 => [&[1][..], &(random.number() as i64).to_be_bytes(), &[0]].concat(),
+        12 => [&[8][..], &random.bytes(64), &[0]].concat(),
+        13 => [&[0, 8][..], &[0; 8]].concat(),
+        14 => vec![0, 1, 2, 0xC3, 0x28],
+        15 => row_of(255),
+        16 => row_of(254),
+        17 => [&[8][..], &random.bytes(64), &[8], &[1, 7].repeat(8)].concat(),
+        18 => vec![0, 2, 0, 3, 0, 0, 255],
+        _ => {
+            let length = random.between(4, 60);
+            row_of(length)
+        }
+    }
+}
+
+/// A row in form of just this length, which is 2 or at least 3.
+pub fn row_of(length: usize) -> Bytes {
+    match length {
+        2 => vec![0, 0],
+        _ => [&[0, 1, (length - 3) as u8][..], &vec![b't'; length - 3]].concat(),
+    }
+}
+
+/// A row out of form; alone also one above 255 bytes whose sections read well.
+pub fn row_out_of_form(random: &mut Random, alone: bool) -> Bytes {
+    match random.below(if alone { 11 } else { 9 }) {
+        0 => Bytes::new(),
+        1 => vec![0],
+        2 => vec![0, 0, 0],
+        3 => [&[9][..], &[0; 72], &[0]].concat(),
+        4 => [&[0, 9][..], &[0; 9]].concat(),
+        5 => vec![0, 1, 2, b'x'],
+        6 => vec![1, 0, 0, 0, 0],
+        7 => [&[1][..], &[0; 8]].concat(),
+        8 => vec![0, 1],
+        9 => [&[0, 2, 250][..], &[b'x'; 250], &[2, b'y', b'z']].concat(),
+        _ => [&[0, 2, 200][..], &[b'x'; 200], &[97], &[b'y'; 97]].concat(),
+    }
+}

@@ -1,0 +1,132 @@
+//! The generator keeps what it says: the same seed gives the same trace, only the ops asked for, and every kind of
+//! trace is what it is called.
+
+use std::collections::BTreeSet;
+
+use generate::{Kind, Ops, kind_of, named, trace, trace_of};
+use paper::restore::Image;
+use paper::room::{DEFAULTS, LINES, LIVE_BYTES, LOCKS, Use};
+use paper::run::{run_call, run_trace};
+use paper::store::Store;
+use paper::trace::{Call, MOST_BYTES, read_trace, write_trace};
+
+#[test]
+fn a_seed_gives_one_trace() {
+    for seed in 0..50 {
+        assert_eq!(trace(seed, Ops::all()), trace(seed, Ops::all()));
+    }
+    assert_ne!(trace_of(Kind::Fresh, 1, Ops::all()), trace_of(Kind::Fresh, 2, Ops::all()));
+}
+
+#[test]
+fn only_the_ops_asked_for() {
+    for list in ["32,33,34", "1,5,32,33,34", "12, 2", "33"] {
+        let ops = Ops::read(list).expect("a list of ops");
+        let mut seen = BTreeSet::new();
+        for seed in 0..300 {
+            for call in read_trace(&trace(seed, ops)).unwrap_or_default() {
+                assert!(ops.has(call.op()), "op {} with --ops {list}", call.op());
+                seen.insert(call.op());
+            }
+        }
+        assert_eq!(seen.len(), Ops::LIST.iter().filter(|op| ops.has(**op)).count(), "every op of {list} is drawn");
+    }
+    assert_eq!(Ops::read("13"), None);
+    assert_eq!(Ops::read(""), None);
+    assert_eq!(Ops::read("x"), None);
+}
+
+#[test]
+fn every_op_gets_every_answer_it_can_give() {
+    let mut seen = BTreeSet::new();
+    for seed in 0..1500 {
+        let bytes = trace(seed, Ops::all());
+        let ops: Vec<u8> = read_trace(&bytes).unwrap_or_default().iter().map(Call::op).collect();
+        seen.extend(ops.into_iter().zip(run_trace(&bytes)).map(|(op, answer)| (op, answer.number)));
+    }
+    let expected: &[(u8, &[u8])] = &[
+        (1, &[0, 1, 7]),
+        (2, &[0, 1, 3, 4, 7, 10, 12]),
+        (3, &[0, 1, 3, 4, 12]),
+        (4, &[0, 1, 3, 4, 10, 12]),
+        (5, &[0, 1]),
+        (6, &[0, 1, 2, 3, 7, 8, 9, 11]),
+        (7, &[0, 1, 2, 3, 5, 6, 7, 8, 9, 11]),
+        (8, &[0, 1, 3, 7, 8, 9]),
+        (9, &[0, 1, 3, 5, 6, 7, 8, 9]),
+        (10, &[0, 1, 3, 7, 8, 9, 11]),
+        (11, &[0, 1, 3, 5, 6, 7, 8, 9, 11]),
+        (12, &[0, 1, 2, 3, 6, 7, 8, 9, 11]),
+        (32, &[0, 11, 13]),
+        (33, &[0]),
+        (34, &[0]),
+    ];
+    for (op, numbers) in expected {
+        let given: Vec<u8> = seen.iter().filter(|(other, _)| other == op).map(|(_, number)| *number).collect();
+        assert_eq!(given, *numbers, "op {op}");
+    }
+}
+
+#[test]
+fn long_images_full_boxes_and_edges_come() {
+    let images: Vec<Vec<u8>> = (0..40)
+        .flat_map(|seed| read_trace(&trace_of(Kind::Large, seed, Ops::all())).expect("a large trace is in form"))
+        .filter_map(|call| if let Call::Restore { image } = call { Some(image) } else { None })
+        .collect();
+    assert!(images.iter().any(|image| image.len() > 65_535));
+    let full = Use { lines: LINES, locks: LOCKS, defaults: DEFAULTS, live_bytes: LIVE_BYTES };
+    let used = |image: &Vec<u8>| Image::read(image).and_then(|image| image.store()).map(|store| store.room_used());
+    assert!(images.iter().any(|image| used(image) == Some(full)), "a box with all four rooms just full");
+    let edges: BTreeSet<usize> = (0..60).map(|seed| trace_of(Kind::Edge, seed, Ops::all()).len()).collect();
+    assert!([0, 2, MOST_BYTES, MOST_BYTES + 1].iter().all(|length| edges.contains(length)), "{edges:?}");
+    assert!((0..2000).any(|seed| kind_of(seed) == Kind::Large));
+}
+
+#[test]
+fn each_room_is_met_and_passed_by_one() {
+    let mut met = BTreeSet::new();
+    for seed in 0..400 {
+        let mut store = Store::default();
+        for call in read_trace(&trace_of(Kind::Room, seed, Ops::all())).expect("a room trace is in form") {
+            let answer = run_call(&mut store, &call);
+            let used = store.room_used();
+            let rooms =
+                [(used.lines, LINES), (used.locks, LOCKS), (used.defaults, DEFAULTS), (used.live_bytes, LIVE_BYTES)];
+            for (room, (used, most)) in rooms.into_iter().enumerate() {
+                if used == most {
+                    met.insert((room, "full"));
+                }
+                if answer.number == 11 && used + 1 >= most {
+                    met.insert((room, "refused beside it"));
+                }
+            }
+        }
+    }
+    assert_eq!(met.len(), 8, "{met:?}");
+}
+
+#[test]
+fn the_named_cases_answer_as_the_paper_says() {
+    for (name, calls) in named::cases() {
+        let numbers: Vec<u8> = run_trace(&write_trace(&calls)).iter().map(|answer| answer.number).collect();
+        let expected: Option<&[u8]> = match name {
+            "W1" => Some(&[0, 0, 7]),
+            "W2" => Some(&[0, 0, 0, 0]),
+            "W3" => Some(&[0, 0, 9]),
+            "W4" => Some(&[0, 0, 8]),
+            "W5" => Some(&[0, 0, 8, 0]),
+            "W7" => Some(&[0, 8]),
+            "W8" => Some(&[0, 0, 0, 9]),
+            "W9" => Some(&[0, 0, 12, 0, 0]),
+            "W10" => Some(&[0, 0, 10]),
+            "W11" => Some(&[0, 0, 0, 7]),
+            "1,023 lines" => Some(&[0, 11, 0, 0, 0, 11]),
+            "all four rooms full" => Some(&[0, 0, 11, 0, 11, 11, 0, 0]),
+            "one byte past the most" => Some(&[6]),
+            _ => None,
+        };
+        if let Some(expected) = expected {
+            assert_eq!(numbers, expected, "{name}");
+        }
+    }
+}

@@ -1,0 +1,11 @@
+//! The judge: comparison 1 (the paper against mvcc.rs), comparison 2 (a driver against the paper), the sharpness of the
+//! generator's traces, the fixed sample, and the shrinking of a trace to its smallest.
+
+pub mod bends;
+pub mod classes;
+pub mod one;
+pub mod rust_side;
+pub mod sample;
+pub mod shrink;
+pub mod two;
+pub mod words;

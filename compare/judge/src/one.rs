@@ -1,0 +1,200 @@
+//! Comparison 1: the paper against mvcc.rs, call by call, state compared after every call; the Rust is set to the
+//! paper's state after a difference. Both with validate_mutation as shown and written from document 01.
+
+use std::collections::BTreeMap;
+use std::time::{Duration, Instant};
+
+use generate::Ops;
+use generate::batch::{key_bytes, mutation_bytes};
+use paper::answer::{Answer, BATCH, CONTRADICTION, HISTORY, IMAGE, LOCKED, NO_ROOM, SHORT_BUFFER};
+use paper::form::{key_batch, mutation_batch};
+use paper::run::run_call;
+use paper::store::{Bytes, Store};
+use paper::trace::{Call, read_trace};
+use ragnor::engine::Engine;
+
+use crate::classes::{Class, Rust, class_of};
+use crate::rust_side::{Outcome, run_rust, same_state, set_state};
+use crate::{shrink, words};
+
+/// One difference: at which call, what each side said, and its class if it has one.
+pub struct Difference {
+    pub rust: Rust,
+    pub at: usize,
+    pub paper: Answer,
+    pub said: Outcome,
+    pub class: Option<Class>,
+}
+
+/// "In the Rust: 0 Ok; 7, 8 WriteConflict; 9, 13 CorruptData; 1, 3, 4, 5, 10 InvalidArgument; the rest are ours."
+///
+/// More than that line is asked where it can be: an accepted call's count and payload, and that a WriteConflict's text
+/// names the holder exactly for 7. Of ours, a row out of form (2) is InvalidArgument, a batch not in form (6) makes no
+/// call, a short buffer (12) has the Rust give a page longer than the buffer; where there is no room (11) the Rust
+/// says Ok, which is a difference of the class `room`.
+fn agrees(call: &Call, paper: &Answer, said: &Outcome) -> bool {
+    let buffer = match call {
+        Call::Page { buffer, .. } | Call::IntentPage { buffer, .. } | Call::Conflicting { buffer, .. } => Some(*buffer),
+        _ => None,
+    };
+    match (paper.number, said) {
+        (0, Outcome::Accepted { count, payload }) => match buffer {
+            Some(_) => *count == paper.count && paper.payload.starts_with(payload),
+            None => *count == paper.count && *payload == paper.payload,
+        },
+        (LOCKED, Outcome::Held { transaction, start }) => (*transaction, *start) == (paper.transaction, paper.start),
+        (HISTORY, Outcome::Conflict) => true,
+        (CONTRADICTION | IMAGE, Outcome::CorruptData) => true,
+        (1 | 2 | 3 | 4 | 5 | 10, Outcome::InvalidArgument) => true,
+        (BATCH | IMAGE, Outcome::NoCall) => true,
+        (SHORT_BUFFER, Outcome::Accepted { count, .. }) => buffer.is_some_and(|buffer| *count > u64::from(buffer)),
+        _ => false,
+    }
+}
+
+/// Every difference of a trace with one of the Rusts.
+fn differences_with<E: Engine>(rust: Rust, calls: &[Call], found: &mut Vec<Difference>) {
+    let mut store = Store::default();
+    let mut engine = E::default();
+    for (at, call) in calls.iter().enumerate() {
+        let before = store.clone();
+        let paper = run_call(&mut store, call);
+        let said = run_rust(&mut engine, call);
+        let agreed = agrees(call, &paper, &said);
+        let same = same_state(&engine, &store);
+        if agreed && same {
+            continue;
+        }
+        // A state that differs although the answers agree has no class.
+        let class = if agreed { None } else { class_by_entry::<E>(rust, &before, call, &paper, &said) };
+        found.push(Difference { rust, at, paper, said, class });
+        set_state(&mut engine, &store);
+    }
+}
+
+/// The class of a difference. Prewrite and commit take a batch entry by entry, so there the class is that of the first
+/// entry that differs alone, from the same state; otherwise an entry that a class is about could hide a fault in
+/// another. Only room is a matter of the whole batch. A one-step batch is judged in passes over all entries, where a
+/// step that one side leaves out or adds at an entry can let another entry answer first: it is classed as a whole.
+fn class_by_entry<E: Engine>(rust: Rust, before: &Store, call: &Call, paper: &Answer, said: &Outcome) -> Option<Class> {
+    let whole = class_of(rust, before, call, paper, said);
+    let alone = entries_alone(call);
+    if alone.len() < 2 || call.op() == 12 {
+        return whole;
+    }
+    let first = alone.iter().find_map(|call| {
+        let mut store = before.clone();
+        let mut engine = E::default();
+        set_state(&mut engine, before);
+        let paper = run_call(&mut store, call);
+        let said = run_rust(&mut engine, call);
+        let differs = !agrees(call, &paper, &said) && paper.number != NO_ROOM;
+        differs.then(|| class_of(rust, before, call, &paper, &said))
+    });
+    first.unwrap_or(whole.filter(|class| *class == Class::Room))
+}
+
+/// The call once for each entry of its batch, with that entry alone; none if it has no batch in form.
+fn entries_alone(call: &Call) -> Vec<Call> {
+    let batches: Vec<Bytes> = match call {
+        Call::PrewriteBatch { batch, .. } | Call::OneStep { batch, .. } => {
+            let entries = mutation_batch(batch).unwrap_or_default();
+            entries.into_iter().map(|entry| mutation_bytes(&[entry])).collect()
+        }
+        Call::CommitBatch { batch, .. } | Call::RollbackBatch { batch, .. } => {
+            key_batch(batch).unwrap_or_default().into_iter().map(|key| key_bytes(&[key])).collect()
+        }
+        _ => Vec::new(),
+    };
+    batches.into_iter().map(|batch| shrink::with_batch(call, batch)).collect()
+}
+
+pub fn differences(calls: &[Call]) -> Vec<Difference> {
+    let mut found = Vec::new();
+    differences_with::<ragnor::shown::InMemoryMvcc>(Rust::Shown, calls, &mut found);
+    differences_with::<ragnor::from_paper::InMemoryMvcc>(Rust::FromPaper, calls, &mut found);
+    found
+}
+
+/// What was counted of one class.
+#[derive(Default)]
+struct Tally {
+    shown: u64,
+    from_paper: u64,
+    smallest: Option<Bytes>,
+}
+
+/// Runs for so long from a seed; false if a difference has no class.
+pub fn run(length: Duration, seed: u64, ops: Ops, show_smallest: bool) -> bool {
+    let begin = Instant::now();
+    let mut tallies: BTreeMap<Class, Tally> = BTreeMap::new();
+    let (mut traces, mut calls_run) = (0_u64, 0_u64);
+    while begin.elapsed() < length {
+        let trace = generate::trace(seed.wrapping_add(traces), ops);
+        traces += 1;
+        let Some(calls) = read_trace(&trace) else {
+            continue;
+        };
+        calls_run += calls.len() as u64;
+        for difference in differences(&calls) {
+            let Some(class) = difference.class else {
+                report_unnamed(&trace);
+                return false;
+            };
+            let tally = tallies.entry(class).or_default();
+            match difference.rust {
+                Rust::Shown => tally.shown += 1,
+                Rust::FromPaper => tally.from_paper += 1,
+            }
+            if tally.smallest.as_ref().is_none_or(|smallest| trace.len() < smallest.len()) {
+                tally.smallest = Some(trace.clone());
+            }
+        }
+    }
+    println!("comparison 1, paper against mvcc.rs, seed {seed}: {traces} traces, {calls_run} calls with each Rust");
+    println!("{:<34} {:>9} {:>11}  which side says what", "class", "as shown", "from paper");
+    for class in Class::ALL {
+        let (shown, from_paper) = tallies.get(class).map_or((0, 0), |tally| (tally.shown, tally.from_paper));
+        println!("{:<34} {shown:>9} {from_paper:>11}  {}", class.word(), class.text());
+    }
+    println!("no difference outside these classes");
+    if show_smallest {
+        for (class, tally) in &tallies {
+            report_smallest(*class, tally.smallest.as_deref().unwrap_or_default());
+        }
+    }
+    true
+}
+
+fn shows_class(trace: &[u8], class: Option<Class>) -> bool {
+    read_trace(trace).is_some_and(|calls| differences(&calls).iter().any(|difference| difference.class == class))
+}
+
+fn report_smallest(class: Class, trace: &[u8]) {
+    let smallest = shrink::smallest(trace, 3000, &mut |trace| shows_class(trace, Some(class)));
+    println!("\nsmallest found of {}:", class.word());
+    report(&read_trace(&smallest).unwrap_or_default());
+}
+
+fn report_unnamed(trace: &[u8]) {
+    println!("a difference between the paper and mvcc.rs has no named class; the smallest trace found:");
+    let smallest = shrink::smallest(trace, 3000, &mut |trace| shows_class(trace, None));
+    report(&read_trace(&smallest).unwrap_or_default());
+}
+
+/// The calls in words, with what each side says where they differ.
+fn report(calls: &[Call]) {
+    let found = differences(calls);
+    for (at, call) in calls.iter().enumerate() {
+        println!("  {}. {}", at + 1, words::call(call));
+        for difference in found.iter().filter(|difference| difference.at == at) {
+            let rust = match difference.rust {
+                Rust::Shown => "as shown",
+                Rust::FromPaper => "from paper",
+            };
+            let class = difference.class.map_or("no class", Class::word);
+            let (paper, said) = (words::answer(&difference.paper), difference.said.name());
+            println!("     paper {paper}; Rust {rust}: {said} ({class})");
+        }
+    }
+}

@@ -1,0 +1,279 @@
+//! mvcc.rs as a driver of calls: a call's arguments handed over, its result put into the paper's terms, and its state
+//! read and set.
+
+use std::collections::BTreeMap;
+
+use paper::form::{key_batch, mutation_batch};
+use paper::page::Bounds;
+use paper::restore::Image;
+use paper::store::{Bytes, Kind, Lock, Store};
+use paper::trace::Call;
+use ragnor::engine::{Batch, Engine, Entries, Intent, Page, Range};
+use ragnordb_common::codec::{LockRecord, WriteKind, WriteRecord};
+use ragnordb_common::ids::{Timestamp, TxnId};
+use ragnordb_common::proto::snapshot;
+use ragnordb_common::{Error, Result};
+
+/// What mvcc.rs says to a call.
+#[derive(Clone, Debug, PartialEq, Eq)]
+pub enum Outcome {
+    /// Ok, with the count and payload that TRACE.md would have; of a page, the page's own bytes.
+    Accepted {
+        count: u64,
+        payload: Bytes,
+    },
+    /// WriteConflict whose text names the holder of a lock.
+    Held {
+        transaction: u64,
+        start: u64,
+    },
+    /// Any other WriteConflict.
+    Conflict,
+    CorruptData,
+    InvalidArgument,
+    NotImplemented,
+    /// The batch or image is not in form, so there is nothing to hand over.
+    NoCall,
+}
+
+impl Outcome {
+    fn from_error(error: Error) -> Self {
+        match error {
+            Error::WriteConflict(text) => {
+                holder(&text).map_or(Outcome::Conflict, |(transaction, start)| Outcome::Held { transaction, start })
+            }
+            Error::CorruptData(_) => Outcome::CorruptData,
+            Error::InvalidArgument(_) => Outcome::InvalidArgument,
+            Error::NotImplemented(_) => Outcome::NotImplemented,
+        }
+    }
+
+    /// The name of the Rust's result.
+    pub fn name(&self) -> &'static str {
+        match self {
+            Outcome::Accepted { .. } => "Ok",
+            Outcome::Held { .. } => "WriteConflict (row is locked)",
+            Outcome::Conflict => "WriteConflict",
+            Outcome::CorruptData => "CorruptData",
+            Outcome::InvalidArgument => "InvalidArgument",
+            Outcome::NotImplemented => "NotImplemented",
+            Outcome::NoCall => "no call",
+        }
+    }
+}
+
+/// The holder in "row is locked by transaction T at start timestamp S".
+fn holder(text: &str) -> Option<(u64, u64)> {
+    let (transaction, start) =
+        text.strip_prefix("row is locked by transaction ")?.split_once(" at start timestamp ")?;
+    Some((transaction.parse().ok()?, start.parse().ok()?))
+}
+
+/// One call on mvcc.rs.
+pub fn run_rust<E: Engine>(engine: &mut E, call: &Call) -> Outcome {
+    match call {
+        Call::Read { moment, key } => outcome(engine.read(*moment, key), |row| (0, flagged(row))),
+        Call::OneIntent { moment, key } => {
+            outcome(engine.one_intent(*moment, key), |lock| (0, flagged(lock.map(|lock| lock_bytes(&lock)))))
+        }
+        Call::Page { moment, row_limit, byte_limit, bounds, .. } => {
+            let page = engine.page(*moment, *row_limit, *byte_limit, range(bounds));
+            outcome(page, |page| page_bytes(page, |row| [&[row.len() as u8][..], row].concat()))
+        }
+        Call::IntentPage { lock_limit, bounds, .. } => {
+            outcome(engine.intent_page(*lock_limit, range(bounds)), |page| page_bytes(page, lock_bytes))
+        }
+        Call::Conflicting { moment, lock_limit, byte_limit, bounds, .. } => {
+            let page = engine.conflicting(*moment, *lock_limit, *byte_limit, range(bounds));
+            outcome(page, |page| page_bytes(page, lock_bytes))
+        }
+        Call::Prewrite { transaction, start, time_to_live, kind, primary, key, row } => {
+            let intent = Intent { transaction: *transaction, start: *start, time_to_live: *time_to_live, primary };
+            let row = (*kind == Kind::Put).then_some(&row[..]);
+            outcome(engine.prewrite(&intent, key, row), |()| (0, Bytes::new()))
+        }
+        Call::PrewriteBatch { transaction, start, time_to_live, primary, batch } => {
+            let Some(batch) = mutations(batch) else {
+                return Outcome::NoCall;
+            };
+            let intent = Intent { transaction: *transaction, start: *start, time_to_live: *time_to_live, primary };
+            outcome(engine.prewrite_batch(&intent, &batch), |()| (0, Bytes::new()))
+        }
+        Call::Commit { transaction, start, commit, key } => {
+            outcome(engine.commit(*transaction, *start, *commit, key), |()| (0, Bytes::new()))
+        }
+        Call::CommitBatch { transaction, start, commit, batch } => {
+            let Some(keys) = key_batch(batch) else {
+                return Outcome::NoCall;
+            };
+            let keys = keys.into_iter().collect();
+            outcome(engine.commit_batch(*transaction, *start, *commit, &keys), |()| (0, Bytes::new()))
+        }
+        Call::Rollback { transaction, start, key } => {
+            outcome(engine.rollback(*transaction, *start, key), |()| (0, Bytes::new()))
+        }
+        Call::RollbackBatch { transaction, start, batch } => {
+            let Some(keys) = key_batch(batch) else {
+                return Outcome::NoCall;
+            };
+            outcome(engine.rollback_batch(*transaction, *start, &keys.into_iter().collect()), |()| (0, Bytes::new()))
+        }
+        Call::OneStep { transaction, start, commit, batch } => {
+            let Some(batch) = mutations(batch) else {
+                return Outcome::NoCall;
+            };
+            let count = engine.one_step(*transaction, *start, *commit, &batch);
+            outcome(count, |count| (count as u64, Bytes::new()))
+        }
+        Call::Restore { image } => match Image::read(image) {
+            Some(image) => outcome(engine.restore(entries(image)), |()| (0, Bytes::new())),
+            None => Outcome::NoCall,
+        },
+        Call::Statistics => Outcome::Accepted { count: 0, payload: numbers(&engine.statistics()) },
+        Call::Marks => Outcome::Accepted { count: 0, payload: numbers(&engine.marks()) },
+    }
+}
+
+fn outcome<T>(result: Result<T>, shown: impl FnOnce(T) -> (u64, Bytes)) -> Outcome {
+    match result {
+        Ok(value) => {
+            let (count, payload) = shown(value);
+            Outcome::Accepted { count, payload }
+        }
+        Err(error) => Outcome::from_error(error),
+    }
+}
+
+fn range(bounds: &Bounds) -> Range<'_> {
+    Range { start: bounds.start.as_deref(), end: bounds.end.as_deref(), resume: bounds.resume.as_deref() }
+}
+
+fn mutations(batch: &[u8]) -> Option<Batch> {
+    let entries = mutation_batch(batch)?;
+    Some(entries.into_iter().map(|entry| (entry.key, (entry.kind == Kind::Put).then_some(entry.row))).collect())
+}
+
+/// The page of 01's form that these entries make, and its length.
+fn page_bytes<T>((entries, more): Page<T>, shown: impl Fn(&T) -> Bytes) -> (u64, Bytes) {
+    let mut page = (entries.len() as u16).to_be_bytes().to_vec();
+    for (key, entry) in &entries {
+        page.push(key.len() as u8);
+        page.extend_from_slice(key);
+        page.extend_from_slice(&shown(entry));
+    }
+    page.push(u8::from(more));
+    (page.len() as u64, page)
+}
+
+fn lock_bytes(lock: &LockRecord) -> Bytes {
+    let mut out = lock.txn_id.0.to_be_bytes().to_vec();
+    out.push(lock.primary_key.len() as u8);
+    out.extend_from_slice(&lock.primary_key);
+    out.extend_from_slice(&lock.start_timestamp.0.to_be_bytes());
+    out.extend_from_slice(&lock.ttl_ms.to_be_bytes());
+    out.push(lock.op.number());
+    out
+}
+
+fn flagged(shown: Option<Bytes>) -> Bytes {
+    shown.map_or(vec![0], |bytes| [&[1][..], &bytes].concat())
+}
+
+fn numbers(figures: &[u64]) -> Bytes {
+    figures.iter().flat_map(|figure| figure.to_be_bytes()).collect()
+}
+
+fn entries(image: Image) -> Entries {
+    let stamp = |id: u64| Some(snapshot::Timestamp { id });
+    Entries {
+        table: image.table,
+        defaults: image
+            .defaults
+            .into_iter()
+            .map(|(key, start, row)| snapshot::DefaultValueEntry { key, start_timestamp: stamp(start), row })
+            .collect(),
+        locks: image
+            .locks
+            .into_iter()
+            .map(|(key, lock)| snapshot::LockEntry {
+                key,
+                record: Some(snapshot::LockRecord {
+                    transaction: lock.transaction,
+                    primary: lock.primary,
+                    start: lock.start,
+                    time_to_live: lock.time_to_live,
+                    kind: lock.kind,
+                }),
+            })
+            .collect(),
+        writes: image
+            .writes
+            .into_iter()
+            .map(|(key, at, record)| snapshot::WriteEntry {
+                key,
+                write_timestamp: stamp(at),
+                record: Some(snapshot::WriteRecord { start: record.start, commit: record.commit, kind: record.kind }),
+            })
+            .collect(),
+    }
+}
+
+/// Is the Rust's state the paper's?
+pub fn same_state<E: Engine>(engine: &E, store: &Store) -> bool {
+    let (defaults, locks, writes) = engine.maps();
+    defaults.len() == store.defaults.len()
+        && locks.len() == store.locks.len()
+        && writes.len() == store.records.len()
+        && defaults.iter().zip(&store.defaults).all(|((key, chain), (other, rows))| {
+            key == other
+                && chain.len() == rows.len()
+                && chain.iter().zip(rows).all(|((at, row), (start, other))| at.0 == *start && row == other)
+        })
+        && locks.iter().zip(&store.locks).all(|((key, lock), (other, held))| key == other && *lock == rust_lock(held))
+        && writes.iter().zip(&store.records).all(|((key, chain), (other, records))| {
+            key == other
+                && chain.len() == records.len()
+                && chain
+                    .iter()
+                    .zip(records)
+                    .all(|((at, write), (stamp, record))| at.0 == *stamp && *write == rust_record(record))
+        })
+}
+
+/// Sets the Rust to the paper's state.
+pub fn set_state<E: Engine>(engine: &mut E, store: &Store) {
+    let defaults = store.defaults.iter().map(|(key, chain)| (key.clone(), stamped(chain, |row| row.clone())));
+    let locks = store.locks.iter().map(|(key, lock)| (key.clone(), rust_lock(lock)));
+    let writes = store.records.iter().map(|(key, chain)| (key.clone(), stamped(chain, rust_record)));
+    engine.set_maps(defaults.collect(), locks.collect(), writes.collect());
+}
+
+fn stamped<T, U>(chain: &BTreeMap<u64, T>, each: impl Fn(&T) -> U) -> BTreeMap<Timestamp, U> {
+    chain.iter().map(|(at, item)| (Timestamp(*at), each(item))).collect()
+}
+
+fn rust_kind(kind: Kind) -> WriteKind {
+    match kind {
+        Kind::Put => WriteKind::Put,
+        Kind::Delete => WriteKind::Delete,
+        Kind::Rollback => WriteKind::Rollback,
+    }
+}
+
+fn rust_lock(lock: &Lock) -> LockRecord {
+    LockRecord {
+        txn_id: TxnId(lock.transaction),
+        primary_key: lock.primary.clone(),
+        start_timestamp: Timestamp(lock.start),
+        ttl_ms: lock.time_to_live,
+        op: rust_kind(lock.kind),
+    }
+}
+
+fn rust_record(record: &paper::store::Record) -> WriteRecord {
+    WriteRecord {
+        start_timestamp: Timestamp(record.start),
+        commit_timestamp: Timestamp(record.commit),
+        op: rust_kind(record.kind),
+    }
+}

@@ -1,0 +1,158 @@
+//! The fixed sample: traces and the paper's answers, to be replayed where no Rust is at hand.
+
+use std::collections::BTreeMap;
+use std::path::Path;
+
+use generate::{Ops, named};
+use paper::bend::{Bend, Reach};
+use paper::run::run_trace;
+use paper::store::Bytes;
+use paper::trace::{read_trace, write_trace};
+
+use crate::bends::{answers_of, notices};
+use crate::two::{Driver, many_form};
+
+/// Traces are tried from this seed on, so many of each size.
+const SEED: u64 = 20_260_101;
+const TRIED: u64 = 3_000;
+/// A trace is taken if it shows an op's answer or notices a bend that fewer than this many taken ones do.
+const WANTED: u64 = 2;
+/// Short traces are tried first, so that long ones are taken only for what needs them.
+const SIZES: [usize; 3] = [3_000, 20_000, 70_000];
+/// The whole sample stays below this.
+const MOST_OF_ALL: usize = 1_400_000;
+
+/// What the sample has so far.
+#[derive(Default)]
+struct Sample {
+    traces: Vec<Bytes>,
+    bytes: usize,
+    answers: BTreeMap<(u8, u8), u64>,
+    bends: BTreeMap<usize, u64>,
+    calls: u64,
+}
+
+impl Sample {
+    /// Takes the trace if it shows something of which the sample has too little, or if it must be in; none longer with
+    /// its answers than this.
+    fn offer(&mut self, trace: Bytes, must: bool, longest: usize) {
+        let straight = answers_of(&trace);
+        let size = trace.len() + straight.len() + 4;
+        if size > longest || self.bytes + size > MOST_OF_ALL {
+            return;
+        }
+        let pairs = pairs(&trace);
+        let wanted = |have: Option<&u64>| have.is_none_or(|have| *have < WANTED);
+        let new_answer = pairs.iter().any(|pair| wanted(self.answers.get(pair)));
+        let noticed: Vec<usize> = Bend::ALL
+            .iter()
+            .enumerate()
+            .filter(|(at, bend)| bend.reach() == Reach::Shown && wanted(self.bends.get(at)))
+            .filter(|(_, bend)| notices(**bend, &trace, &straight))
+            .map(|(at, _)| at)
+            .collect();
+        if !must && !new_answer && noticed.is_empty() {
+            return;
+        }
+        self.calls += pairs.len() as u64;
+        pairs.into_iter().for_each(|pair| *self.answers.entry(pair).or_default() += 1);
+        noticed.into_iter().for_each(|at| *self.bends.entry(at).or_default() += 1);
+        self.bytes += size;
+        self.traces.push(trace);
+    }
+}
+
+/// Each call's op with its answer's number; op 0 stands for a trace not in form.
+fn pairs(trace: &[u8]) -> Vec<(u8, u8)> {
+    let ops: Vec<u8> = read_trace(trace).map_or(vec![0], |calls| calls.iter().map(|call| call.op()).collect());
+    ops.into_iter().zip(run_trace(trace)).map(|(op, answer)| (op, answer.number)).collect()
+}
+
+/// Writes traces.bin, answers.bin and contents.txt into the folder; false if that fails or something is not covered.
+pub fn write(folder: &str, ops: Ops) -> bool {
+    let mut sample = Sample::default();
+    for (_, calls) in named::cases() {
+        if calls.iter().all(|call| ops.has(call.op())) {
+            sample.offer(write_trace(&calls), true, MOST_OF_ALL);
+        }
+    }
+    for longest in SIZES {
+        for number in 0..TRIED {
+            sample.offer(generate::trace(SEED + number, ops), false, longest);
+        }
+    }
+    let answers: Bytes = sample.traces.iter().flat_map(|trace| answers_of(trace)).collect();
+    let contents = contents(&sample, answers.len());
+    let folder = Path::new(folder);
+    let written = std::fs::create_dir_all(folder)
+        .and_then(|()| std::fs::write(folder.join("traces.bin"), many_form(&sample.traces)))
+        .and_then(|()| std::fs::write(folder.join("answers.bin"), &answers))
+        .and_then(|()| std::fs::write(folder.join("contents.txt"), &contents));
+    print!("{contents}");
+    match written {
+        Ok(()) => ops != Ops::all() || uncovered(&sample).is_empty(),
+        Err(error) => {
+            println!("the sample is not written: {error}");
+            false
+        }
+    }
+}
+
+/// The bends that a reachable store can show and no trace of the sample notices.
+fn uncovered(sample: &Sample) -> Vec<Bend> {
+    let all = Bend::ALL.iter().enumerate();
+    let missing = all.filter(|(at, bend)| bend.reach() == Reach::Shown && !sample.bends.contains_key(at));
+    missing.map(|(_, bend)| *bend).collect()
+}
+
+fn contents(sample: &Sample, answers: usize) -> String {
+    let mut text = format!(
+        "{} traces, {} calls, {} bytes of traces.bin, {answers} bytes of answers.bin\n",
+        sample.traces.len(),
+        sample.calls,
+        many_form(&sample.traces).len(),
+    );
+    text += "calls by op and answer (op 0: a trace not in form):\n";
+    let mut of_op: BTreeMap<u8, Vec<String>> = BTreeMap::new();
+    for ((op, number), count) in &sample.answers {
+        of_op.entry(*op).or_default().push(format!("{number} x{count}"));
+    }
+    for (op, numbers) in of_op {
+        text += &format!("  op {op}: {}\n", numbers.join(", "));
+    }
+    let missing = uncovered(sample);
+    text += &format!("bent rules noticed: {} of {}", sample.bends.len(), sample.bends.len() + missing.len());
+    if !missing.is_empty() {
+        text += &format!("; not noticed: {missing:?}");
+    }
+    text + "\n"
+}
+
+/// Replays a sample with a driver; false if a byte differs.
+pub fn check(folder: &str, driver: &Driver) -> bool {
+    let folder = Path::new(folder);
+    let files = std::fs::read(folder.join("traces.bin"))
+        .and_then(|traces| Ok((traces, std::fs::read(folder.join("answers.bin"))?)));
+    let (traces, answers) = match files {
+        Ok(files) => files,
+        Err(error) => {
+            println!("the sample does not read: {error}");
+            return false;
+        }
+    };
+    match driver.run(&traces, true) {
+        Ok(output) if output == answers => {
+            println!("sample: {} bytes of answers, every byte equal", answers.len());
+            true
+        }
+        Ok(output) => {
+            let place = output.iter().zip(&answers).take_while(|(left, right)| left == right).count();
+            println!("sample: the answers part at byte {place}; {} bytes against {}", output.len(), answers.len());
+            false
+        }
+        Err(error) => {
+            println!("{error}");
+            false
+        }
+    }
+}

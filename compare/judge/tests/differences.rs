@@ -1,0 +1,165 @@
+//! The smallest input of each class in docs/DIFFERENCES.md: exactly one call differs, in that class, and each side says
+//! what the document says. Table 1, key a, row 00 00, transaction 7, primary a, time to live 1 where unsaid.
+
+use generate::batch::mutation_bytes;
+use judge::classes::{Class, Rust};
+use judge::one::differences;
+use judge::rust_side::Outcome;
+use paper::form::Entry;
+use paper::restore::{Image, RawLock, RawRecord};
+use paper::store::Kind;
+use paper::trace::Call;
+
+fn a() -> Vec<u8> {
+    vec![0, 0, 0, 1, b'a']
+}
+
+fn prewrite(transaction: u64, start: u64, kind: Kind, row: &[u8]) -> Call {
+    Call::Prewrite { transaction, start, time_to_live: 1, kind, primary: a(), key: a(), row: row.to_vec() }
+}
+
+fn one_step(start: u64, commit: u64, kind: Kind, row: &[u8]) -> Call {
+    let batch = mutation_bytes(&[Entry { key: a(), kind, row: row.to_vec() }]);
+    Call::OneStep { transaction: 7, start, commit, batch }
+}
+
+fn commit(start: u64, commit: u64) -> Call {
+    Call::Commit { transaction: 7, start, commit, key: a() }
+}
+
+fn rollback(start: u64) -> Call {
+    Call::Rollback { transaction: 7, start, key: a() }
+}
+
+fn lock(start: u64, kind: u8) -> (Vec<u8>, RawLock) {
+    (a(), RawLock { transaction: 7, primary: a(), start, time_to_live: 1, kind })
+}
+
+fn write(stamp: u64, start: u64, kind: u8) -> (Vec<u8>, u64, RawRecord) {
+    (a(), stamp, RawRecord { start, commit: stamp, kind })
+}
+
+fn default(start: u64) -> (Vec<u8>, u64, Vec<u8>) {
+    (a(), start, vec![0, 0])
+}
+
+type Write = (Vec<u8>, u64, RawRecord);
+
+fn restore(defaults: &[u64], locks: Vec<(Vec<u8>, RawLock)>, writes: Vec<Write>) -> Call {
+    let defaults = defaults.iter().map(|start| default(*start)).collect();
+    Call::Restore { image: Image { table: 1, defaults, locks, writes }.write() }
+}
+
+/// The last call differs, alone, in this class: the paper's number, and the Rust's result with validate_mutation as
+/// shown and from the paper; none where that Rust agrees with the paper.
+fn differs(calls: &[Call], class: Class, paper: u8, shown: Option<&str>, from_paper: Option<&str>) {
+    let found = differences(calls);
+    for (rust, expected) in [(Rust::Shown, shown), (Rust::FromPaper, from_paper)] {
+        let mine: Vec<_> = found.iter().filter(|difference| difference.rust == rust).collect();
+        let Some(expected) = expected else {
+            assert!(mine.is_empty(), "{rust:?} agrees in {}", class.word());
+            continue;
+        };
+        assert_eq!(mine.len(), 1, "{rust:?} differs once in {}", class.word());
+        let difference = mine[0];
+        assert_eq!(difference.at, calls.len() - 1);
+        assert_eq!(difference.class, Some(class));
+        assert_eq!(difference.paper.number, paper, "{rust:?} in {}", class.word());
+        assert_eq!(difference.said.name(), expected, "{rust:?} in {}", class.word());
+    }
+}
+
+/// Both Rusts say the same.
+fn both_differ(calls: &[Call], class: Class, paper: u8, said: &str) {
+    differs(calls, class, paper, Some(said), Some(said));
+}
+
+#[test]
+fn room() {
+    let key = |number: u16| [&[0, 0, 0, 1][..], &number.to_be_bytes()].concat();
+    let locks = (0..257).map(|number| (key(number), lock(1, 2).1)).collect();
+    both_differ(&[restore(&[], locks, vec![])], Class::Room, 11, "Ok");
+}
+
+#[test]
+fn stamp_at_start() {
+    let before = || one_step(10, 12, Kind::Delete, &[]);
+    both_differ(&[before(), prewrite(7, 12, Kind::Delete, &[])], Class::StampAtStart, 8, "Ok");
+    both_differ(&[before(), one_step(12, 13, Kind::Delete, &[])], Class::StampAtStart, 8, "Ok");
+}
+
+#[test]
+fn rollback_above_start() {
+    both_differ(&[rollback(11), prewrite(7, 7, Kind::Delete, &[])], Class::RollbackAbove, 8, "Ok");
+    both_differ(&[rollback(11), one_step(7, 12, Kind::Delete, &[])], Class::RollbackAbove, 8, "Ok");
+}
+
+#[test]
+fn default_judged_first() {
+    let corrupt = Some("CorruptData");
+    let held = || prewrite(7, 10, Kind::Put, &[0, 0]);
+    let other_row = &[0, 1, 0];
+    differs(&[held(), prewrite(8, 10, Kind::Put, other_row)], Class::DefaultFirst, 7, corrupt, None);
+    differs(&[held(), one_step(10, 12, Kind::Put, other_row)], Class::DefaultFirst, 0, corrupt, None);
+    let committed = [held(), commit(10, 12), prewrite(7, 10, Kind::Put, other_row)];
+    differs(&committed, Class::DefaultFirst, 8, corrupt, None);
+    let delete_lock = restore(&[10], vec![lock(10, 2)], vec![]);
+    differs(&[delete_lock, prewrite(7, 10, Kind::Delete, &[])], Class::DefaultFirst, 0, corrupt, None);
+    differs(
+        &[restore(&[10], vec![], vec![]), one_step(10, 12, Kind::Delete, &[])],
+        Class::DefaultFirst,
+        0,
+        corrupt,
+        None,
+    );
+}
+
+#[test]
+fn commit_stamp_taken() {
+    both_differ(&[rollback(12), commit(8, 12)], Class::CommitTaken, 8, "CorruptData");
+    let held = prewrite(8, 13, Kind::Delete, &[]);
+    both_differ(&[rollback(12), held, commit(8, 12)], Class::CommitTaken, 7, "CorruptData");
+}
+
+#[test]
+fn two_records_of_one_start() {
+    let image = || restore(&[], vec![], vec![write(4, 3, 2), write(7, 3, 2)]);
+    both_differ(&[image(), commit(3, 4)], Class::TwoRecords, 0, "CorruptData");
+    both_differ(&[image(), commit(3, 7)], Class::TwoRecords, 8, "CorruptData");
+}
+
+#[test]
+fn replayed_delete_with_default() {
+    let image = restore(&[3], vec![], vec![write(4, 3, 2)]);
+    both_differ(&[image, commit(3, 4)], Class::DeleteReplay, 0, "CorruptData");
+}
+
+#[test]
+fn default_before_history() {
+    let image = restore(&[], vec![lock(4, 1)], vec![write(12, 12, 3)]);
+    both_differ(&[image, commit(4, 7)], Class::DefaultBeforeHistory, 8, "CorruptData");
+}
+
+#[test]
+fn record_between_start_and_commit() {
+    let image = restore(&[], vec![lock(8, 2)], vec![write(11, 7, 2)]);
+    both_differ(&[image, commit(8, 14)], Class::RecordBetween, 0, "WriteConflict");
+}
+
+#[test]
+fn lock_named_for_history() {
+    let calls = [rollback(5), prewrite(8, 6, Kind::Delete, &[]), commit(5, 9)];
+    both_differ(&calls, Class::HolderForHistory, 8, "WriteConflict (row is locked)");
+    let found = differences(&calls);
+    assert!(found.iter().all(|difference| difference.said == Outcome::Held { transaction: 8, start: 6 }));
+}
+
+#[test]
+fn one_step_stamp_taken() {
+    both_differ(&[rollback(12), one_step(8, 12, Kind::Delete, &[])], Class::OneStepTaken, 8, "CorruptData");
+}
+
+#[test]
+fn empty_table_zero() {
+    both_differ(&[Call::Restore { image: vec![0; 10] }], Class::EmptyTableZero, 13, "Ok");
+}

@@ -1,0 +1,281 @@
+//! The list of bends: one line each, in the paper's order. A bend that no reachable store can show says why.
+
+use crate::bend::Reach;
+
+macro_rules! bends {
+    ($($name:ident $text:literal $(never $reason:literal)?;)*) => {
+        /// One rule of the paper, bent.
+        #[derive(Clone, Copy, Debug, PartialEq, Eq)]
+        pub enum Bend { $($name,)* }
+
+        impl Bend {
+            pub const ALL: &'static [Bend] = &[$(Bend::$name,)*];
+
+            /// What the bent rule does, in one line.
+            pub fn text(self) -> &'static str {
+                match self { $(Bend::$name => $text,)* }
+            }
+
+            pub fn reach(self) -> Reach {
+                match self { $(Bend::$name => bends!(@reach $($reason)?),)* }
+            }
+        }
+    };
+    (@reach) => { Reach::Shown };
+    (@reach $reason:literal) => { Reach::Never($reason) };
+}
+
+bends! {
+    // Key, row, batch
+    KeyOfFour "a key of 4 bytes is in form";
+    KeyFromSix "a key of 5 bytes is not in form";
+    KeyOfFortyNine "a key of 49 bytes is in form";
+    KeyToFortySeven "a key of 48 bytes is not in form";
+    KeyTableZero "a key of table 0 is in form";
+    RowOfAnyLength "a row above 255 bytes is in form if its sections read";
+    RowTo254 "a row of 255 bytes is not in form";
+    RowNineIntegers "nine integers are in form";
+    RowIntegersOfFour "integers have 4 bytes";
+    RowNineTexts "nine texts are in form";
+    RowTextsUtf8 "texts must be UTF-8";
+    RowTrailing "bytes may follow a row's sections";
+    BatchOf33 "a batch of 33 entries is in form";
+    BatchTo31 "a batch of 32 entries is not in form";
+    BatchKindRollback "kind 3 in a batch is taken as Delete";
+    BatchAnyOrder "a batch's keys need not ascend";
+    BatchEqualKeys "a batch may hold a key twice";
+    BatchOrderOfSoundKeys "order is asked of keys in form only";
+    BatchKeysJudgedAsForm "a key out of form makes the batch 6";
+    BatchTrailing "bytes may follow a batch";
+    // Sound
+    LockTransactionZero "a lock of transaction 0 is sound";
+    LockStartZero "a lock of start 0 is sound";
+    LockTimeToLiveZero "a lock of time to live 0 is sound";
+    LockKindRollback "a lock of kind Rollback is sound";
+    LockPrimaryAny "a lock's primary may be any bytes";
+    RecordStampAny "a record's commit may differ from its stamp";
+    RecordStartZero "a record of start 0 is sound";
+    RecordCommitEqual "a Put or Delete may have commit equal to start";
+    RollbackCommitAbove "a Rollback may have commit above start";
+    StoredRecordUnjudged "stored records are not judged"
+        never "every call leaves sound records and restore refuses others";
+    LockFieldsSwapped "a lock is written with time to live before start";
+    OwnByStart "own means the same start";
+    OwnByTransaction "own means the same transaction";
+    // Answers
+    HolderSwapped "answer 7 gives start and transaction the wrong way round";
+    HolderMissing "answer 7 gives zeros";
+    // Room
+    PrimaryTakesNoRoom "a lock's primary takes no live bytes";
+    LockKeepsASecondLine "a lock keeps a second line free for its record";
+    RecordKeyCountsOnce "a key with several records counts once";
+    LinesOneLess "1,023 lines at most";
+    LinesOneMore "1,025 lines at most";
+    LocksOneLess "255 locks at most";
+    LocksOneMore "257 locks at most";
+    DefaultsOneLess "1,023 defaults at most";
+    DefaultsOneMore "1,025 defaults at most";
+    LiveBytesOneLess "49,151 live bytes at most";
+    LiveBytesOneMore "49,153 live bytes at most";
+    FreedRoomStaysTaken "room freed by a call counts as taken in it";
+    RoomUnjudged "11 is never given";
+    RoomPerEntry "11 comes as soon as an entry of a prewrite finds no room";
+    ReplayNeedsRoom "a call that changes nothing is 11 in a full box";
+    // Read
+    ReadKeyUnjudged "a read does not judge its key";
+    ReadMomentZeroRefused "moment 0 is 3";
+    ReadLockLast "a read looks at the lock only if it shows nothing";
+    ReadLockStrictlyBelow "a lock at the moment does not refuse a read";
+    ReadLockAtAnyMoment "a lock above the moment refuses a read";
+    ReadRecordStrictlyBelow "a record at the moment is not read";
+    ReadFromTheOldest "records are read from the oldest upward";
+    ReadRecordUnjudged "a read does not judge records"
+        never "every call leaves sound records and restore refuses others";
+    RollbackReadsAsDelete "a Rollback hides older rows";
+    DeleteReadsThrough "a Delete shows the row before it";
+    ReadNewestDefault "a Put shows the newest default of its key";
+    ReadRowUnjudged "a read does not judge the row's form"
+        never "only rows in form are stored or restored";
+    OneIntentAtAnyMoment "one intent shows a lock above the moment";
+    OneIntentStrictlyBelow "one intent hides a lock at the moment";
+    OneIntentUnjudged "one intent shows an unsound lock"
+        never "every call leaves sound locks and restore refuses others";
+    // Page
+    LimitZeroTaken "a row or lock limit of 0 is not refused";
+    ByteLimitZeroTaken "a byte limit of 0 is not refused as 3";
+    LimitsAfterBounds "the limits are judged after the bounds";
+    BoundsMayBeEqual "start may equal end";
+    BoundsOrderBeforeEnd "4 comes before the bounds' 1";
+    ResumeBeforeOrder "resume's 1 comes before 4";
+    ResumeUnjudged "resume is not judged";
+    ResumePastEndRefused "resume at or past end is 4";
+    StartLeftOut "the start key itself is left out";
+    EndTakenIn "the end key itself is taken in";
+    ResumeShownAgain "the resume key itself is taken in";
+    StartWinsWhenEqual "resume equal to start does not pass it";
+    ResumeWinsOverStart "resume below start goes before start";
+    ResumeIgnoredWithStart "resume is ignored if start is given";
+    PageKeysOfRecordsAlone "a page does not visit keys with a lock alone";
+    PageStopsBeforeReading "a full page stops before reading the next key";
+    PageSkipsLockedKeys "a page passes over a locked key";
+    RowLimitStopWithoutMore "a stop at the row limit says no more";
+    PageMoreWhenFilled "a page that is just filled says more";
+    PageCostOfRowAlone "a row costs its own length";
+    PageCostWithLengths "a row's length bytes cost too";
+    PageByteLimitReached "a sum equal to the byte limit stops";
+    PageTenOnlyFirstKey "10 only if no key was passed over before";
+    PageTenNever "a byte limit below the first entry gives an empty page with more";
+    PageByteStopWithoutMore "a stop at the byte limit says no more";
+    PageCountIsRows "a page's count is its rows";
+    EmptyPageNeedsNoBuffer "resume at or past end is accepted with a short buffer too";
+    BufferOneLonger "a buffer just as long as the page is 12";
+    BufferRestZeroed "bytes beyond the page are zeroed";
+    ShortBufferFilled "a refusal 12 fills the buffer";
+    ShortBufferFirst "a buffer below 3 bytes is 12 before any key is read";
+    // Intent pages
+    LockLimitStopWithoutMore "a stop at the lock limit says no more";
+    IntentPageMoreWhenFilled "an intent page that is just filled says more";
+    IntentPageUnjudged "an intent page shows unsound locks"
+        never "every call leaves sound locks and restore refuses others";
+    ConflictingUnjudged "conflicting intents shows unsound locks"
+        never "every call leaves sound locks and restore refuses others";
+    ConflictingStrictlyBelow "a lock at the moment does not conflict";
+    SkippedLockMakesMore "a lock above the moment makes more";
+    LockCostOf25 "a lock costs 25 plus key and primary";
+    LockCostWithoutPrimary "a lock's primary costs nothing";
+    // Prewrite
+    PrewriteEmptyTaken "an empty prewrite is accepted";
+    PrewriteTransactionZero "a prewrite of transaction 0 is taken";
+    TimeToLiveBeforePrimary "the time to live is judged before the primary";
+    TimeToLiveZeroTaken "a time to live of 0 is taken";
+    PrimaryUnjudged "the primary is not judged";
+    PrimaryMustBeAnEntry "the primary must be an entry";
+    PrewritePrimaryOfTable "the primary must be of the entry's table";
+    PrewriteContentsFirst "1 and 2 of all entries come first";
+    PrewriteAppliesAsItGoes "a prewrite applies entries before the last is checked";
+    PrewriteFirstEntryOnly "a prewrite stores its first entry only";
+    PrewriteStoresNoRow "a prewrite stores no row";
+    RowBeforeKey "2 comes before 1";
+    RowUnjudged "a row argument is not judged";
+    RowAfterHistory "2 comes after 8";
+    DeleteRowJudged "a Delete's row argument is judged";
+    PrewriteStampAbove "a record stamped with the start itself is no 8";
+    PrewriteIgnoresRollbacks "a Rollback is no 8 in a prewrite";
+    OwnLockBeforeHistory "an own lock is looked at before the records";
+    LockBeforeHistory "7 comes before 8 in a prewrite";
+    DefaultWithoutLockTaken "a default without lock is no 9";
+    DefaultOfAnyStart "a default of any start without lock is 9";
+    ReplayPrimaryAny "a replay may bring another primary";
+    ReplayTimeToLiveAny "a replay may bring another time to live";
+    ReplayKindAny "a replay may bring another kind";
+    ReplayRowMissingTaken "a replay is accepted though its row is missing";
+    ReplayRowAny "a replay may bring another row";
+    ReplayDeleteWithDefaultRefused "a Delete's replay beside a default is 9";
+    // Commit
+    CommitMayEqualStart "commit may equal start";
+    CommitZeroFirst "3 comes before 6 in a commit";
+    CommitEmptyTaken "an empty commit is accepted";
+    CommitKeysFirst "1 of all keys comes first in a commit";
+    CommitAppliesAsItGoes "a commit applies keys before the last is checked";
+    CommitHighestRecord "the highest-stamped record with this start decides";
+    CommitOfRolledBack9 "a commit of what was rolled back is 9";
+    OtherCommitTaken "a replay with another commit is accepted";
+    ReplayLockOfOwnAlone "a replay minds the call's own lock only";
+    ReplayLockIgnored "a replay minds no lock";
+    ReplayDefaultIgnored "a replay minds no missing default"
+        never "every Put record has its default: restore asks it and no call takes it away";
+    ReplayDeleteDefaultRefused "a Delete's replay with a default is 9";
+    ReplayRefused "a replay of a commit is 8";
+    CommitNoLock9 "a commit without lock is 9";
+    CommitWithoutRowTaken "a Put lock without default is committed";
+    CommitDeleteWithRowTaken "a Delete lock with a default is committed";
+    CommitRowBeforeHistory "the row's 9 comes before the newest stamp's 8";
+    CommitNewestIgnoresRollbacks "the newest stamp is that of no Rollback";
+    CommitOverNoNewer "any record above the start is 8 in a commit";
+    CommitNewestAbove "a newest stamp equal to commit is no 8";
+    CommitNewestIgnored "the newest stamp is not looked at";
+    CommitAlwaysPut "a commit's record is a Put";
+    CommitKeepsLock "a commit leaves the lock";
+    CommitDropsRow "a commit drops the row";
+    // Rollback
+    RollbackEmptyTaken "an empty rollback is accepted";
+    RollbackTransactionZero "a rollback of transaction 0 is taken";
+    RollbackAppliesAsItGoes "a rollback applies keys before the last is checked";
+    RollbackLockFirst "7 comes first in a rollback";
+    RollbackOfCommittedTaken "a rollback of what was committed is no 8";
+    RollbackOfCommitted9 "a rollback of what was committed is 9";
+    RollbackOverStampTaken "a rollback replaces a record stamped with its start";
+    RollbackOverStamp8 "a rollback over a record stamped with its start is 8";
+    RollbackBesideAnyLock "a Rollback beside any lock is 9";
+    RollbackReplayLockIgnored "a rollback's replay minds no lock";
+    RollbackReplayRowIgnored "a rollback's replay minds no default";
+    RollbackReplayRefused "a rollback's replay is 8";
+    RollbackWithoutRowTaken "a Put lock without default is rolled back";
+    RollbackDeleteWithRowTaken "a Delete lock with a default is rolled back";
+    RollbackOrphanTaken "a default without lock is no 9 in a rollback";
+    RollbackNeedsLock "a rollback without lock is 8";
+    RollbackKeepsLock "a rollback leaves the lock";
+    RollbackKeepsRow "a rollback leaves the row";
+    RollbackLeavesNoRecord "a rollback leaves no record";
+    // One-step batch
+    OneStepEmptyFirst "an empty one-step batch is accepted before 3";
+    OneStepContentsLater "1 and 2 come with each entry's history";
+    OneStepLocksBeforeReplay "locks are judged before replays";
+    OneStepReplayDropsLock "a replay drops an own lock";
+    OneStepReplayCountsNone "a replay counts 0";
+    OneStepSomeTaken "a batch applied in part is completed";
+    OneStepHistoryFirst "8 comes before 7 in a one-step batch";
+    OneStepNewestUnjudged "the newest stamp against commit is not looked at"
+        never "such a record is at or above start too and was 8 a pass before";
+    OneStepFirstEntryOnly "a one-step batch stores its first entry only";
+    OneStepCountsPuts "the count leaves Deletes out";
+    OneStepOccupied9 "a record of another start at commit is 9";
+    OneStepReplayKindAny "a replay may bring another kind";
+    OneStepReplayRowAny "a replay may bring another row";
+    OneStepOtherRowNotApplied "same start but other kind or row is not applied rather than 9";
+    OneStepOwnKindAny "an own lock of other kind is no 9";
+    OneStepStampAbove "a record stamped with the start itself is no 8";
+    OneStepIgnoresRollbacks "a Rollback is no 8 in a one-step batch";
+    OneStepOldRowStays "a row already stored at this start stays";
+    OneStepDeleteDropsRow "a Delete drops a default at its start";
+    OneStepKeepsLock "an own lock stays";
+    // Restore
+    ImageTrailing "bytes may follow an image";
+    ImageTableZero "an image of table 0 is taken";
+    ImageOtherTable "an image may hold keys of other tables";
+    ImageSortedOnly "an image's defaults must ascend";
+    DefaultStartZero "a default of start 0 is taken";
+    ImageRowUnjudged "an image's rows are not judged";
+    SecondDefaultTaken "a second default replaces the first";
+    ImagePrimaryOfTable "a restored lock's primary must be of the table";
+    PutLockNeedsRow "a Put lock must have its default";
+    SecondLockTaken "a second lock replaces the first";
+    SecondWriteTaken "a second write replaces the first";
+    PutWithoutDefaultTaken "a write Put without default is taken";
+    OrphanDefaultRefused "a default without its Put line is refused";
+    TwoLinesRefused "two lines of one key and start are refused";
+    ImageRoomFirst "11 comes before 13";
+    RefusedImageEmpties "a refused image empties the store";
+    ImageWithoutRoom13 "an image beyond the room is 13";
+    ImageAddsToStore "restore adds to the store";
+    // Statistics and marks
+    StatisticsKeysWithALine "keys with a lock alone count as keys with a record";
+    StatisticsChainsSwapped "the chains of records come before those of defaults";
+    ChainsToThree "a chain of 4 counts among 5 to 16";
+    ChainsToFifteen "a chain of 16 counts above 16";
+    MarksWithoutStamps "the marks leave write stamps out";
+    MarksWithoutRecordStarts "the marks leave record starts out"
+        never "a sound record's start is never above its stamp";
+    MarksWithoutLocks "the marks leave lock starts out";
+    MarksWithoutDefaults "the marks leave default starts out";
+    // Trace
+    CallTrailing "bytes may follow a call's arguments";
+    CallKindRollback "kind 3 in a prewrite call is in form";
+    FlagOfAnyByte "a flag byte above 1 says present";
+    TraceOfAnyLength "a trace above 262,144 bytes is taken";
+    EmptyTraceTaken "an empty input is a trace of no calls";
+    TraceRunsToItsFault "the calls before a fault are run";
+    TraceTrailing "bytes may follow the last call";
+    TraceShortLengthsOnly "a length of 65,535 is the call's own";
+    DamagedTraceSilent "a damaged trace gives no answer";
+}

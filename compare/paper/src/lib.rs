@@ -1,0 +1,25 @@
+//! The paper: an own reading of document 01 in plain Rust over maps.
+//!
+//! Each module is one paragraph of document 01. Above each step stands the sentence it carries out, in quotes,
+//! in the order of the paper, so that a reader holding 01 can lay the two side by side. Where 01 leaves room,
+//! docs/DECISIONS.md has the reading.
+//!
+//! Nothing here is made for speed: a call that changes the box works out the box it would leave and takes it over
+//! whole, or refuses and leaves the old one.
+
+pub mod answer;
+pub mod bend;
+mod bend_list;
+pub mod commit;
+pub mod figures;
+pub mod form;
+pub mod one_step;
+pub mod page;
+pub mod prewrite;
+pub mod read;
+pub mod restore;
+pub mod rollback;
+pub mod room;
+pub mod run;
+pub mod store;
+pub mod trace;

@@ -1,0 +1,123 @@
+//! The paper as a driver: calls of a trace run in turn on one store, and their answers in TRACE.md's form.
+
+use crate::answer::{Answer, Refusal};
+use crate::bend::{Bend, bent};
+use crate::commit::Commit;
+use crate::form::Reader;
+use crate::prewrite::Prewrite;
+use crate::store::{Bytes, Store};
+use crate::trace::{Call, read_trace};
+
+/// Each byte of a lent buffer before the call.
+pub const BEFORE: u8 = 0xEE;
+
+/// One call on the store: its answer in full.
+pub fn run_call(store: &mut Store, call: &Call) -> Answer {
+    match call {
+        Call::Read { moment, key } => match store.read(*moment, key) {
+            Ok(shown) => Answer::accepted(0, flagged(shown.cloned())),
+            Err(refusal) => Answer::refused(refusal, flagged(None)),
+        },
+        Call::OneIntent { moment, key } => match store.one_intent(*moment, key) {
+            Ok(shown) => Answer::accepted(
+                0,
+                flagged(shown.map(|lock| {
+                    let mut bytes = Bytes::new();
+                    lock.write(&mut bytes);
+                    bytes
+                })),
+            ),
+            Err(refusal) => Answer::refused(refusal, flagged(None)),
+        },
+        Call::Page { moment, row_limit, byte_limit, bounds, buffer } => {
+            lent(*buffer, |buffer| store.page(*moment, *row_limit, *byte_limit, bounds, buffer))
+        }
+        Call::IntentPage { lock_limit, bounds, buffer } => {
+            lent(*buffer, |buffer| store.intent_page(*lock_limit, bounds, buffer))
+        }
+        Call::Conflicting { moment, lock_limit, byte_limit, bounds, buffer } => {
+            lent(*buffer, |buffer| store.conflicting_intents(*moment, *lock_limit, *byte_limit, bounds, buffer))
+        }
+        Call::Prewrite { transaction, start, time_to_live, kind, primary, key, row } => {
+            let fields = Prewrite { transaction: *transaction, start: *start, time_to_live: *time_to_live, primary };
+            plain(store.prewrite(&fields, *kind, key, row))
+        }
+        Call::PrewriteBatch { transaction, start, time_to_live, primary, batch } => {
+            let fields = Prewrite { transaction: *transaction, start: *start, time_to_live: *time_to_live, primary };
+            plain(store.prewrite_batch(&fields, batch))
+        }
+        Call::Commit { transaction, start, commit, key } => {
+            plain(store.commit(Commit { transaction: *transaction, start: *start, commit: *commit }, key))
+        }
+        Call::CommitBatch { transaction, start, commit, batch } => {
+            plain(store.commit_batch(Commit { transaction: *transaction, start: *start, commit: *commit }, batch))
+        }
+        Call::Rollback { transaction, start, key } => plain(store.rollback(*transaction, *start, key)),
+        Call::RollbackBatch { transaction, start, batch } => plain(store.rollback_batch(*transaction, *start, batch)),
+        Call::OneStep { transaction, start, commit, batch } => {
+            let call = Commit { transaction: *transaction, start: *start, commit: *commit };
+            counted(store.one_step(call, batch))
+        }
+        Call::Restore { image } => plain(store.restore(image)),
+        Call::Statistics => Answer::accepted(0, numbers(&store.statistics())),
+        Call::Marks => Answer::accepted(0, numbers(&store.marks())),
+    }
+}
+
+/// "A trace not in form gives one answer, number 6, with zeros and no payload, and nothing is run."
+pub fn run_trace(trace: &[u8]) -> Vec<Answer> {
+    let Some(calls) = read_trace(trace) else {
+        return if bent(Bend::DamagedTraceSilent) { Vec::new() } else { vec![Answer::damaged()] };
+    };
+    let mut store = Store::default();
+    calls.iter().map(|call| run_call(&mut store, call)).collect()
+}
+
+/// The answers of one trace, in bytes.
+pub fn answers(trace: &[u8], out: &mut Bytes) {
+    run_trace(trace).iter().for_each(|answer| answer.write(out));
+}
+
+/// "any number of traces, each after a 4-byte length; each runs on a fresh store, and the answers of all follow one
+/// another." None if the lengths do not read.
+pub fn many_answers(input: &[u8]) -> Option<Bytes> {
+    let mut reader = Reader::new(input);
+    let mut out = Bytes::new();
+    while reader.ended().is_none() {
+        let length = reader.four()? as usize;
+        answers(reader.take(length)?, &mut out);
+    }
+    Some(out)
+}
+
+/// "the byte 0 where nothing is shown, or 1 and the row".
+fn flagged(shown: Option<Bytes>) -> Bytes {
+    match shown {
+        None => vec![0],
+        Some(bytes) => [vec![1], bytes].concat(),
+    }
+}
+
+/// "the call is lent a buffer of that many bytes, each 0xEE before the call"; the payload is the whole buffer after.
+fn lent(length: u16, call: impl FnOnce(&mut [u8]) -> Result<u64, Refusal>) -> Answer {
+    let mut buffer = vec![BEFORE; length as usize];
+    match call(&mut buffer) {
+        Ok(count) => Answer::accepted(count, buffer),
+        Err(refusal) => Answer::refused(refusal, buffer),
+    }
+}
+
+fn plain(result: Result<(), Refusal>) -> Answer {
+    counted(result.map(|()| 0))
+}
+
+fn counted(result: Result<u64, Refusal>) -> Answer {
+    match result {
+        Ok(count) => Answer::accepted(count, Bytes::new()),
+        Err(refusal) => Answer::refused(refusal, Bytes::new()),
+    }
+}
+
+fn numbers(figures: &[u64]) -> Bytes {
+    figures.iter().flat_map(|figure| figure.to_be_bytes()).collect()
+}

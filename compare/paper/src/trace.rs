@@ -1,0 +1,261 @@
+//! The trace of TRACE.md: calls read from bytes, the whole trace judged before anything is run, and written to bytes.
+
+use crate::bend::{Bend, bent};
+use crate::form::Reader;
+use crate::page::Bounds;
+use crate::store::{Bytes, Kind};
+
+/// "the driver takes up to 262,144" bytes.
+pub const MOST_BYTES: usize = 262_144;
+/// A length of 65,535 says that a 4-byte length follows.
+const LONG: usize = 65_535;
+
+#[derive(Clone, Debug, PartialEq, Eq)]
+pub enum Call {
+    Read { moment: u64, key: Bytes },
+    Page { moment: u64, row_limit: u64, byte_limit: u64, bounds: Bounds, buffer: u16 },
+    IntentPage { lock_limit: u64, bounds: Bounds, buffer: u16 },
+    Conflicting { moment: u64, lock_limit: u64, byte_limit: u64, bounds: Bounds, buffer: u16 },
+    OneIntent { moment: u64, key: Bytes },
+    Prewrite { transaction: u64, start: u64, time_to_live: u64, kind: Kind, primary: Bytes, key: Bytes, row: Bytes },
+    PrewriteBatch { transaction: u64, start: u64, time_to_live: u64, primary: Bytes, batch: Bytes },
+    Commit { transaction: u64, start: u64, commit: u64, key: Bytes },
+    CommitBatch { transaction: u64, start: u64, commit: u64, batch: Bytes },
+    Rollback { transaction: u64, start: u64, key: Bytes },
+    RollbackBatch { transaction: u64, start: u64, batch: Bytes },
+    OneStep { transaction: u64, start: u64, commit: u64, batch: Bytes },
+    Restore { image: Bytes },
+    Statistics,
+    Marks,
+}
+
+impl Call {
+    pub fn op(&self) -> u8 {
+        match self {
+            Call::Read { .. } => 1,
+            Call::Page { .. } => 2,
+            Call::IntentPage { .. } => 3,
+            Call::Conflicting { .. } => 4,
+            Call::OneIntent { .. } => 5,
+            Call::Prewrite { .. } => 6,
+            Call::PrewriteBatch { .. } => 7,
+            Call::Commit { .. } => 8,
+            Call::CommitBatch { .. } => 9,
+            Call::Rollback { .. } => 10,
+            Call::RollbackBatch { .. } => 11,
+            Call::OneStep { .. } => 12,
+            Call::Restore { .. } => 32,
+            Call::Statistics => 33,
+            Call::Marks => 34,
+        }
+    }
+
+    /// "A call is an op byte and its arguments, in the order of the table."
+    pub fn read(bytes: &[u8]) -> Option<Call> {
+        let mut r = Reader::new(bytes);
+        let call = match r.byte()? {
+            1 => Call::Read { moment: r.eight()?, key: r.long()? },
+            2 => Call::Page {
+                moment: r.eight()?,
+                row_limit: r.eight()?,
+                byte_limit: r.eight()?,
+                bounds: bounds(&mut r)?,
+                buffer: r.two()? as u16,
+            },
+            3 => Call::IntentPage { lock_limit: r.eight()?, bounds: bounds(&mut r)?, buffer: r.two()? as u16 },
+            4 => Call::Conflicting {
+                moment: r.eight()?,
+                lock_limit: r.eight()?,
+                byte_limit: r.eight()?,
+                bounds: bounds(&mut r)?,
+                buffer: r.two()? as u16,
+            },
+            5 => Call::OneIntent { moment: r.eight()?, key: r.long()? },
+            6 => Call::Prewrite {
+                transaction: r.eight()?,
+                start: r.eight()?,
+                time_to_live: r.eight()?,
+                kind: kind(r.byte()?)?,
+                primary: r.long()?,
+                key: r.long()?,
+                row: r.long()?,
+            },
+            7 => Call::PrewriteBatch {
+                transaction: r.eight()?,
+                start: r.eight()?,
+                time_to_live: r.eight()?,
+                primary: r.long()?,
+                batch: r.rest().to_vec(),
+            },
+            8 => Call::Commit { transaction: r.eight()?, start: r.eight()?, commit: r.eight()?, key: r.long()? },
+            9 => Call::CommitBatch {
+                transaction: r.eight()?,
+                start: r.eight()?,
+                commit: r.eight()?,
+                batch: r.rest().to_vec(),
+            },
+            10 => Call::Rollback { transaction: r.eight()?, start: r.eight()?, key: r.long()? },
+            11 => Call::RollbackBatch { transaction: r.eight()?, start: r.eight()?, batch: r.rest().to_vec() },
+            12 => Call::OneStep {
+                transaction: r.eight()?,
+                start: r.eight()?,
+                commit: r.eight()?,
+                batch: r.rest().to_vec(),
+            },
+            32 => Call::Restore { image: r.rest().to_vec() },
+            33 => Call::Statistics,
+            34 => Call::Marks,
+            _ => return None,
+        };
+        if !bent(Bend::CallTrailing) {
+            r.ended()?;
+        }
+        Some(call)
+    }
+
+    pub fn write(&self) -> Bytes {
+        let mut out = vec![self.op()];
+        match self {
+            Call::Read { moment, key } | Call::OneIntent { moment, key } => {
+                numbers(&mut out, &[*moment]);
+                long(&mut out, key);
+            }
+            Call::Page { moment, row_limit: limit, byte_limit, bounds, buffer }
+            | Call::Conflicting { moment, lock_limit: limit, byte_limit, bounds, buffer } => {
+                numbers(&mut out, &[*moment, *limit, *byte_limit]);
+                write_bounds(&mut out, bounds, *buffer);
+            }
+            Call::IntentPage { lock_limit, bounds, buffer } => {
+                numbers(&mut out, &[*lock_limit]);
+                write_bounds(&mut out, bounds, *buffer);
+            }
+            Call::Prewrite { transaction, start, time_to_live, kind, primary, key, row } => {
+                numbers(&mut out, &[*transaction, *start, *time_to_live]);
+                out.push(kind.byte());
+                long(&mut out, primary);
+                long(&mut out, key);
+                long(&mut out, row);
+            }
+            Call::PrewriteBatch { transaction, start, time_to_live, primary, batch } => {
+                numbers(&mut out, &[*transaction, *start, *time_to_live]);
+                long(&mut out, primary);
+                out.extend_from_slice(batch);
+            }
+            Call::Commit { transaction, start, commit, key } => {
+                numbers(&mut out, &[*transaction, *start, *commit]);
+                long(&mut out, key);
+            }
+            Call::CommitBatch { transaction, start, commit, batch }
+            | Call::OneStep { transaction, start, commit, batch } => {
+                numbers(&mut out, &[*transaction, *start, *commit]);
+                out.extend_from_slice(batch);
+            }
+            Call::Rollback { transaction, start, key } => {
+                numbers(&mut out, &[*transaction, *start]);
+                long(&mut out, key);
+            }
+            Call::RollbackBatch { transaction, start, batch } => {
+                numbers(&mut out, &[*transaction, *start]);
+                out.extend_from_slice(batch);
+            }
+            Call::Restore { image } => out.extend_from_slice(image),
+            Call::Statistics | Call::Marks => {}
+        }
+        out
+    }
+}
+
+/// The trace's calls, or none if it is not in form. "The whole trace is judged before anything is run."
+pub fn read_trace(bytes: &[u8]) -> Option<Vec<Call>> {
+    if bytes.len() > MOST_BYTES && !bent(Bend::TraceOfAnyLength) {
+        return None;
+    }
+    if bytes.is_empty() && bent(Bend::EmptyTraceTaken) {
+        return Some(Vec::new());
+    }
+    let mut reader = Reader::new(bytes);
+    let count = reader.two()?;
+    let mut calls = Vec::new();
+    for _ in 0..count {
+        let read = next_call(&mut reader);
+        if read.is_none() && bent(Bend::TraceRunsToItsFault) && !calls.is_empty() {
+            return Some(calls);
+        }
+        calls.push(read?);
+    }
+    if !bent(Bend::TraceTrailing) {
+        reader.ended()?;
+    }
+    Some(calls)
+}
+
+/// "each call after its 2-byte length. A length of 65,535 is followed by a 4-byte length, which is then the call's
+/// own", whatever it is.
+fn next_call(reader: &mut Reader) -> Option<Call> {
+    let mut length = reader.two()?;
+    if length == LONG && !bent(Bend::TraceShortLengthsOnly) {
+        length = reader.four()? as usize;
+    }
+    Call::read(reader.take(length)?)
+}
+
+pub fn write_trace(calls: &[Call]) -> Bytes {
+    let mut out = (calls.len() as u16).to_be_bytes().to_vec();
+    for call in calls {
+        let bytes = call.write();
+        if bytes.len() < LONG {
+            out.extend_from_slice(&(bytes.len() as u16).to_be_bytes());
+        } else {
+            out.extend_from_slice(&(LONG as u16).to_be_bytes());
+            out.extend_from_slice(&(bytes.len() as u32).to_be_bytes());
+        }
+        out.extend_from_slice(&bytes);
+    }
+    out
+}
+
+/// "kind | 1: 1 Put, 2 Delete"; another byte is not in form.
+fn kind(byte: u8) -> Option<Kind> {
+    match byte {
+        1 => Some(Kind::Put),
+        2 => Some(Kind::Delete),
+        3 if bent(Bend::CallKindRollback) => Some(Kind::Rollback),
+        _ => None,
+    }
+}
+
+fn bounds(reader: &mut Reader) -> Option<Bounds> {
+    Some(Bounds { start: bound(reader)?, end: bound(reader)?, resume: bound(reader)? })
+}
+
+/// "bound | a flag byte: 0 absent; 1 present, then a key".
+fn bound(reader: &mut Reader) -> Option<Option<Bytes>> {
+    match reader.byte()? {
+        0 => Some(None),
+        1 => Some(Some(reader.long()?)),
+        _ if bent(Bend::FlagOfAnyByte) => Some(Some(reader.long()?)),
+        _ => None,
+    }
+}
+
+fn numbers(out: &mut Bytes, numbers: &[u64]) {
+    numbers.iter().for_each(|number| out.extend_from_slice(&number.to_be_bytes()));
+}
+
+fn long(out: &mut Bytes, bytes: &[u8]) {
+    out.extend_from_slice(&(bytes.len() as u16).to_be_bytes());
+    out.extend_from_slice(bytes);
+}
+
+fn write_bounds(out: &mut Bytes, bounds: &Bounds, buffer: u16) {
+    for bound in [&bounds.start, &bounds.end, &bounds.resume] {
+        match bound {
+            None => out.push(0),
+            Some(key) => {
+                out.push(1);
+                long(out, key);
+            }
+        }
+    }
+    out.extend_from_slice(&buffer.to_be_bytes());
+}

@@ -1,0 +1,55 @@
+//! Stand-in for ragnordb_common's row encoding, written from document 01: "Row: count byte 0 to 8, that many 8-byte
+//! signed integers; count byte 0 to 8, that many texts, each a length byte and its bytes. Length 2 to 255."
+
+use crate::{Error, Result};
+
+/// A row in form, taken apart. A text holds any bytes.
+#[derive(Clone, Debug, Default, PartialEq, Eq)]
+pub struct Row {
+    pub integers: Vec<i64>,
+    pub texts: Vec<Vec<u8>>,
+}
+
+/// Reads a row, or refuses one that is not in form.
+pub fn decode_row(bytes: &[u8]) -> Result<Row> {
+    if bytes.len() < 2 || bytes.len() > 255 {
+        return Err(fault("length is not 2 to 255"));
+    }
+    let mut row = Row::default();
+    let mut at = 1;
+    if bytes[0] > 8 {
+        return Err(fault("more than 8 integers"));
+    }
+    for _ in 0..bytes[0] {
+        let Some(integer) = bytes.get(at..at + 8) else {
+            return Err(fault("an integer is cut"));
+        };
+        row.integers.push(i64::from_be_bytes(integer.try_into().expect("eight bytes")));
+        at += 8;
+    }
+    let Some(count) = bytes.get(at).copied() else {
+        return Err(fault("no count of texts"));
+    };
+    if count > 8 {
+        return Err(fault("more than 8 texts"));
+    }
+    at += 1;
+    for _ in 0..count {
+        let Some(length) = bytes.get(at).map(|length| *length as usize) else {
+            return Err(fault("no length of a text"));
+        };
+        let Some(text) = bytes.get(at + 1..at + 1 + length) else {
+            return Err(fault("a text is cut"));
+        };
+        row.texts.push(text.to_vec());
+        at += 1 + length;
+    }
+    if at != bytes.len() {
+        return Err(fault("bytes follow the texts"));
+    }
+    Ok(row)
+}
+
+fn fault(text: &str) -> Error {
+    Error::CorruptData(format!("row not in form: {text}"))
+}
