@@ -1,7 +1,6 @@
 -- `soundRecord` by the tests that a program makes of it, one law for each way out. Assumes nothing.
-use Prim.Native.Nat.{ℕ}
 use mathlib.Core.Path.{_≡_, _∙_}
-use mathlib.Core.Bool.{Bool, true, false}
+use mathlib.Core.Bool.{Bool, false}
 use borrow.Author.Tests.{eq-eqb, ne-eqb}
 use Rattle.rules.specs.declared.records.Record.{Record}
 use Rattle.rules.specs.Sound.{soundRecord, kindFits}

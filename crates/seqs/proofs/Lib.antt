@@ -1,2 +1,7 @@
 pub mod Parts
 pub mod Tests
+pub mod Alls
+pub mod Shifts
+pub mod Tables
+pub mod Leading
+pub mod Downs

@@ -1,0 +1,193 @@
+-- "A refusal changes nothing in store or buffers": one law over `settle`, and a line for each changing call. What holds of the box as it
+-- came, and of the box that the accepted call makes, holds of the box after the call.
+-- Assumes nothing.
+use Prim.Native.Nat.{ℕ}
+use mathlib.Core.Path.{_≡_, refl, ap, _∙_}
+use mathlib.Core.Bool.{Bool, true, false, not}
+use mathlib.Core.List.{List, [], _∷_}
+use mathlib.Core.Option.{Option, none, some}
+use lib.ListN.{length}
+use Rattle.forms.specs.Bytes.{Bytes}
+use Rattle.forms.specs.Key.{Key}
+use Rattle.forms.specs.Batch.{Mutation, mutations, keys}
+use Rattle.rules.specs.declared.answers.Answer.{Answer}
+use Rattle.rules.specs.declared.answers.Answer.the-variants.{Accepted, No, Held}
+use Rattle.rules.specs.Answers.{_▸_, need, Reply, refused, ifPassed}
+use Rattle.rules.specs.Box.{Box}
+use Rattle.rules.specs.Calls.{Done, settle, ofBatch, nonEmpty}
+use Rattle.rules.specs.Prewrite.{Head, prewrite, prewriteAll, prewriteBatch, prewriteSteps, applyPrewrite, applyPrewrites}
+use Rattle.rules.specs.Commit.{Ending, commit, commitAll, commitBatch, commitSteps, applyCommit, applyCommits}
+use Rattle.rules.specs.Rollback.{rollback, rollbackAll, rollbackBatch, rollbackSteps, applyRollback, applyRollbacks}
+use Rattle.rules.specs.OneStep.{oneStep, stepAll, stepDone, stepApplied, thenApplied, ofCounted, countIf, stepArguments, allApplied, someApplied, stepNew, applySteps}
+use Rattle.rules.specs.Image.{Image, image}
+use Rattle.rules.specs.Restore.{restore, restoreTo, restoreSteps, boxOf}
+
+-- ---- settle, ofBatch, ifPassed
+
+pub settle-answer : (a : Answer) (new old : Box) → settle a new old .answer ≡ a
+unfolding settle
+settle-answer Accepted new old = refl
+settle-answer (No n) new old = refl
+settle-answer (Held o) new old = refl
+
+pub settle-new : (a : Answer) (new old : Box) → a ≡ Accepted → settle a new old ≡ record { answer = Accepted; box = new }
+unfolding settle
+settle-new a new old e = rw e
+
+pub settle-no : (n : ℕ) (a : Answer) (new old : Box) → a ≡ No n → settle a new old ≡ record { answer = No n; box = old }
+unfolding settle
+settle-no n a new old e = rw e
+
+pub settle-old : (a : Answer) (new old : Box) → (a ≡ Accepted → ⊥) → settle a new old ≡ record { answer = a; box = old }
+unfolding settle
+settle-old Accepted new old n = absurd (n refl)
+settle-old (No m) new old n = refl
+settle-old (Held o) new old n = refl
+
+-- the call leaves the box where it refuses
+abbrev pub Leaves : Box → Done → Type 0
+Leaves b d = (d .answer ≡ Accepted → ⊥) → d .box ≡ b
+
+pub settle-leaves : (a : Answer) (new old : Box) → Leaves old (settle a new old)
+settle-leaves a new old n = ap (λ (d : Done). d .box) (settle-old a new old (λ e. n (settle-answer a new old ∙ e)))
+
+pub ofBatch-leaves : {A : Type 0} (o : Option (List A)) (call : List A → Box → Done) (b : Box) → ((xs : List A) → Leaves b (call xs b)) → Leaves b (ofBatch o call b)
+unfolding ofBatch
+ofBatch-leaves none call b h n = refl
+ofBatch-leaves (some xs) call b h n = h xs n
+
+-- what holds of the old box, and of the new one where the steps passed, holds after the call
+pub settle-keeps : (P : Box → Type 0) (a : Answer) (new old : Box) → P old → (a ≡ Accepted → P new) → P (settle a new old .box)
+unfolding settle
+settle-keeps P Accepted new old p q = q refl
+settle-keeps P (No n) new old p q = p
+settle-keeps P (Held o) new old p q = p
+
+pub ofBatch-keeps : {A : Type 0} (P : Box → Type 0) (o : Option (List A)) (call : List A → Box → Done) (b : Box) → P b → ((xs : List A) → o ≡ some xs → P (call xs b .box)) → P (ofBatch o call b .box)
+unfolding ofBatch
+ofBatch-keeps P none call b p q = p
+ofBatch-keeps P (some xs) call b p q = q xs refl
+
+pub ofBatch-some : {A : Type 0} (o : Option (List A)) (call : List A → Box → Done) (b : Box) (xs : List A) → o ≡ some xs → ofBatch o call b ≡ call xs b
+unfolding ofBatch
+ofBatch-some o call b xs e = rw e
+
+pub ofBatch-none : {A : Type 0} (o : Option (List A)) (call : List A → Box → Done) (b : Box) → o ≡ none → ofBatch o call b ≡ record { answer = No 6; box = b }
+unfolding ofBatch
+ofBatch-none o call b e = rw e
+
+pub passed-reply : {A : Type 0} (a : Answer) (r : Reply A) → a ≡ Accepted → ifPassed a r ≡ r
+unfolding ifPassed
+passed-reply a r e = rw e
+
+pub refused-reply : {A : Type 0} (a : Answer) (r : Reply A) → (a ≡ Accepted → ⊥) → ifPassed a r ≡ refused a
+unfolding ifPassed
+refused-reply Accepted r n = absurd (n refl)
+refused-reply (No m) r n = refl
+refused-reply (Held o) r n = refl
+
+-- ---- each changing call: a refusal leaves the box
+
+pub prewrite-leaves : (h : Head) (m : Mutation) (b : Box) → Leaves b (prewrite h m b)
+unfolding prewrite
+prewrite-leaves h m b = settle-leaves (prewriteSteps h (m ∷ []) b) (applyPrewrite h m b) b
+
+pub prewriteAll-leaves : (h : Head) (ms : List Mutation) (b : Box) → Leaves b (prewriteAll h ms b)
+unfolding prewriteAll
+prewriteAll-leaves h ms b = settle-leaves (need (nonEmpty ms) 5 ▸ prewriteSteps h ms b) (applyPrewrites h ms b) b
+
+pub prewriteBatch-leaves : (h : Head) (s : Bytes) (b : Box) → Leaves b (prewriteBatch h s b)
+unfolding prewriteBatch
+prewriteBatch-leaves h s b = ofBatch-leaves (mutations s) (prewriteAll h) b (λ ms. prewriteAll-leaves h ms b)
+
+pub commit-leaves : (h : Ending) (k : Key) (b : Box) → Leaves b (commit h k b)
+unfolding commit
+commit-leaves h k b = settle-leaves (commitSteps h (k ∷ []) b) (applyCommit h k b) b
+
+pub commitAll-leaves : (h : Ending) (ks : List Key) (b : Box) → Leaves b (commitAll h ks b)
+unfolding commitAll
+commitAll-leaves h ks b = settle-leaves (need (nonEmpty ks) 5 ▸ commitSteps h ks b) (applyCommits h ks b) b
+
+pub commitBatch-leaves : (h : Ending) (s : Bytes) (b : Box) → Leaves b (commitBatch h s b)
+unfolding commitBatch
+commitBatch-leaves h s b = ofBatch-leaves (keys s) (commitAll h) b (λ ks. commitAll-leaves h ks b)
+
+module _ (txn start : ℕ) where
+  pub rollback-leaves : (k : Key) (b : Box) → Leaves b (rollback txn start k b)
+  unfolding rollback
+  rollback-leaves k b = settle-leaves (rollbackSteps txn start (k ∷ []) b) (applyRollback start k b) b
+
+  pub rollbackAll-leaves : (ks : List Key) (b : Box) → Leaves b (rollbackAll txn start ks b)
+  unfolding rollbackAll
+  rollbackAll-leaves ks b = settle-leaves (need (nonEmpty ks) 5 ▸ rollbackSteps txn start ks b) (applyRollbacks start ks b) b
+
+  pub rollbackBatch-leaves : (s : Bytes) (b : Box) → Leaves b (rollbackBatch txn start s b)
+  unfolding rollbackBatch
+  rollbackBatch-leaves s b = ofBatch-leaves (keys s) (rollbackAll txn start) b (λ ks. rollbackAll-leaves ks b)
+
+-- ---- one-step: arguments first, then all applied or not
+
+pub then-leaves : (a : Answer) (b : Box) (d : Done) → Leaves b d → Leaves b (thenApplied a b d)
+unfolding thenApplied
+then-leaves Accepted b d h = h
+then-leaves (No n) b d h = λ _. refl
+then-leaves (Held o) b d h = λ _. refl
+
+pub then-keeps : (P : Box → Type 0) (a : Answer) (b : Box) (d : Done) → P b → (a ≡ Accepted → P (d .box)) → P (thenApplied a b d .box)
+unfolding thenApplied
+then-keeps P Accepted b d p q = q refl
+then-keeps P (No n) b d p q = p
+then-keeps P (Held o) b d p q = p
+
+module _ (h : Ending) (ms : List Mutation) (b : Box) where
+  applied-leaves : (t : Bool) → Leaves b (stepApplied t h ms b)
+  unfolding stepApplied
+  applied-leaves true = λ n. refl
+  applied-leaves false = settle-leaves (need (not (someApplied h b ms)) 9 ▸ stepNew h ms b) (applySteps h ms b) b
+
+  pub stepDone-leaves : Leaves b (stepDone h ms b)
+  unfolding stepDone
+  stepDone-leaves = then-leaves (stepArguments h ms b) b (stepApplied (allApplied h b ms) h ms b) (applied-leaves (allApplied h b ms))
+
+pub oneStep-leaves : (h : Ending) (s : Bytes) (b : Box) → Leaves b (oneStep h s b .done)
+unfolding oneStep ofCounted stepAll
+oneStep-leaves h s b = go (mutations s)
+  where
+    go : (o : Option (List Mutation)) → Leaves b (ofCounted o (stepAll h) b .done)
+    go none = λ n. refl
+    go (some ms) = stepDone-leaves h ms b
+
+-- "a refusal's counts are 0", "The count is the number of entries"
+refused-zero : (a : Answer) (n : ℕ) → (a ≡ Accepted → ⊥) → countIf a n ≡ 0
+unfolding countIf
+refused-zero Accepted n r = absurd (r refl)
+refused-zero (No m) n r = refl
+refused-zero (Held o) n r = refl
+
+pub oneStep-refused : (h : Ending) (s : Bytes) (b : Box) → (oneStep h s b .done .answer ≡ Accepted → ⊥) → oneStep h s b .count ≡ 0
+unfolding oneStep ofCounted stepAll
+oneStep-refused h s b = go (mutations s)
+  where
+    go : (o : Option (List Mutation)) → (ofCounted o (stepAll h) b .done .answer ≡ Accepted → ⊥) → ofCounted o (stepAll h) b .count ≡ 0
+    go none r = refl
+    go (some ms) r = refused-zero (stepDone h ms b .answer) (length ms) r
+
+pub oneStep-count : (h : Ending) (s : Bytes) (b : Box) (ms : List Mutation) → mutations s ≡ some ms → oneStep h s b .done .answer ≡ Accepted → oneStep h s b .count ≡ length ms
+unfolding oneStep ofCounted stepAll countIf
+oneStep-count h s b ms e = go (mutations s) e
+  where
+    go : (o : Option (List Mutation)) → o ≡ some ms → ofCounted o (stepAll h) b .done .answer ≡ Accepted → ofCounted o (stepAll h) b .count ≡ length ms
+    go none q a = cc
+    go (some ns) q a =
+        let p : ns ≡ ms = cc in
+        ap (λ (x : Answer). countIf x (length ns)) a ∙ ap length p
+
+-- ---- restore
+
+pub restore-leaves : (s : Bytes) (b : Box) → Leaves b (restore s b)
+unfolding restore restoreTo
+restore-leaves s b = go (image s)
+  where
+    go : (o : Option Image) → Leaves b (restoreTo o b)
+    go none = λ n. refl
+    go (some i) = settle-leaves (restoreSteps i) (boxOf i) b

@@ -1,0 +1,27 @@
+-- The four limits of "Room" hold after any sequence of calls from an empty store. Assumes nothing.
+use mathlib.Core.Path.{_≡_}
+use mathlib.Core.Bool.{true}
+use mathlib.Core.List.{List, [], _∷_}
+use Rattle.rules.specs.Box.{Box}
+use Rattle.rules.specs.Room.{roomFor}
+use Rattle.laws.proofs.CallLaws.{fresh-room, prewrite-inRoom, prewriteBatch-room, commit-inRoom, commitBatch-room, rollback-inRoom, rollbackBatch-room, oneStep-room}
+use Rattle.ledger.specs.Ledger.{Call, prewriting, prewritingBatch, committing, committingBatch, rollingBack, rollingBackBatch, oneStepping, perform, Past, then, after, empty}
+
+call-room : (c : Call) (b : Box) → roomFor b ≡ true → roomFor (perform c b .box) ≡ true
+unfolding perform
+call-room (prewriting h m) b = prewrite-inRoom h m b
+call-room (prewritingBatch h s) b = prewriteBatch-room h s b
+call-room (committing h k) b = commit-inRoom h k b
+call-room (committingBatch h s) b = commitBatch-room h s b
+call-room (rollingBack txn start k) b = rollback-inRoom txn start k b
+call-room (rollingBackBatch txn start s) b = rollbackBatch-room txn start s b
+call-room (oneStepping h s) b = oneStep-room h s b
+
+after-room : (cs : List Call) (p : Past) → roomFor (p .box) ≡ true → roomFor (after cs p .box) ≡ true
+unfolding after then
+after-room [] p v = v
+after-room (c ∷ cs) p v = after-room cs (then c p) (call-room c (p .box) v)
+
+pub rooms : (cs : List Call) → roomFor (after cs empty .box) ≡ true
+unfolding empty
+rooms cs = after-room cs empty fresh-room

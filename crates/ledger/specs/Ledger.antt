@@ -1,0 +1,216 @@
+-- Demand 3: "From an empty store, after any sequence of prewrites, commits, rollbacks and one-step batches, refused ones included: each pair
+-- of key and start that an accepted call named as an entry has exactly one line, no other pair has any (so locks plus records equal the
+-- number of different pairs), and a row is stored for exactly the pairs whose line is a Put: the row of the last accepted call that carried
+-- one." It is said here over the calls' own definitions; proofs/Demand3.antt has the theorem.
+-- Demand 1, its second half, over the same calls: a refusal leaves the box as it was; proofs/Refusals.antt has that theorem.
+-- Assumes nothing.
+use Prim.Native.Nat.{ℕ, suc, _+_}
+use mathlib.Core.Path.{_≡_}
+use mathlib.Core.Bool.{Bool, true, false, _&&_, _||_}
+use mathlib.Core.List.{List, [], _∷_}
+use mathlib.Core.Option.{Option, none, some}
+use lib.Dec.{eqb}
+use lib.ListN.{length}
+use Rattle.forms.specs.Bytes.{Bytes, eqBytes}
+use Rattle.forms.specs.Key.{Key}
+use Rattle.forms.specs.Row.{Row}
+use Rattle.forms.specs.Batch.{Mutation, mutations, keys}
+use Rattle.rules.specs.declared.answers.Answer.{Answer}
+use Rattle.rules.specs.declared.answers.Answer.the-variants.{Accepted, No, Held}
+use Rattle.rules.specs.declared.records.Kind.{Kind}
+use Rattle.rules.specs.declared.records.Kind.the-variants.{Put, Delete, Rollback}
+use Rattle.rules.specs.Box.{Box, Line, Standing, Finished, KeyLine, Default, fresh, atPair}
+use Rattle.rules.specs.Calls.{Done}
+use Rattle.rules.specs.Prewrite.{Head, prewrite, prewriteBatch}
+use Rattle.rules.specs.Commit.{Ending, commit, commitBatch}
+use Rattle.rules.specs.Rollback.{rollback, rollbackBatch}
+use Rattle.rules.specs.OneStep.{oneStep}
+use Rattle.rules.specs.Figures.{stats}
+
+-- ---- the calls
+
+-- "prewrites, commits, rollbacks and one-step batches": single forms and batches; a batch is its bytes, in form or not
+pub data Call : Type 0 where
+  prewriting : Head → Mutation → Call
+  prewritingBatch : Head → Bytes → Call
+  committing : Ending → Key → Call
+  committingBatch : Ending → Bytes → Call
+  rollingBack : ℕ → ℕ → Key → Call
+  rollingBackBatch : ℕ → ℕ → Bytes → Call
+  oneStepping : Ending → Bytes → Call
+
+-- what a call answers, and the box after it
+unfoldable pub perform : Call → Box → Done
+perform (prewriting h m) b = prewrite h m b
+perform (prewritingBatch h s) b = prewriteBatch h s b
+perform (committing h k) b = commit h k b
+perform (committingBatch h s) b = commitBatch h s b
+perform (rollingBack txn start k) b = rollback txn start k b
+perform (rollingBackBatch txn start s) b = rollbackBatch txn start s b
+perform (oneStepping h s) b = oneStep h s b .done
+
+-- ---- what a call named
+
+-- "each pair of key and start that an accepted call named as an entry", and the row that the entry carried, if any
+pub record Named : Type 0 where
+  pub key : Key
+  pub start : ℕ
+  pub row : Option Row
+
+-- a mutation names its key at the call's start, and carries a Put's row
+abbrev pub ofMutation : ℕ → Mutation → Named
+ofMutation s m = record { key = m .key; start = s; row = m .row }
+
+-- a key carries no row
+abbrev pub ofKey : ℕ → Key → Named
+ofKey s k = record { key = k; start = s; row = none }
+
+-- the entries of a batch are those that its bytes decode to; bytes out of form have none
+unfoldable pub entriesIn : {A : Type 0} → Option (List A) → List A
+entriesIn none = []
+entriesIn (some xs) = xs
+
+-- one name for each entry, in the batch's order
+unfoldable pub eachNamed : {A : Type 0} → (A → Named) → List A → List Named
+eachNamed f [] = []
+eachNamed f (x ∷ xs) = f x ∷ eachNamed f xs
+
+-- what a call names, if it is accepted
+unfoldable pub namedBy : Call → List Named
+namedBy (prewriting h m) = ofMutation (h .start) m ∷ []
+namedBy (prewritingBatch h s) = eachNamed (ofMutation (h .start)) (entriesIn (mutations s))
+namedBy (committing h k) = ofKey (h .start) k ∷ []
+namedBy (committingBatch h s) = eachNamed (ofKey (h .start)) (entriesIn (keys s))
+namedBy (rollingBack txn start k) = ofKey start k ∷ []
+namedBy (rollingBackBatch txn start s) = eachNamed (ofKey start) (entriesIn (keys s))
+namedBy (oneStepping h s) = eachNamed (ofMutation (h .start)) (entriesIn (mutations s))
+
+-- ---- "after any sequence of .., refused ones included"
+
+-- the entries go onto the log one by one, so that the last stands first
+unfoldable pub onto : List Named → List Named → List Named
+onto [] log = log
+onto (n ∷ ns) log = onto ns (n ∷ log)
+
+-- "refused ones included": they are in the sequence, and name nothing
+unfoldable pub logged : Answer → List Named → List Named → List Named
+logged Accepted ns log = onto ns log
+logged (No n) ns log = log
+logged (Held h) ns log = log
+
+-- a box, and what the accepted calls that led to it named, the last first
+pub record Past : Type 0 where
+  pub box : Box
+  pub log : List Named
+
+-- one more call
+unfoldable pub then : Call → Past → Past
+then c p = record { box = perform c (p .box) .box; log = logged (perform c (p .box) .answer) (namedBy c) (p .log) }
+
+-- "after any sequence"
+unfoldable pub after : List Call → Past → Past
+after [] p = p
+after (c ∷ cs) p = after cs (then c p)
+
+-- "From an empty store"
+unfoldable pub empty : Past
+empty = record { box = fresh; log = [] }
+
+-- ---- the pair in the log: whether it is named, and its last row
+
+-- the name is of this pair
+abbrev pub isAt : Key → ℕ → Named → Bool
+isAt k s n = eqBytes k (n .key) && eqb s (n .start)
+
+-- the pair is one "that an accepted call named as an entry"
+unfoldable pub named : Key → ℕ → List Named → Bool
+named k s [] = false
+named k s (n ∷ log) = isAt k s n || named k s log
+
+-- the row, if the name is of the pair
+unfoldable pub rowIf : Bool → Option Row → Option Row
+rowIf true r = r
+rowIf false r = none
+
+-- a name without a row leaves the row that was carried before it
+unfoldable pub orOlder : Option Row → Option Row → Option Row
+orOlder (some r) older = some r
+orOlder none older = older
+
+-- "the row of the last accepted call that carried one" for the pair
+unfoldable pub lastRow : Key → ℕ → List Named → Option Row
+lastRow k s [] = none
+lastRow k s (n ∷ log) = orOlder (rowIf (isAt k s n) (n .row)) (lastRow k s log)
+
+-- a pair that was named before is not counted again
+unfoldable pub sucUnless : Bool → ℕ → ℕ
+sucUnless true n = n
+sucUnless false n = suc n
+
+-- "the number of different pairs"
+unfoldable pub differentPairs : List Named → ℕ
+differentPairs [] = 0
+differentPairs (n ∷ log) = sucUnless (named (n .key) (n .start) log) (differentPairs log)
+
+-- ---- the pair in the box: its lines and its rows
+
+-- a line's start, a standing lock's or a finished record's
+abbrev pub startOf : Line → ℕ
+startOf (Standing l) = l .start
+startOf (Finished w) = w .start
+
+-- a line's kind
+abbrev pub kindIn : Line → Kind
+kindIn (Standing l) = l .kind
+kindIn (Finished w) = w .kind
+
+-- the line is of this pair
+abbrev pub lineIs : Key → ℕ → KeyLine → Bool
+lineIs k s e = eqBytes k (e .key) && eqb s (startOf (e .line))
+
+-- one more, if it is chosen
+unfoldable pub consIf : {A : Type 0} → Bool → A → List A → List A
+consIf true x xs = x ∷ xs
+consIf false x xs = xs
+
+-- what f shows of those that p chooses, in their order
+unfoldable pub chosen : {A B : Type 0} → (A → Bool) → (A → B) → List A → List B
+chosen p f [] = []
+chosen p f (x ∷ xs) = consIf (p x) (f x) (chosen p f xs)
+
+-- each line of the box with this key and this start
+abbrev pub linesAt : Key → ℕ → List KeyLine → List Line
+linesAt k s es = chosen (lineIs k s) (λ (e : KeyLine). e .line) es
+
+-- each row that is stored for this key and this start
+abbrev pub rowsAt : Key → ℕ → List Default → List Row
+rowsAt k s ds = chosen (atPair k s) (λ (d : Default). d .row) ds
+
+-- ---- the demand
+
+-- "a row is stored for exactly the pairs whose line is a Put: the row of the last accepted call that carried one"; so one was carried
+abbrev pub RowFits : Kind → Option Row → List Row → Type 0
+RowFits Put none stored = ⊥
+RowFits Put (some r) stored = stored ≡ r ∷ []
+RowFits Delete last stored = stored ≡ []
+RowFits Rollback last stored = stored ≡ []
+
+-- a pair that was named "has exactly one line", a standing lock or a finished record; "no other pair has any", nor a row
+pub data Fate (b : Box) (k : Key) (s : ℕ) (last : Option Row) : Bool → Type 0 where
+  absent : linesAt k s (b .lines) ≡ [] → rowsAt k s (b .defaults) ≡ [] → Fate b k s last false
+  present : (x : Line) → linesAt k s (b .lines) ≡ x ∷ [] → RowFits (kindIn x) last (rowsAt k s (b .defaults)) → Fate b k s last true
+
+-- "each pair .. has exactly one line, no other pair has any ..": the fate of every pair, by what was named
+abbrev pub Holds : Box → List Named → Type 0
+Holds b log = (k : Key) (s : ℕ) → Fate b k s (lastRow k s log) (named k s log)
+
+-- the sentence, of the box after the calls: every pair's fate; "so locks plus records equal the number of different pairs", by the
+-- statistics' own counts; and so many lines there are
+pub record Demand3 (cs : List Call) : Type 0 where
+  pub pairs : Holds (after cs empty .box) (after cs empty .log)
+  pub sum : stats (after cs empty .box) .locks + stats (after cs empty .box) .records .all ≡ differentPairs (after cs empty .log)
+  pub lines : length (after cs empty .box .lines) ≡ differentPairs (after cs empty .log)
+
+-- Demand 1, "A refusal changes nothing in store or buffers": whatever the call and the box
+abbrev pub Refusal : Call → Box → Type 0
+Refusal c b = (perform c b .answer ≡ Accepted → ⊥) → perform c b .box ≡ b
