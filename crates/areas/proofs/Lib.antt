@@ -1,0 +1,3 @@
+pub mod AreaLaws
+pub mod PackLaws
+pub mod RepackLaws

@@ -1,0 +1,5 @@
+pub mod KeptLaws
+pub mod WhereLaws
+pub mod BuiltLaws
+pub mod EntryLaws
+pub mod RowLaws

@@ -1,0 +1,175 @@
+-- The definition's inserts and drops, by place: what the tables do at a place is what the box's definition makes.
+-- Assumes nothing.
+use Prim.Native.Nat.{ℕ, zero, suc, _+_, _-_, _≤_, _<_}
+use native.Mathlib.Omega.{arith}
+use mathlib.Core.Path.{_≡_, refl, sym, ap, ap₂, _∙_}
+use mathlib.Core.Bool.{Bool, true, false, true≢false, false≢true}
+use mathlib.Core.List.{List, [], _∷_, _++_}
+use mathlib.Core.Option.{Option, none, some}
+use lib.Dec.{eqb}
+use lib.ListN.{length, getD, take, drop, set, length-drop, length-append}
+use lib.Seq.{slice, take-take, take-at, drop-at, drop-append-le, drop-drop, take-append-add, drop-append-add, length-take-le, set-split, getD-drop}
+use Rattle.seqs.specs.Tables.{insertAt, removeAt, moveTo}
+use Rattle.seqs.proofs.Tables.{drop-take}
+use Rattle.forms.specs.Bytes.{Bytes, eqBytes, ltBytes, cmp}
+use Rattle.forms.specs.Key.{Key}
+use Rattle.forms.specs.Row.{Row}
+use Rattle.rules.specs.declared.records.Record.{Record}
+use Rattle.rules.specs.Box as box
+use Rattle.rules.specs.declared.records.Kind.the-variants.{Put}
+use Rattle.rules.specs.Calls.{stampedAt, recordFor}
+use Rattle.laws.specs.Places.{howMany, oneMore, linesBefore, pairsBefore, finishedAt, lockPlace, linesOf, those, rowFirst}
+use Rattle.laws.proofs.StepLaws.{and-left, and-right}
+use Rattle.laws.proofs.PlaceLaws.{howMany-le, howMany-ext, insert-place}
+use Rattle.laws.proofs.BoxOrder.{before-trans, before-irrefl, clear-record, ordered-dropLock, ordered-dropRow}
+use Rattle.laws.proofs.KeyLaws.{records-dropLock, lock-gone, row-gone}
+use Rattle.laws.proofs.LinePlaces.{lines-from, lock-at, dropLock-place, linesBefore-dropLock, lock-comes, stampsBelow, record-place}
+use Rattle.laws.proofs.DefaultPlaces.{row-is, dropRow-place, default-comes}
+use Rattle.lines.specs.Looks.{stampLine, recordPlace, pair}
+use Rattle.lines.proofs.OrderLaws.{before-other}
+
+-- ---- lines
+
+pub lock-in-place : (k : Key) (l : box.Lock) (es : List box.KeyLine) → box.ordered box.before es ≡ true → box.lockOf k es ≡ none
+    → box.insertLine (record { key = k; line = box.Standing l }) es ≡ insertAt (linesBefore k es) (record { key = k; line = box.Standing l }) es
+unfolding insertAt
+lock-in-place k l es o h = lock-comes k l es o h
+
+-- only the stamp of a record tells what is before it
+stamp-tells : (k : Key) (w : Record) (e : box.KeyLine) → box.before e (finishedAt k w) ≡ box.before e (stampLine k (w .stamp))
+unfolding box.before
+stamp-tells k w e = go (e .line)
+  where
+    go : (x : box.Line) → box.byOrder (cmp (e .key) k) (box.lineBefore x (box.Finished w)) ≡ box.byOrder (cmp (e .key) k) (box.lineBefore x (stampLine k (w .stamp) .line))
+    go (box.Standing l) = refl
+    go (box.Finished v) = refl
+
+record-place-of : (k : Key) (w : Record) (es : List box.KeyLine) → howMany (λ (e : box.KeyLine). box.before e (finishedAt k w)) es ≡ recordPlace k (w .stamp) es
+record-place-of k w es = howMany-ext (λ (e : box.KeyLine). box.before e (finishedAt k w)) (λ (e : box.KeyLine). box.before e (stampLine k (w .stamp))) (stamp-tells k w) es
+
+pub record-in-place : (k : Key) (w : Record) (es : List box.KeyLine) → box.ordered box.before es ≡ true → stampedAt (w .stamp) (box.recordsOf k es) ≡ none
+    → box.insertLine (finishedAt k w) es ≡ insertAt (recordPlace k (w .stamp) es) (finishedAt k w) es
+unfolding insertAt
+record-in-place k w es o h =
+    insert-place box.before before-trans before-irrefl (finishedAt k w) es (clear-record k w es h) o
+    ∙ ap (λ (n : ℕ). take n es ++ finishedAt k w ∷ drop n es) (record-place-of k w es)
+
+pub record-few : (k : Key) (stamp : ℕ) (es : List box.KeyLine) → recordPlace k stamp es ≤ length es
+record-few k stamp es = howMany-le (λ (e : box.KeyLine). box.before e (stampLine k stamp)) es
+
+pub lines-few : (k : Key) (es : List box.KeyLine) → linesBefore k es ≤ length es
+lines-few k es = howMany-le _ es
+
+abbrev stampRecord : ℕ → Record
+stampRecord stamp = recordFor 0 stamp Put
+
+remove-is : {A : Type 0} (i : ℕ) (l : List A) → take i l ++ drop (suc i) l ≡ removeAt i l
+unfolding removeAt
+remove-is i l = refl
+
+-- an element goes out at i, and x comes in before what stood at j
+insert-removed : {A : Type 0} (i j : ℕ) (x : A) (l : List A) → i < j → j ≤ length l → insertAt (j - 1) x (removeAt i l) ≡ moveTo i j x l
+unfolding insertAt removeAt moveTo
+insert-removed {A} i j x l h k =
+    let a : length (take i l) ≡ i = length-take-le i l (omega arith) in
+    let b : length (take i l) + (j - suc i) ≡ j - 1 = omega arith in
+    let c : suc i + (j - suc i) ≡ j = omega arith in
+    ap₂ (λ (p q : List A). p ++ x ∷ q)
+    (ap (λ (n : ℕ). take n (take i l ++ drop (suc i) l)) (sym b) ∙ take-append-add (take i l) (drop (suc i) l) (j - suc i) ∙ ap (λ (r : List A). take i l ++ r) (sym (drop-take (suc i) j l h)))
+    (ap (λ (n : ℕ). drop n (take i l ++ drop (suc i) l)) (sym b) ∙ drop-append-add (take i l) (drop (suc i) l) (j - suc i) ∙ drop-drop (j - suc i) (suc i) l ∙ ap (λ (n : ℕ). drop n l) c)
+
+module _ (k : Key) (l : box.Lock) (es : List box.KeyLine) (o : box.ordered box.before es ≡ true) (lock : box.lockOf k es ≡ some l) where
+  pub lock-there : linesBefore k es < length es
+  unfolding linesOf
+  lock-there =
+      let e : drop (linesBefore k es) es ≡ linesOf k (some l) (box.recordsOf k es) ++ those (λ (e : box.KeyLine). ltBytes k (e .key)) es
+          = lines-from k es o ∙ ap (λ (q : Option box.Lock). linesOf k q (box.recordsOf k es) ++ those (λ (e : box.KeyLine). ltBytes k (e .key)) es) lock in
+      omega (arith, length-drop (linesBefore k es) es, ap length e)
+
+  pub lock-before : (stamp : ℕ) → linesBefore k es < recordPlace k stamp es
+  lock-before stamp =
+      let e : recordPlace k stamp es ≡ linesBefore k es + (1 + stampsBelow (stampRecord stamp) (box.recordsOf k es))
+          = record-place k (stampRecord stamp) es o ∙ ap (λ (q : Option box.Lock). linesBefore k es + (lockPlace q + stampsBelow (stampRecord stamp) (box.recordsOf k es))) lock in
+      omega arith
+
+  pub ended-in-place : (w : Record) → stampedAt (w .stamp) (box.recordsOf k es) ≡ none
+      → box.insertLine (finishedAt k w) (box.dropLock k es) ≡ moveTo (linesBefore k es) (recordPlace k (w .stamp) es) (finishedAt k w) es
+  ended-in-place w free =
+      record-in-place k w (box.dropLock k es) (ordered-dropLock k es o) (ap (stampedAt (w .stamp)) (records-dropLock k k es) ∙ free)
+      ∙ ap₂ (λ (n : ℕ) (v : List box.KeyLine). insertAt n (finishedAt k w) v) place (dropLock-place k l es o lock ∙ removed)
+      ∙ insert-removed (linesBefore k es) (recordPlace k (w .stamp) es) (finishedAt k w) es (lock-before (w .stamp)) (record-few k (w .stamp) es)
+    where
+      removed : take (linesBefore k es) es ++ drop (suc (linesBefore k es)) es ≡ removeAt (linesBefore k es) es
+      removed = remove-is (linesBefore k es) es
+
+      with-lock : recordPlace k (w .stamp) es ≡ linesBefore k es + (1 + stampsBelow (stampRecord (w .stamp)) (box.recordsOf k es))
+      with-lock = record-place k (stampRecord (w .stamp)) es o ∙ ap (λ (q : Option box.Lock). linesBefore k es + (lockPlace q + stampsBelow (stampRecord (w .stamp)) (box.recordsOf k es))) lock
+
+      without : recordPlace k (w .stamp) (box.dropLock k es) ≡ linesBefore k es + (0 + stampsBelow (stampRecord (w .stamp)) (box.recordsOf k es))
+      without =
+          record-place k (stampRecord (w .stamp)) (box.dropLock k es) (ordered-dropLock k es o)
+          ∙ ap₂ (λ (n : ℕ) (q : Option box.Lock). n + (lockPlace q + stampsBelow (stampRecord (w .stamp)) (box.recordsOf k (box.dropLock k es)))) (linesBefore-dropLock k es) (lock-gone k es o)
+          ∙ ap (λ (ws : List Record). linesBefore k es + (0 + stampsBelow (stampRecord (w .stamp)) ws)) (records-dropLock k k es)
+
+      place : recordPlace k (w .stamp) (box.dropLock k es) ≡ recordPlace k (w .stamp) es - 1
+      place = omega (arith, with-lock, without)
+
+-- ---- defaults
+
+none-some : {A : Type 0} {x : A} → _≡_ {A = Option A} none (some x) → ⊥
+none-some e = let z : _≡_ {A = ℕ} 0 1 = cc in omega arith
+
+pub row-in-place : (d : box.Default) (ds : List box.Default) → box.ordered box.rowBefore ds ≡ true → box.rowOf (d .key) (d .start) ds ≡ none
+    → box.insertDefault d ds ≡ insertAt (pairsBefore (d .key) (d .start) ds) d ds
+unfolding insertAt
+row-in-place d ds o h = default-comes d ds o h
+
+pub rows-few : (k : Key) (s : ℕ) (ds : List box.Default) → pairsBefore k s ds ≤ length ds
+rows-few k s ds = howMany-le _ ds
+
+-- where a row goes, the place of its pair stays
+pairs-dropRow : (k : Key) (s : ℕ) (ds : List box.Default) → pairsBefore k s (box.dropRow k s ds) ≡ pairsBefore k s ds
+unfolding howMany box.dropRow box.unlessRow
+pairs-dropRow k s [] = refl
+pairs-dropRow k s (d ∷ ds) = go (box.atPair k s d) (box.rowBefore d (pair k s)) refl refl (pairs-dropRow k s ds)
+  where
+    go : (t q : Bool) → box.atPair k s d ≡ t → box.rowBefore d (pair k s) ≡ q → pairsBefore k s (box.dropRow k s ds) ≡ pairsBefore k s ds → pairsBefore k s (box.unlessRow t d (box.dropRow k s ds)) ≡ oneMore (box.rowBefore d (pair k s)) (pairsBefore k s ds)
+    go true true e p h = absurd (true≢false (sym e ∙ before-other k s d p))
+    go true false e p h = h ∙ sym (ap (λ (t : Bool). oneMore t (pairsBefore k s ds)) p)
+    go false q e p h = ap (oneMore (box.rowBefore d (pair k s))) h
+
+module _ (k : Key) (s : ℕ) (r : Row) (ds : List box.Default) (o : box.ordered box.rowBefore ds ≡ true) (stored : box.rowOf k s ds ≡ some r) where
+  -- the default at the place of its pair
+  first-row : (v : List box.Default) (d : box.Default) → rowFirst k s v ≡ some r → (0 < length v) × (box.atPair k s (getD v 0 d) ≡ true) × (getD v 0 d .row ≡ r)
+  unfolding rowFirst box.addRow
+  first-row [] d e = absurd (none-some e)
+  first-row (x ∷ xs) d e = go (box.atPair k s x) refl e
+    where
+      go : (t : Bool) → box.atPair k s x ≡ t → box.addRow t (x .row) none ≡ some r → (0 < suc (length xs)) × (box.atPair k s x ≡ true) × (x .row ≡ r)
+      go true p e = (omega arith, p, cc)
+      go false p e = absurd (none-some e)
+
+  pub row-at : (d : box.Default) → (pairsBefore k s ds < length ds) × (box.atPair k s (getD ds (pairsBefore k s ds) d) ≡ true) × (getD ds (pairsBefore k s ds) d .row ≡ r)
+  row-at d =
+      let f = first-row (drop (pairsBefore k s ds) ds) d (sym (row-is k s ds o) ∙ stored) in
+      let z : pairsBefore k s ds + 0 ≡ pairsBefore k s ds = omega arith in
+      let e : getD (drop (pairsBefore k s ds) ds) 0 d ≡ getD ds (pairsBefore k s ds) d = getD-drop (pairsBefore k s ds) ds 0 d ∙ ap (λ (n : ℕ). getD ds n d) z in
+      (omega (arith, f .0, length-drop (pairsBefore k s ds) ds), ap (box.atPair k s) (sym e) ∙ f .1, ap (λ (x : box.Default). x .row) (sym e) ∙ f .2)
+
+  pub dropped-in-place : box.dropRow k s ds ≡ removeAt (pairsBefore k s ds) ds
+  dropped-in-place = dropRow-place k s r ds o stored ∙ remove-is (pairsBefore k s ds) ds
+
+pub swapped-in-place : (d : box.Default) (r : Row) (ds : List box.Default) → box.ordered box.rowBefore ds ≡ true → box.rowOf (d .key) (d .start) ds ≡ some r
+    → box.insertDefault d (box.dropRow (d .key) (d .start) ds) ≡ set ds (pairsBefore (d .key) (d .start) ds) d
+unfolding insertAt
+swapped-in-place d r ds o stored =
+    row-in-place d (box.dropRow (d .key) (d .start) ds) (ordered-dropRow (d .key) (d .start) ds o) (row-gone (d .key) (d .start) ds)
+    ∙ ap₂ (λ (n : ℕ) (v : List box.Default). take n v ++ d ∷ drop n v) (pairs-dropRow (d .key) (d .start) ds) (dropRow-place (d .key) (d .start) r ds o stored)
+    ∙ ap₂ (λ (a b : List box.Default). a ++ d ∷ b) (take-at (take i ds) (drop (suc i) ds) i long) (drop-at (take i ds) (drop (suc i) ds) i long)
+    ∙ sym (set-split ds i d (row-at (d .key) (d .start) r ds o stored d .0))
+  where
+    i : ℕ
+    i = pairsBefore (d .key) (d .start) ds
+
+    long : length (take i ds) ≡ i
+    long = length-take-le i ds (rows-few (d .key) (d .start) ds)

@@ -1,0 +1,7 @@
+// Changes of a store: a line or a default comes, goes or is replaced at its place. For each the store stays built, and shows the box that
+// the definition makes.
+pub mod entries;
+pub mod rows;
+
+pub use entries::{drop_line, end_lock, put_lock, put_record};
+pub use rows::{drop_row, put_row, swap_row};

@@ -1,0 +1,8 @@
+// "Statistics" and "High-water marks": what a store holds, counted in one walk over each of its tables.
+pub mod marks;
+pub mod runs;
+pub mod statistics;
+pub mod walks;
+
+pub use marks::allocator_high_water_marks;
+pub use statistics::stats;

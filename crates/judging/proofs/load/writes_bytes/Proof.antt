@@ -1,0 +1,52 @@
+-- `judging::load::writes_bytes` meets its contract. The loop's invariant: the sum so far with the bytes of the entries still to come is the sum of
+-- all (`Summing` of `SumLaws`). The measure is how many are left.
+-- Assumes nothing.
+use Rattle.rules.specs.Image.{writeFrom}
+use Rattle.images.proofs.WrittenLaws.{written-reads}
+use Rattle.judging.specs.Verdict.{writeBytes}
+use Rattle.judging.proofs.SumLaws.{Summing, summing-start, summing-more, summing-end, written-bytes}
+use borrow.Author.Needs.{needs}
+use native.Mathlib.Omega.{arith}
+use Rattle.judging.proofs.load.writes_bytes.Statement.{statement}
+use Rattle.judging.proofs.load.writes_bytes.Tie as tie
+
+abbrev Inv-loop : tie.InvT-loop
+Inv-loop s from count at₀ left₀ sum₀ at left sum = Summing writeFrom writeBytes s from count at left sum
+
+abbrev μ-loop : tie.MeasureT-loop
+μ-loop s from count at₀ left₀ sum₀ at left sum = left
+
+loop-holds : tie.Need-loop-holds Inv-loop μ-loop
+loop-holds c = summing-start _ _ ((c .before .pre) .0) ((c .before .pre) .1)
+
+write-at-requires : tie.Need-write-at-requires Inv-loop μ-loop
+write-at-requires c κs = search needs
+
+add-sum : tie.Need-add-sum Inv-loop μ-loop
+add-sum c = omega (arith, (c .before .write-at) .ensures .key-small, (c .before .before .before .loop) .inv .small, (c .before .before .before .loop) .inv .few)
+
+sub-left : tie.Need-sub-left Inv-loop μ-loop
+sub-left c = search needs
+
+loop-less : tie.Need-loop-less Inv-loop μ-loop
+loop-less c = search needs
+
+loop-again : tie.Need-loop-again Inv-loop μ-loop
+loop-again c = summing-more ((c .before .before .before .loop) .inv) (written-reads ((c .before .write-at) .ensures)) ((c .before .before .loop-test) .taken) (written-bytes ((c .before .write-at) .ensures)) (omega (arith, (c .before .write-at) .ensures .key-small))
+
+returns : tie.Need-returns Inv-loop μ-loop
+returns c = summing-end ((c .before .loop) .inv) ((c .loop-test) .left)
+
+pub writes-bytes-spec : {M : Type 1} → statement M
+writes-bytes-spec =
+    tie.close
+    (tie.spec
+    Inv-loop
+    μ-loop
+    loop-holds
+    write-at-requires
+    add-sum
+    sub-left
+    loop-less
+    loop-again
+    returns)

@@ -1,0 +1,7 @@
+pub mod HistoryLaws
+pub mod OrderLaws
+pub mod FindLaws
+pub mod SeeLaws
+pub mod LookLaws
+pub mod FreshLaws
+pub mod MadeLaws

@@ -1,0 +1,88 @@
+-- What a store that is built says to a call: its tallies are the box's, its keys are in form, a stretch that lies in the area is a part of it,
+-- and a row that a read sees is the one that the definition's walk shows.
+-- Assumes nothing.
+use Prim.Native.Nat.{ℕ, zero, suc, _+_, _≤_, _<_}
+use native.Mathlib.Omega.{arith}
+use mathlib.Core.Path.{_≡_, refl, sym, ap, _∙_, subst}
+use mathlib.Core.Bool.{Bool, true, false}
+use mathlib.Core.List.{List, [], _∷_}
+use mathlib.Core.Option.{Option}
+use lib.ListN.{length, getD}
+use Rattle.seqs.proofs.Tables.{shown-length, shown-at}
+use Rattle.forms.specs.Bytes.{Bytes, bytesAt}
+use Rattle.forms.specs.Key.{Key, keyForm}
+use Rattle.forms.specs.Row.{Row}
+use Rattle.rules.specs.declared.answers.Answer.the-variants.{No}
+use Rattle.rules.specs.declared.records.Kind.{Kind}
+use Rattle.rules.specs.declared.records.Kind.the-variants.{Put, Delete, Rollback}
+use Rattle.rules.specs.declared.records.Record.{Record}
+use Rattle.rules.specs.Answers.{Reply, nothing, refused}
+use Rattle.rules.specs.Box as box
+use Rattle.rules.specs.Read.{walk, oneRecord, showRow}
+use Rattle.rules.specs.Restore.{allGood}
+use Rattle.rules.specs.Room.{fits, roomFor}
+use Rattle.rules.specs.Sound.{soundRecord}
+use Rattle.rules.proofs.RoomLaws.{fits-out, fits-in}
+use Rattle.laws.proofs.StepLaws.{and-left, and-right}
+use Rattle.lines.specs.declared.store.Store.{Store}
+use Rattle.lines.specs.declared.keys.Newest.{Newest}
+use Rattle.lines.specs.declared.keys.Newest.the-variants as newest
+use Rattle.lines.specs.View.{keyOf, lineOf, defaultOf, boxOf, partOf, noSlot, noHeld}
+use Rattle.lines.specs.Made.{Built, Made}
+use Rattle.lines.specs.Looks.{sees, seesIf, rowSeen}
+use Rattle.lines.proofs.SeeLaws.{part-in}
+
+-- ---- room
+
+module _ {st : Store} {area : Bytes} (b : Built st area) where
+  -- the tallies exceed no limit exactly where the box has room
+  pub room-is : fits (st .load) ≡ roomFor (boxOf st area)
+  unfolding roomFor
+  room-is = ap fits (b .kept .load-is)
+
+  pub made-fits : fits (st .load) ≡ true → Made st area
+  made-fits h = record { built = b; fit = fits-out (st .load) h }
+
+  -- a box with room is that of a made store
+  pub made-room : {x : box.Box} → boxOf st area ≡ x → roomFor x ≡ true → Made st area
+  made-room e h = made-fits (room-is ∙ ap roomFor e ∙ h)
+
+pub room-made : {st : Store} {area : Bytes} → Made st area → roomFor (boxOf st area) ≡ true
+room-made {st} m = sym (room-is (m .built)) ∙ fits-in (st .load) (m .fit)
+
+-- ---- keys
+
+pub good-at : {A : Type 0} (p : A → Bool) (l : List A) (i : ℕ) (d : A) → i < length l → allGood p l ≡ true → p (getD l i d) ≡ true
+unfolding allGood
+good-at p [] i d h g = absurd (omega arith)
+good-at p (x ∷ xs) zero d h g = and-left (p x) (allGood p xs) g
+good-at p (x ∷ xs) (suc i) d h g = good-at p xs i d (omega arith) (and-right (p x) (allGood p xs) g)
+
+module _ {st : Store} {area : Bytes} (b : Built st area) (i : ℕ) where
+  pub line-key : i < st .load .lines → keyForm (keyOf area (getD (st .lines) i noSlot)) ≡ true
+  line-key h =
+      sym (ap (λ (e : box.KeyLine). keyForm (e .key)) (shown-at (b .lines) (lineOf area) i h))
+      ∙ good-at (λ (e : box.KeyLine). keyForm (e .key)) (boxOf st area .lines) i (lineOf area noSlot) (omega (arith, shown-length (b .lines) (lineOf area))) (b .kept .keys .lines)
+
+  pub default-key : i < st .load .defaults → keyForm (defaultOf area (getD (st .defaults) i noHeld) .key) ≡ true
+  default-key h =
+      sym (ap (λ (d : box.Default). keyForm (d .key)) (shown-at (b .defaults) (defaultOf area) i h))
+      ∙ good-at (λ (d : box.Default). keyForm (d .key)) (boxOf st area .defaults) i (defaultOf area noHeld) (omega (arith, shown-length (b .defaults) (defaultOf area))) (b .kept .keys .defaults)
+
+-- ---- a stretch that lies in the area
+
+pub part-is : (area : Bytes) (at len : ℕ) → at + len ≤ length area → partOf area at len ≡ bytesAt area at len
+part-is area at len h = sym (part-in area at len (omega arith) (omega arith))
+
+-- ---- a read
+
+pub walk-sees : (k : Key) (ds : List box.Default) (ws : List Record) → walk k ds ws ≡ rowSeen k ds (sees ws)
+unfolding walk sees oneRecord
+walk-sees k ds [] = refl
+walk-sees k ds (w ∷ ws) = go (soundRecord w) (w .kind) (walk-sees k ds ws)
+  where
+    go : (b : Bool) (kind : Kind) → walk k ds ws ≡ rowSeen k ds (sees ws) → oneRecord b kind (showRow (box.rowOf k (w .start) ds)) (walk k ds ws) ≡ rowSeen k ds (seesIf b kind (w .start) (sees ws))
+    go true Put h = refl
+    go true Delete h = refl
+    go true Rollback h = h
+    go false kind h = refl
