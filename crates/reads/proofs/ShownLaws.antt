@@ -1,0 +1,50 @@
+-- Demand 2's sentence about shown rows, carried to what `read` answers and `row_of` hands back.
+-- Assumes nothing.
+use Prim.Native.Nat.{ℕ}
+use mathlib.Core.Path.{_≡_, refl, sym, ap, _∙_}
+use mathlib.Core.Bool.{true≢false}
+use mathlib.Core.Logic.{_↔_}
+use Rattle.forms.specs.Bytes.{Bytes, bytesAt}
+use Rattle.forms.specs.Row.{Row}
+use Rattle.rules.specs.Answers.{shown}
+use Rattle.rules.specs.Box.{Box}
+use Rattle.rules.specs.Read.{read}
+use Rattle.rules.specs.Shown.{Asked, Shows, NewestPut}
+use Rattle.rules.proofs.ShownRows.{shown-rows}
+use Rattle.lines.specs.View.{boxOf}
+use Rattle.lines.specs.Made.{Made}
+use Rattle.lines.specs.declared.store.Store.{Store}
+use Rattle.reads.specs.declared.seen.Seen.{Seen}
+use Rattle.reads.specs.declared.seen.Seen.the-variants as seen
+use Rattle.reads.specs.Seen.{seenIn}
+use Rattle.reads.specs.Shown.{AskedOf, RowSeen, RowsSeen}
+use Rattle.reads.proofs.PartLaws.{shows-part}
+
+asked : (store : Store) (area key : Bytes) (m : ℕ) → Made store area → AskedOf key m (boxOf store area) → Asked key m (boxOf store area)
+asked store area key m made a = record { valid = a .valid; sound = a .sound; free = a .free; sorted = made .built .kept .sorted }
+
+-- an answer whose reply shows a row is a row
+is-row : (area : Bytes) (s : Seen) (part row : Bytes) → seenIn area s ≡ shown row → part ≡ row → RowSeen s part row
+is-row area seen.Nothing part row e p = absurd (true≢false (cc))
+is-row area (seen.Row at len) part row e p = record { at = at; len = len; answers = refl; hands = p }
+is-row area (seen.Refused a) part row e p = absurd (true≢false (cc))
+
+pub rows-seen : RowsSeen
+rows-seen store area key m s part row made a r p = (out, into)
+  where
+    b : Box
+    b = boxOf store area
+
+    theorem : Shows key m (boxOf store area) row ↔ NewestPut key m (boxOf store area) row
+    theorem = shown-rows key m (boxOf store area) row (asked store area key m made a)
+
+    shows : RowSeen s part row → Shows key m (boxOf store area) row
+    shows q =
+        let e : read key m (boxOf store area) ≡ shown (bytesAt area (q .at) (q .len)) = sym (r .is) ∙ ap (seenIn area) (q .answers) in
+        e ∙ ap shown (sym (shows-part r p e) ∙ q .hands)
+
+    out : RowSeen s part row → NewestPut key m (boxOf store area) row
+    out q = theorem .0 (shows q)
+
+    into : NewestPut key m (boxOf store area) row → RowSeen s part row
+    into n = let e = theorem .1 n in is-row area s part row (r .is ∙ e) (shows-part r p e)

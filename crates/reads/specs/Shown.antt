@@ -1,0 +1,46 @@
+-- Demand 2's sentence about shown rows, said of what the program answers: "with sound records and no lock on the key starting at or before
+-- the moment asked, a valid key shows a row exactly when the newest record by that moment, rollbacks passed over, is a Put whose stored row
+-- decodes, and shows that row." proofs/ShownLaws.antt has the law.
+-- Assumes nothing.
+use Prim.Native.Nat.{ℕ, _<_}
+use mathlib.Core.Path.{_≡_}
+use mathlib.Core.Bool.{true}
+use mathlib.Core.Logic.{_↔_}
+use mathlib.Core.Option.{some}
+use Rattle.forms.specs.Bytes.{Bytes}
+use Rattle.forms.specs.Key.{Key, keyForm}
+use Rattle.forms.specs.Row.{Row}
+use Rattle.rules.specs.Box.{Box, Lock, recordsOf, lockOf}
+use Rattle.rules.specs.Sound.{allSound}
+use Rattle.rules.specs.Read.{read}
+use Rattle.rules.specs.Shown.{NewestPut}
+use Rattle.lines.specs.View.{boxOf}
+use Rattle.lines.specs.Made.{Made}
+use Rattle.lines.specs.declared.store.Store.{Store}
+use Rattle.reads.specs.declared.seen.Seen.{Seen}
+use Rattle.reads.specs.declared.seen.Seen.the-variants as seen
+use Rattle.reads.specs.Seen.{SeenAs}
+use Rattle.reads.specs.Parts.{RowPart}
+
+-- "with sound records and no lock on the key starting at or before the moment asked, a valid key"
+pub record AskedOf (key : Key) (moment : ℕ) (b : Box) : Type 0 where
+  pub valid : keyForm key ≡ true
+  pub sound : allSound (recordsOf key (b .lines)) ≡ true
+  pub free : (l : Lock) → lockOf key (b .lines) ≡ some l → moment < l .start
+
+-- the answer is a row, and that row is the part that it hands back
+pub record RowSeen (s : Seen) (part : Bytes) (row : Row) : Type 0 where
+  pub at : ℕ
+  pub len : ℕ
+  pub answers : s ≡ seen.Row at len
+  pub hands : part ≡ row
+
+-- the sentence: `s` is what `read` answers, `part` what `row_of` hands back of it
+abbrev pub RowsSeen : Type 0
+RowsSeen =
+    (store : Store) (area key : Bytes) (moment : ℕ) (s : Seen) (part : Bytes) (row : Row)
+    → Made store area
+    → AskedOf key moment (boxOf store area)
+    → SeenAs (read key moment (boxOf store area)) area s
+    → RowPart area s part
+    → RowSeen s part row ↔ NewestPut key moment (boxOf store area) row

@@ -1,0 +1,15 @@
+// Reading one key: the row that it shows at a moment, and the lock that stands in the way of such a read. Nothing here changes the store.
+// What is shown is handed back as a stretch of the store's own bytes.
+pub mod locks;
+pub mod parts;
+pub mod rows;
+pub mod seen;
+
+pub use locks::intent_for_read;
+pub use locks::lock_sound;
+pub use parts::primary_of;
+pub use parts::row_of;
+pub use rows::read;
+pub use rows::read_key;
+pub use seen::Pointed;
+pub use seen::Seen;

@@ -1,0 +1,3 @@
+pub mod Put
+pub mod Payloads
+pub mod Answers

@@ -1,0 +1,4 @@
+pub mod OpLaws
+pub mod ArgumentLaws
+pub mod ArgsLaws
+pub mod WalkLaws

@@ -1,0 +1,17 @@
+-- `traces::op::known_op` meets its contract: the list that it looks through is the definition's, whatever ops it holds.
+-- Assumes nothing.
+use borrow.Author.Needs.{needs}
+use Rattle.traces.proofs.op.known_op.Statement.{statement}
+use Rattle.traces.proofs.op.known_op.Tie as tie
+
+slice-aggregate-is-in : tie.Need-slice-aggregate-is-in
+slice-aggregate-is-in c = search needs
+
+is-in-requires : tie.Need-is-in-requires
+is-in-requires c κs = search needs
+
+returns : tie.Need-returns
+returns c = c .is-in .ensures
+
+pub known-op-spec : {M : Type 1} → statement M
+known-op-spec = tie.close (tie.spec slice-aggregate-is-in is-in-requires returns)

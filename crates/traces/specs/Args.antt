@@ -1,0 +1,124 @@
+-- What the code finds of a call's arguments: the call that its numbers and places say, and where those lie.
+-- Assumes nothing.
+use Prim.Native.Nat.{ℕ, _+_, _≤_, _<_}
+use mathlib.Core.Path.{_≡_}
+use mathlib.Core.Bool.{Bool, false}
+use mathlib.Core.Option.{Option, none}
+use mathlib.Core.List.{[]}
+use lib.ListN.{length, drop}
+use lib.Dec.{ltb}
+use Rattle.forms.specs.Bytes.{Bytes, bytesAt}
+use Rattle.forms.specs.Readers.{Reader, _>>=_, just, when, whole}
+use Rattle.forms.specs.Key.{Key}
+use Rattle.rules.specs.declared.records.Kind.{Kind}
+use Rattle.rules.specs.declared.records.Kind.the-variants.{Delete}
+use Rattle.traces.specs.declared.op.Op.{Op}
+use Rattle.traces.specs.declared.shape.Shape.{Shape}
+use Rattle.traces.specs.declared.args.Args.{Args}
+use Rattle.traces.specs.Arguments.{number, kind, text, bound, buffer, remaining}
+use Rattle.traces.specs.Calls.{Call, call}
+use Rattle.traces.specs.Places.{given, kindOf}
+
+-- a call from its arguments, of which each takes its own
+abbrev pub callBy : Op → (one two three : ℕ) → Kind → (primary key row : Bytes) → (from to resume : Option Key) → (buffer : ℕ) → (rest : Bytes) → Call
+callBy Op.Read a b c d p k r f t u n s = Call.Read a k
+callBy Op.Page a b c d p k r f t u n s = Call.Page a (record { rows = b; bytes = c }) (record { from = f; to = t; resume = u }) n
+callBy Op.IntentPage a b c d p k r f t u n s = Call.IntentPage a (record { from = f; to = t; resume = u }) n
+callBy Op.ConflictingIntents a b c d p k r f t u n s = Call.ConflictingIntents a (record { rows = b; bytes = c }) (record { from = f; to = t; resume = u }) n
+callBy Op.OneIntent a b c d p k r f t u n s = Call.OneIntent a k
+callBy Op.Prewrite a b c d p k r f t u n s = Call.Prewrite (record { txn = a; start = b; primary = p; ttl = c }) d k r
+callBy Op.PrewriteBatch a b c d p k r f t u n s = Call.PrewriteBatch (record { txn = a; start = b; primary = p; ttl = c }) s
+callBy Op.Commit a b c d p k r f t u n s = Call.Commit (record { txn = a; start = b; commit = c }) k
+callBy Op.CommitBatch a b c d p k r f t u n s = Call.CommitBatch (record { txn = a; start = b; commit = c }) s
+callBy Op.Rollback a b c d p k r f t u n s = Call.Rollback a b k
+callBy Op.RollbackBatch a b c d p k r f t u n s = Call.RollbackBatch a b s
+callBy Op.OneStep a b c d p k r f t u n s = Call.OneStep (record { txn = a; start = b; commit = c }) s
+callBy Op.Restore a b c d p k r f t u n s = Call.Restore s
+callBy Op.Statistics a b c d p k r f t u n s = Call.Statistics
+callBy Op.Marks a b c d p k r f t u n s = Call.Marks
+
+-- the arguments that a shape names, in their order
+unfoldable pub shaped : Shape → Reader Call
+shaped w = do
+  a ← given (ltb 0 (w .numbers)) number 0
+  b ← given (ltb 1 (w .numbers)) number 0
+  c ← given (ltb 2 (w .numbers)) number 0
+  d ← given (w .kind) kind Delete
+  p ← given (w .primary) text []
+  k ← given (w .key) text []
+  r ← given (w .row) text []
+  f ← given (w .page) bound none
+  t ← given (w .page) bound none
+  u ← given (w .page) bound none
+  n ← given (w .page) buffer 0
+  s ← given (w .rest) remaining []
+  just (callBy (w .op) a b c d p k r f t u n s)
+
+-- ---- what the numbers and places say
+
+abbrev pub boundOf : Bytes → Bool → ℕ → ℕ → Option Key
+boundOf s present at len = when present (bytesAt s at len)
+
+-- read as the arguments of an op
+abbrev pub callAs : Op → Bytes → Args → Call
+callAs op s a =
+    callBy op (a .one) (a .two) (a .three) (kindOf (a .put))
+    (bytesAt s (a .primaryat) (a .primarylen))
+    (bytesAt s (a .keyat) (a .keylen))
+    (bytesAt s (a .rowat) (a .rowlen))
+    (boundOf s (a .from) (a .fromat) (a .fromlen))
+    (boundOf s (a .to) (a .toat) (a .tolen))
+    (boundOf s (a .resume) (a .resumeat) (a .resumelen))
+    (a .buffer)
+    (bytesAt s (a .restat) (a .restlen))
+
+abbrev pub callOf : Bytes → Args → Call
+callOf s a = callAs (a .op) s a
+
+-- where they lie
+pub record ArgsIn (s : Bytes) (a : Args) : Type 0 where
+  pub primary : a .primaryat + a .primarylen ≤ length s
+  pub key : a .keyat + a .keylen ≤ length s
+  pub row : a .rowat + a .rowlen ≤ length s
+  pub from : a .fromat + a .fromlen ≤ length s
+  pub to : a .toat + a .tolen ≤ length s
+  pub resume : a .resumeat + a .resumelen ≤ length s
+  pub rest : a .restat + a .restlen ≤ length s
+  pub buffer : a .buffer < 65536
+
+pub record ArgsFor (s : Bytes) (w : Shape) (r : Args) : Type 0 where
+  pub is : whole (shaped w) (drop 1 s) ≡ when (r .ok) (callOf s r)
+  pub places : ArgsIn s r
+
+-- the bytes are a call in form, and this one; or they are none
+pub record ArgsOf (s : Bytes) (r : Args) : Type 0 where
+  pub is : call s ≡ when (r .ok) (callOf s r)
+  pub places : ArgsIn s r
+
+abbrev pub noArgs : Args
+noArgs = record {
+  ok = false;
+  op = Op.Read;
+  one = 0;
+  two = 0;
+  three = 0;
+  put = false;
+  primaryat = 0;
+  primarylen = 0;
+  keyat = 0;
+  keylen = 0;
+  rowat = 0;
+  rowlen = 0;
+  from = false;
+  fromat = 0;
+  fromlen = 0;
+  to = false;
+  toat = 0;
+  tolen = 0;
+  resume = false;
+  resumeat = 0;
+  resumelen = 0;
+  buffer = 0;
+  restat = 0;
+  restlen = 0;
+}

@@ -1,0 +1,61 @@
+-- docs/TRACE.md, the table of calls: its op bytes, and which of the calls exist. A call that does not exist yet has no line in `knownOps`,
+-- here and in src/op.rt: its op is unknown.
+-- Assumes nothing.
+use Prim.Native.Nat.{ℕ}
+use mathlib.Core.Bool.{Bool, true, false, _||_}
+use mathlib.Core.List.{List, [], _∷_}
+use mathlib.Core.Option.{Option, none, some}
+use lib.Dec.{eqb}
+use Rattle.traces.specs.declared.op.Op.{Op}
+
+abbrev pub knownOps : List ℕ
+knownOps =
+    1 ∷  -- read
+    2 ∷  -- page
+    3 ∷  -- intent page
+    4 ∷  -- conflicting intents
+    5 ∷  -- one intent at a point
+    6 ∷  -- prewrite
+    7 ∷  -- prewrite of a batch
+    8 ∷  -- commit
+    9 ∷  -- commit of a key batch
+    10 ∷  -- rollback
+    11 ∷  -- rollback of a key batch
+    12 ∷  -- one-step batch
+    32 ∷  -- restore
+    33 ∷  -- statistics
+    34 ∷  -- high-water marks
+    []
+
+unfoldable pub isIn : ℕ → List ℕ → Bool
+isIn x [] = false
+isIn x (y ∷ ys) = eqb x y || isIn x ys
+
+abbrev pub knownOp : ℕ → Bool
+knownOp b = isIn b knownOps
+
+-- ---- the op byte of each call
+
+infixr 10 _⇒_else_
+abbrev pub _⇒_else_ : Bool → Op → Option Op → Option Op
+true ⇒ op else other = some op
+false ⇒ op else other = other
+
+unfoldable pub opOf : ℕ → Option Op
+opOf b =
+    eqb b 1 ⇒ Op.Read else
+    eqb b 2 ⇒ Op.Page else
+    eqb b 3 ⇒ Op.IntentPage else
+    eqb b 4 ⇒ Op.ConflictingIntents else
+    eqb b 5 ⇒ Op.OneIntent else
+    eqb b 6 ⇒ Op.Prewrite else
+    eqb b 7 ⇒ Op.PrewriteBatch else
+    eqb b 8 ⇒ Op.Commit else
+    eqb b 9 ⇒ Op.CommitBatch else
+    eqb b 10 ⇒ Op.Rollback else
+    eqb b 11 ⇒ Op.RollbackBatch else
+    eqb b 12 ⇒ Op.OneStep else
+    eqb b 32 ⇒ Op.Restore else
+    eqb b 33 ⇒ Op.Statistics else
+    eqb b 34 ⇒ Op.Marks else
+    none

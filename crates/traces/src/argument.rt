@@ -1,0 +1,243 @@
+// The arguments of a call, one after the other. Each function goes on at the place where the one before it ended, and refuses where that
+// refused; an argument that the call has not is passed over.
+ghost use mathlib.Core.Path.{_≡_};
+ghost use Prim.Native.Nat.{_≤_};
+ghost use lib.ListN.{length};
+ghost use Rattle.forms.specs.Numbers.{widthOf};
+ghost use Rattle.rules.specs.declared.records.Kind.the-variants.{Delete};
+ghost use Rattle.traces.specs.Arguments.{kind, text, remaining};
+ghost use Rattle.traces.specs.Places.{Goes, ValueAt, TextAt, BoundAt, kindOf, noFlag, noText, noBound};
+use forms::Width;
+use forms::bytes_in;
+use forms::number_at;
+
+pub struct Value {
+    pub ok: bool,
+    pub value: u64,
+    pub next: usize,
+}
+
+pub(crate) fn number_from(s: &[u8], before: bool, at: usize, width: Width, wanted: bool) -> Value
+    requires { ⌜ at ≤ length (now s) ⌝ }
+    ensures { λ r. ⌜ ValueAt wanted (widthOf width) (now (s .entry)) before at r ⌝ }
+{
+    if !before {
+        return Value {
+            ok: false,
+            value: 0,
+            next: 0,
+        };
+    }
+    if !wanted {
+        return Value {
+            ok: true,
+            value: 0,
+            next: at,
+        };
+    }
+    let n = number_at(s, at, width);
+    if !n.ok {
+        return Value {
+            ok: false,
+            value: 0,
+            next: 0,
+        };
+    }
+    let w = bytes_in(width);
+    Value {
+        ok: true,
+        value: n.value,
+        next: at + w,
+    }
+}
+
+// "1 Put, 2 Delete"
+pub struct Flag {
+    pub ok: bool,
+    pub put: bool,
+    pub next: usize,
+}
+
+fn no_flag() -> Flag
+    ensures { λ r. ⌜ r ≡ noFlag ⌝ }
+{
+    Flag {
+        ok: false,
+        put: false,
+        next: 0,
+    }
+}
+
+pub(crate) fn kind_from(s: &[u8], before: bool, at: usize, wanted: bool) -> Flag
+    requires { ⌜ at ≤ length (now s) ⌝ }
+    ensures { λ r. ⌜ Goes wanted kind Delete (now (s .entry)) before at (r .ok) (kindOf (r .put)) (r .next) ⌝ }
+{
+    if !before {
+        return no_flag();
+    }
+    if !wanted {
+        return Flag {
+            ok: true,
+            put: false,
+            next: at,
+        };
+    }
+    if s.len() <= at {
+        return no_flag();
+    }
+    if s[at] == 1 {
+        return Flag {
+            ok: true,
+            put: true,
+            next: at + 1,
+        };
+    }
+    if s[at] == 2 {
+        return Flag {
+            ok: true,
+            put: false,
+            next: at + 1,
+        };
+    }
+    no_flag()
+}
+
+// Where the bytes of a key, a primary, a row or the rest lie.
+pub struct Text {
+    pub ok: bool,
+    pub at: usize,
+    pub len: usize,
+    pub next: usize,
+}
+
+fn no_text() -> Text
+    ensures { λ r. ⌜ r ≡ noText ⌝ }
+{
+    Text {
+        ok: false,
+        at: 0,
+        len: 0,
+        next: 0,
+    }
+}
+
+// "a 2-byte length, then that many bytes of any value"
+pub(crate) fn text_from(s: &[u8], before: bool, at: usize, wanted: bool) -> Text
+    requires { ⌜ at ≤ length (now s) ⌝ }
+    ensures { λ r. ⌜ TextAt wanted text (now (s .entry)) before at r ⌝ }
+{
+    if !before {
+        return no_text();
+    }
+    if !wanted {
+        return Text {
+            ok: true,
+            at: 0,
+            len: 0,
+            next: at,
+        };
+    }
+    let n = number_at(s, at, Width::Two);
+    if !n.ok {
+        return no_text();
+    }
+    let a = at + 2;
+    let len = n.value as usize;
+    if s.len() - a < len {
+        return no_text();
+    }
+    Text {
+        ok: true,
+        at: a,
+        len,
+        next: a + len,
+    }
+}
+
+// "the rest of the call, any bytes"
+pub(crate) fn rest_from(s: &[u8], before: bool, at: usize, wanted: bool) -> Text
+    requires { ⌜ at ≤ length (now s) ⌝ }
+    ensures { λ r. ⌜ TextAt wanted remaining (now (s .entry)) before at r ⌝ }
+{
+    if !before {
+        return no_text();
+    }
+    if !wanted {
+        return Text {
+            ok: true,
+            at: 0,
+            len: 0,
+            next: at,
+        };
+    }
+    Text {
+        ok: true,
+        at,
+        len: s.len() - at,
+        next: s.len(),
+    }
+}
+
+pub struct Bound {
+    pub ok: bool,
+    pub present: bool,
+    pub at: usize,
+    pub len: usize,
+    pub next: usize,
+}
+
+fn no_bound() -> Bound
+    ensures { λ r. ⌜ r ≡ noBound ⌝ }
+{
+    Bound {
+        ok: false,
+        present: false,
+        at: 0,
+        len: 0,
+        next: 0,
+    }
+}
+
+// "a flag byte: 0 absent; 1 present, then a key"
+pub(crate) fn bound_from(s: &[u8], before: bool, at: usize, wanted: bool) -> Bound
+    requires { ⌜ at ≤ length (now s) ⌝ }
+    ensures { λ r. ⌜ BoundAt wanted (now (s .entry)) before at r ⌝ }
+{
+    if !before {
+        return no_bound();
+    }
+    if !wanted {
+        return Bound {
+            ok: true,
+            present: false,
+            at: 0,
+            len: 0,
+            next: at,
+        };
+    }
+    if s.len() <= at {
+        return no_bound();
+    }
+    let b = s[at];
+    let f = at + 1;
+    if b == 0 {
+        return Bound {
+            ok: true,
+            present: false,
+            at: 0,
+            len: 0,
+            next: f,
+        };
+    }
+    if b == 1 {
+        let t = text_from(s, true, f, true);
+        return Bound {
+            ok: t.ok,
+            present: true,
+            at: t.at,
+            len: t.len,
+            next: t.next,
+        };
+    }
+    no_bound()
+}

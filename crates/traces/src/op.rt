@@ -1,0 +1,60 @@
+// The op bytes of the table of calls, and which of the calls exist. A call that does not exist yet has no line in known_op, here and in
+// specs/Ops.antt: its op is unknown, and a trace that holds it is out of form.
+ghost use mathlib.Core.Path.{_≡_};
+ghost use Rattle.traces.specs.Ops.{knownOp, isIn};
+
+// The calls, by their names in the table.
+pub enum Op {
+    Read,
+    Page,
+    IntentPage,
+    ConflictingIntents,
+    OneIntent,
+    Prewrite,
+    PrewriteBatch,
+    Commit,
+    CommitBatch,
+    Rollback,
+    RollbackBatch,
+    OneStep,
+    Restore,
+    Statistics,
+    Marks,
+}
+
+fn is_in(x: u8, list: &[u8]) -> bool
+    ensures { λ r. ⌜ r ≡ isIn x (now (list .entry)) ⌝ }
+{
+    let mut i: usize = 0;
+    while i < list.len() {
+        if x == list[i] {
+            return true;
+        }
+        i += 1;
+    }
+    false
+}
+
+// Whether the call of an op byte exists.
+pub fn known_op(byte: u8) -> bool
+    ensures { λ r. ⌜ r ≡ knownOp byte ⌝ }
+{
+    let known = [
+        1u8, // read
+        2, // page
+        3, // intent page
+        4, // conflicting intents
+        5, // one intent at a point
+        6, // prewrite
+        7, // prewrite of a batch
+        8, // commit
+        9, // commit of a key batch
+        10, // rollback
+        11, // rollback of a key batch
+        12, // one-step batch
+        32, // restore
+        33, // statistics
+        34, // high-water marks
+    ];
+    is_in(byte, &known)
+}

@@ -1,0 +1,110 @@
+// Which arguments each call has. Where a call has several, they stand in the order of the fields here: numbers, kind, primary, key, row,
+// the three bounds and the buffer's length, the rest.
+ghost use mathlib.Core.Path.{_≡_};
+ghost use Rattle.traces.specs.Ops.{opOf};
+ghost use Rattle.traces.specs.Shapes.{shapeBy, noShape, withKey, withPage, withRest};
+use crate::op::Op;
+
+// Not ok where no call has the op byte.
+pub struct Shape {
+    pub ok: bool,
+    pub op: Op,
+    pub numbers: u8,
+    pub kind: bool,
+    pub primary: bool,
+    pub key: bool,
+    pub row: bool,
+    pub page: bool,
+    pub rest: bool,
+}
+
+fn no_shape() -> Shape
+    ensures { λ r. ⌜ r ≡ noShape ⌝ }
+{
+    Shape {
+        ok: false,
+        op: Op::Read,
+        numbers: 0,
+        kind: false,
+        primary: false,
+        key: false,
+        row: false,
+        page: false,
+        rest: false,
+    }
+}
+
+// Numbers, then a key; a prewrite has its kind and primary before it and its row after it.
+fn with_key(op: Op, numbers: u8, prewrite: bool) -> Shape
+    ensures { λ r. ⌜ r ≡ withKey op numbers prewrite ⌝ }
+{
+    Shape {
+        ok: true,
+        op,
+        numbers,
+        kind: prewrite,
+        primary: prewrite,
+        key: true,
+        row: prewrite,
+        page: false,
+        rest: false,
+    }
+}
+
+// Numbers, then the bounds and the buffer of a page.
+fn with_page(op: Op, numbers: u8) -> Shape
+    ensures { λ r. ⌜ r ≡ withPage op numbers ⌝ }
+{
+    Shape {
+        ok: true,
+        op,
+        numbers,
+        kind: false,
+        primary: false,
+        key: false,
+        row: false,
+        page: true,
+        rest: false,
+    }
+}
+
+// Numbers, and the primary if there is one, then the rest of the call if it is an argument.
+fn with_rest(op: Op, numbers: u8, primary: bool, rest: bool) -> Shape
+    ensures { λ r. ⌜ r ≡ withRest op numbers primary rest ⌝ }
+{
+    Shape {
+        ok: true,
+        op,
+        numbers,
+        kind: false,
+        primary,
+        key: false,
+        row: false,
+        page: false,
+        rest,
+    }
+}
+
+// The table of calls: the op byte, and the arguments.
+pub(crate) fn shape_of(byte: u8) -> Shape
+    ensures { λ r. ⌜ r ≡ shapeBy (opOf byte) ⌝ }
+{
+    match byte {
+        1 => with_key(Op::Read, 1, false),
+        2 => with_page(Op::Page, 3),
+        3 => with_page(Op::IntentPage, 1),
+        4 => with_page(Op::ConflictingIntents, 3),
+        5 => with_key(Op::OneIntent, 1, false),
+        6 => with_key(Op::Prewrite, 3, true),
+        7 => with_rest(Op::PrewriteBatch, 3, true, true),
+        8 => with_key(Op::Commit, 3, false),
+        9 => with_rest(Op::CommitBatch, 3, false, true),
+        10 => with_key(Op::Rollback, 2, false),
+        11 => with_rest(Op::RollbackBatch, 2, false, true),
+        12 => with_rest(Op::OneStep, 3, false, true),
+        32 => with_rest(Op::Restore, 0, false, true),
+        33 => with_rest(Op::Statistics, 0, false, false),
+        34 => with_rest(Op::Marks, 0, false, false),
+        _ => no_shape(),
+    }
+}
