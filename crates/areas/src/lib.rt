@@ -3,4 +3,5 @@ pub mod bytes;
 pub mod packing;
 
 pub use bytes::append;
-pub use packing::{make_place, repack};
+pub use packing::make_place;
+pub use packing::repack;

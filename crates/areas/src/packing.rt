@@ -3,7 +3,11 @@ ghost use Prim.Native.Nat.{_≤_};
 ghost use Rattle.lines.specs.Made.{Made};
 ghost use Rattle.areas.specs.Packs.{IntentAsks, IntentPacked, SlotAsks, SlotPacked, HeldAsks, HeldPacked, LinesAsks, LinesPacked, DefaultsAsks, DefaultsPacked, Repacked, Placed};
 use crate::bytes::append;
-use lines::{Held, Intent, Line, Slot, Store};
+use lines::Held;
+use lines::Intent;
+use lines::Line;
+use lines::Slot;
+use lines::Store;
 
 fn pack_intent(i: Intent, area: &[u8], into: &mut [u8], top: usize) -> Intent
     requires { ⌜ IntentAsks i (now area) (now into) top ⌝ }

@@ -114,8 +114,8 @@ module _ {st : Store} {area area′ : Bytes} {top′ i k : ℕ} {m : Store} (b :
           → Leaves new top′ (lineStore st (inserted i (st .load .lines) s (st .lines)) (st .defaults) locks bytes top′) area′
       there =
           subst (λ (x : box.Box). box.insertLine e (x .lines) ≡ insertAt i e (x .lines)
-              → Kept (record { lines = box.insertLine e (x .lines); defaults = x .defaults }) (record { lines = st .load .lines + 1; locks = locks; defaults = st .load .defaults; bytes = bytes })
-              → Leaves (record { lines = box.insertLine e (x .lines); defaults = x .defaults }) top′ (lineStore st (inserted i (st .load .lines) s (st .lines)) (st .defaults) locks bytes top′) area′) (g .shows)
+          → Kept (record { lines = box.insertLine e (x .lines); defaults = x .defaults }) (record { lines = st .load .lines + 1; locks = locks; defaults = st .load .defaults; bytes = bytes })
+          → Leaves (record { lines = box.insertLine e (x .lines); defaults = x .defaults }) top′ (lineStore st (inserted i (st .load .lines) s (st .lines)) (st .defaults) locks bytes top′) area′) (g .shows)
           (λ place k′. line-in (g .built) p q few room place live k′)
 
 -- ---- `put_lock`

@@ -106,8 +106,8 @@ module _ {st : Store} {area key row : Bytes} {place start : ℕ} (asks : RowAsks
     put : Leaves (withRow (boxOf st area) d) top′ after area′
     put =
         subst (λ (x : box.Box). box.insertDefault d (x .defaults) ≡ insertAt place d (x .defaults)
-            → Kept (withRow x d) (record { lines = st .load .lines; locks = st .load .locks; defaults = st .load .defaults + 1; bytes = st .load .bytes + length key + length row })
-            → Leaves (withRow x d) top′ after area′) (g .shows)
+        → Kept (withRow x d) (record { lines = st .load .lines; locks = st .load .locks; defaults = st .load .defaults + 1; bytes = st .load .bytes + length key + length row })
+        → Leaves (withRow x d) top′ after area′) (g .shows)
         (λ p k. default-in (g .built) (record { key-below = omega arith; row-below = omega arith; in-use = refl }) (ap₂ (λ (a b : Bytes). record { key = a; start = start; row = b }) (tw .first) (tw .second)) row-low (asks .slot-free) p (omega (arith, asks .built .live-in)) k)
         place-is (kept-row (asks .built .kept) d (asks .form) (asks .free))
 
@@ -210,8 +210,8 @@ module _ {st : Store} {area key row : Bytes} {place start : ℕ} (asks : SwapAsk
   row-swapped {area′} ap′ =
       subst (λ (n : ℕ). Leaves (swapped (boxOf st area) new) (st .top + length row) (after n) area′) (row-size drops)
       (subst (λ (x : box.Box). box.insertDefault new (box.dropRow key start (x .defaults)) ≡ set (x .defaults) place new
-          → Kept (swapped x new) (record { lines = st .load .lines; locks = st .load .locks; defaults = st .load .defaults; bytes = st .load .bytes - length (row-of drops .0) + length row })
-          → Leaves (swapped x new) (st .top + length row) (after (length (row-of drops .0))) area′) (g .shows)
+      → Kept (swapped x new) (record { lines = st .load .lines; locks = st .load .locks; defaults = st .load .defaults; bytes = st .load .bytes - length (row-of drops .0) + length row })
+      → Leaves (swapped x new) (st .top + length row) (after (length (row-of drops .0))) area′) (g .shows)
       (λ p k. default-set (g .built) (record { key-below = omega (arith, below drops .key-below); row-below = omega arith; in-use = refl }) shows-new (row-there drops) p live k)
       place-is (kept-swapped (asks .built .kept) new (row-of drops .0) (form drops) (row-of drops .1)))
     where

@@ -83,13 +83,13 @@ module _ (k : Key) (l : box.Lock) (es : List box.KeyLine) (o : box.ordered box.b
   unfolding linesOf
   lock-there =
       let e : drop (linesBefore k es) es ≡ linesOf k (some l) (box.recordsOf k es) ++ those (λ (e : box.KeyLine). ltBytes k (e .key)) es
-          = lines-from k es o ∙ ap (λ (q : Option box.Lock). linesOf k q (box.recordsOf k es) ++ those (λ (e : box.KeyLine). ltBytes k (e .key)) es) lock in
+      = lines-from k es o ∙ ap (λ (q : Option box.Lock). linesOf k q (box.recordsOf k es) ++ those (λ (e : box.KeyLine). ltBytes k (e .key)) es) lock in
       omega (arith, length-drop (linesBefore k es) es, ap length e)
 
   pub lock-before : (stamp : ℕ) → linesBefore k es < recordPlace k stamp es
   lock-before stamp =
       let e : recordPlace k stamp es ≡ linesBefore k es + (1 + stampsBelow (stampRecord stamp) (box.recordsOf k es))
-          = record-place k (stampRecord stamp) es o ∙ ap (λ (q : Option box.Lock). linesBefore k es + (lockPlace q + stampsBelow (stampRecord stamp) (box.recordsOf k es))) lock in
+      = record-place k (stampRecord stamp) es o ∙ ap (λ (q : Option box.Lock). linesBefore k es + (lockPlace q + stampsBelow (stampRecord stamp) (box.recordsOf k es))) lock in
       omega arith
 
   pub ended-in-place : (w : Record) → stampedAt (w .stamp) (box.recordsOf k es) ≡ none

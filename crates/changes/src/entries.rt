@@ -7,9 +7,14 @@ ghost use Rattle.lines.specs.Made.{Built};
 ghost use Rattle.areas.specs.Areas.{locksOf, primarySize};
 ghost use Rattle.changes.specs.Changes.{LockAsks, RecordAsks, EndAsks, Leaves, withLock, withRecord, ended, withoutLine};
 use areas::append;
+use lines::Intent;
+use lines::Line;
+use lines::Slot;
+use lines::Store;
 use lines::store::no_slot;
-use lines::{Intent, Line, Slot, Store};
-use rules::{Kind, Load, Record};
+use rules::Kind;
+use rules::Load;
+use rules::Record;
 
 // "a lock with the call's fields and the entry's kind", at the key's first place
 pub fn put_lock(
@@ -119,7 +124,14 @@ fn primary_size(line: Line) -> usize
 }
 
 // A record takes the place of the key's lock: the lock at `first` goes, and the record stands before the line that was at `place`.
-pub fn end_lock(store: Store, area: &[u8], first: usize, place: usize, key: &[u8], w: Record) -> Store
+pub fn end_lock(
+    store: Store,
+    area: &[u8],
+    first: usize,
+    place: usize,
+    key: &[u8],
+    w: Record,
+) -> Store
     requires { ⌜ EndAsks store (now area) first place (now key) w ⌝ }
     ensures { λ r. ⌜ Leaves (ended (boxOf store (now (area .entry))) (now (key .entry)) w) (store .top) r (now (area .entry)) ⌝ }
 {

@@ -3,5 +3,10 @@
 pub mod entries;
 pub mod rows;
 
-pub use entries::{drop_line, end_lock, put_lock, put_record};
-pub use rows::{drop_row, put_row, swap_row};
+pub use entries::drop_line;
+pub use entries::end_lock;
+pub use entries::put_lock;
+pub use entries::put_record;
+pub use rows::drop_row;
+pub use rows::put_row;
+pub use rows::swap_row;

@@ -4,12 +4,20 @@ ghost use lib.ListN.{length};
 ghost use Rattle.lines.specs.View.{boxOf};
 ghost use Rattle.changes.specs.Changes.{RowAsks, SwapAsks, DropAsks, Leaves, withRow, swapped, withoutRow};
 use areas::append;
+use lines::Held;
+use lines::Store;
 use lines::store::no_held;
-use lines::{Held, Store};
 use rules::Load;
 
 // "a Put's row is stored at this start"
-pub fn put_row(store: Store, area: &mut [u8], place: usize, key: &[u8], start: u64, row: &[u8]) -> Store
+pub fn put_row(
+    store: Store,
+    area: &mut [u8],
+    place: usize,
+    key: &[u8],
+    start: u64,
+    row: &[u8],
+) -> Store
     requires { ⌜ RowAsks store (now area) place (now key) start (now row) ⌝ }
     ensures { λ r. ⌜ Leaves (withRow (boxOf store (now (area .entry))) (record { key = now (key .entry); start = start; row = now (row .entry) })) (store .top + length (now (key .entry)) + length (now (row .entry))) r (now (area .exit)) ⌝ }
 {
@@ -48,7 +56,14 @@ pub fn put_row(store: Store, area: &mut [u8], place: usize, key: &[u8], start: u
 }
 
 // "replaces one already stored at this start"
-pub fn swap_row(store: Store, area: &mut [u8], place: usize, key: &[u8], start: u64, row: &[u8]) -> Store
+pub fn swap_row(
+    store: Store,
+    area: &mut [u8],
+    place: usize,
+    key: &[u8],
+    start: u64,
+    row: &[u8],
+) -> Store
     requires { ⌜ SwapAsks store (now area) place (now key) start (now row) ⌝ }
     ensures { λ r. ⌜ Leaves (swapped (boxOf store (now (area .entry))) (record { key = now (key .entry); start = start; row = now (row .entry) })) (store .top + length (now (row .entry))) r (now (area .exit)) ⌝ }
 {

@@ -118,7 +118,7 @@ module _ {st : Store} {area : Bytes} (m : Built st area) (k : Key) (start : ℕ)
         → RowFound (boxOf st area .defaults) area k start (record { place = i; ok = false; at = 0; len = 0 })
     passing-miss h n e =
         let o : box.ordered box.rowBefore (defaultOf area (getD (st .defaults) i noHeld) ∷ drop (suc i) (boxOf st area .defaults)) ≡ true
-            = subst (λ (l : List box.Default). box.ordered box.rowBefore l ≡ true) (default-here m i h) (ordered-drop box.rowBefore i (boxOf st area .defaults) (defaults-order m)) in
+        = subst (λ (l : List box.Default). box.ordered box.rowBefore l ≡ true) (default-here m i h) (ordered-drop box.rowBefore i (boxOf st area .defaults) (defaults-order m)) in
         record {
           place-is = sym (leading-here (w .is) (default-here m i h) n) ∙ pair-place k start (boxOf st area .defaults) (defaults-order m);
           is = sym (w .row ∙ ap (box.rowOf k start) (default-here m i h) ∙ no-row k start (defaultOf area (getD (st .defaults) i noHeld)) (drop (suc i) (boxOf st area .defaults)) o n e);

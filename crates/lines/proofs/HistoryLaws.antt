@@ -97,14 +97,15 @@ newest-snoc m ws w =
 pub history-snoc : (start stamp : ℕ) (ws : List Record) (w : Record) → historyOf start stamp (ws ++ w ∷ []) ≡ moreHistory start stamp (historyOf start stamp ws) w
 unfolding historyOf moreHistory
 history-snoc start stamp ws w =
-    cc
-    (each-snoc soundRecord allSound (unfold allSound in refl) (λ v vs. unfold allSound in refl) ws w,
-    each-snoc (λ (v : Record). ltb (v .stamp) start) (allBelow start) (unfold allBelow in refl) (λ v vs. unfold allBelow in refl) ws w,
-    each-snoc (λ (v : Record). ltb (v .stamp) stamp) (allBelow stamp) (unfold allBelow in refl) (λ v vs. unfold allBelow in refl) ws w,
-    first-snoc (λ (v : Record). eqb start (v .start)) (withStart start) (unfold withStart in refl) (λ v vs. unfold withStart in refl) ws w,
-    first-snoc (λ (v : Record). eqb stamp (v .stamp)) (stampedAt stamp) (unfold stampedAt in refl) (λ v vs. unfold stampedAt in refl) ws w,
-    rolls-snoc start ws w,
-    newest-snoc stamp ws w)
+    cc (
+      each-snoc soundRecord allSound (unfold allSound in refl) (λ v vs. unfold allSound in refl) ws w,
+      each-snoc (λ (v : Record). ltb (v .stamp) start) (allBelow start) (unfold allBelow in refl) (λ v vs. unfold allBelow in refl) ws w,
+      each-snoc (λ (v : Record). ltb (v .stamp) stamp) (allBelow stamp) (unfold allBelow in refl) (λ v vs. unfold allBelow in refl) ws w,
+      first-snoc (λ (v : Record). eqb start (v .start)) (withStart start) (unfold withStart in refl) (λ v vs. unfold withStart in refl) ws w,
+      first-snoc (λ (v : Record). eqb stamp (v .stamp)) (stampedAt stamp) (unfold stampedAt in refl) (λ v vs. unfold stampedAt in refl) ws w,
+      rolls-snoc start ws w,
+      newest-snoc stamp ws w,
+    )
 
 -- ---- two lists of lines, one after the other
 

@@ -78,7 +78,7 @@ module _ {st : Store} {area : Bytes} (m : Built st area) (k : Key) (start stamp 
       let few : i ≤ length es = omega (arith, w .low, shown-length (m .lines) (lineOf area)) in
       let below : All (λ (x : box.KeyLine). ltBytes (x .key) k ≡ true) (take i es) = leading-all (keyBelow k) es i (omega (arith, e, key-place k es (lines-order m))) in
       let before : All (λ (x : box.KeyLine). stampBelow k stamp x ≡ true) (take i es)
-          = all-weaken (λ (x : box.KeyLine). ltBytes (x .key) k ≡ true) (λ (x : box.KeyLine). stampBelow k stamp x ≡ true) (take i es) (λ x b. before-less x (stampLine k stamp) b) below in
+      = all-weaken (λ (x : box.KeyLine). ltBytes (x .key) k ≡ true) (λ (x : box.KeyLine). stampBelow k stamp x ≡ true) (take i es) (λ x b. before-less x (stampLine k stamp) b) below in
       record {
         low = w .low;
         first-is = e;

@@ -6,9 +6,14 @@ ghost use Prim.Native.Nat.{ℕ};
 ghost use Rattle.lines.specs.View.{boxOf};
 ghost use Rattle.lines.specs.Made.{Built};
 ghost use Rattle.lines.specs.Looks.{orFound, rollsBy, newerBy, moreHistory, historyOf, orLocked, either, seeLine, LookedAt};
-use crate::places::{slot_below, slot_has};
-use crate::store::{Intent, Line, Store};
-use rules::{Answer, Kind, Record};
+use crate::places::slot_below;
+use crate::places::slot_has;
+use crate::store::Intent;
+use crate::store::Line;
+use crate::store::Store;
+use rules::Answer;
+use rules::Kind;
+use rules::Record;
 
 // A record that may be missing.
 pub enum Found {

@@ -8,7 +8,9 @@ ghost use Rattle.laws.specs.Places.{linesBefore};
 ghost use Rattle.lines.specs.View.{keyOf, defaultOf, boxOf};
 ghost use Rattle.lines.specs.Made.{Built};
 ghost use Rattle.lines.specs.Looks.{pair, RowFound};
-use crate::store::{Held, Slot, Store};
+use crate::store::Held;
+use crate::store::Slot;
+use crate::store::Store;
 use forms::Order;
 
 // Whether the key of a slot is below `key`.

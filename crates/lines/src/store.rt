@@ -4,7 +4,9 @@ ghost use Rattle.forms.specs.Bytes.{Bytes};
 ghost use lib.ListN.{length};
 ghost use Rattle.lines.specs.View.{noSlot, noHeld};
 ghost use Rattle.lines.specs.Made.{FreshStore};
-use rules::{Kind, Load, Record};
+use rules::Kind;
+use rules::Load;
+use rules::Record;
 
 // A standing intent. Its primary is the `len` bytes of the area from `at`.
 pub struct Intent {

@@ -22,7 +22,7 @@ use Rattle.replies.proofs.PutLaws.{laid-start, laid-more, laid-as, laid
 
 -- ---- an answer
 
-length-answer : (n txn start count : ℕ) (p : Bytes) → length (answerFields n txn start count p) ≡ 29 + length p
+pub length-answer : (n txn start count : ℕ) (p : Bytes) → length (answerFields n txn start count p) ≡ 29 + length p
 unfolding answerFields
 length-answer n txn start count p =
     simp length-append
@@ -67,7 +67,7 @@ module _ {w s : Bytes} where
   pub row-put : {a r : ℕ} {t₁ t₂ : Bytes} → 1 ≤ length s → length w ≤ length s - 1 → Placed 0 1 (1 ∷ []) s a t₁ → Placed a (length w) w t₁ r t₂ → Put (room (rowPayload w) s) (rowPayload w) s r t₂
   row-put l h u₁ u₂ = laid-end (laid-more (laid-more (laid-start s) u₁ (omega arith)) u₂ (omega arith))
 
-length-lock : (txn : ℕ) (p : Key) (start ttl : ℕ) (k : Kind) → length (lockPayload txn p start ttl k) ≡ length p + 27
+pub length-lock : (txn : ℕ) (p : Key) (start ttl : ℕ) (k : Kind) → length (lockPayload txn p start ttl k) ≡ length p + 27
 unfolding lockBytes
 length-lock txn p start ttl k = simp length-append (omega (arith, length-digits 8 txn, length-digits 8 start, length-digits 8 ttl))
 

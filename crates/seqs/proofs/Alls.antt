@@ -1,11 +1,10 @@
 -- What holds of each element of a list: at an index, in parts, of two lists together, and of what is shown.
 -- Assumes nothing.
-use Prim.Native.Nat.{ℕ, zero, suc, _≤_, _<_}
+use Prim.Native.Nat.{ℕ, zero, suc, _<_}
 use native.Mathlib.Omega.{arith}
-use mathlib.Core.Path.{_≡_, refl, sym, ap, _∙_, subst}
+use mathlib.Core.Path.{_≡_, refl, sym, subst}
 use mathlib.Core.List.{List, [], _∷_, _++_, map}
 use lib.ListN.{length, getD, take, drop, take-append-drop}
-use lib.Seq.{length-take-le, getD-take, drop-cons}
 use Rattle.seqs.specs.Tables.{All, insertAt, removeAt}
 
 module _ {A : Type 0} where

@@ -4,7 +4,7 @@ use Prim.Native.Nat.{ℕ, zero, suc, _+_, _-_, _≤_, _<_}
 use native.Mathlib.Numerals.{add-one, sub-one}
 use native.Mathlib.Omega.{arith}
 use native.Mathlib.Nat.{le-of-lt}
-use mathlib.Core.Path.{_≡_, refl, sym, ap, _∙_}
+use mathlib.Core.Path.{_≡_, sym, ap, _∙_}
 use mathlib.Core.List.{List, [], _∷_, _++_, append-assoc, append-nil}
 use lib.ListN.{length, getD, take, drop, set, List·getD-append, length-append, take-append-drop}
 use lib.Seq.{slice, slice-empty, slice-cons, split-at, length-take-le, length-slice, set-at, getD-take, take-suc, append-snoc, drop-cons, getD-append-add, getD-at, getD-drop, drop-append-le}

@@ -4,10 +4,10 @@ use Prim.Native.Nat.{ℕ, zero, suc, _+_, _-_, _≤_, _<_}
 use native.Mathlib.Omega.{arith}
 use native.Mathlib.Numerals.{add-one}
 use native.Mathlib.Nat.{zero-add, suc-add, le-of-lt}
-use mathlib.Core.Path.{_≡_, refl, sym, ap, ap₂, _∙_, subst}
+use mathlib.Core.Path.{_≡_, refl, sym, ap, ap₂, _∙_}
 use mathlib.Core.List.{List, [], _∷_, _++_, map, map-append, append-assoc}
-use lib.ListN.{length, getD, take, drop, set, replicate, length-map, List·getD-map, length-append, length-drop, length-set, length-replicate, drop-of-length-le, take-append-drop}
-use lib.Seq.{length-take-le, getD-take, take-nil, drop-cons, drop-at, drop-drop, slice, take-at, take-take, length-slice, take-append-add, drop-append-add, take-set-lt, drop-set-lt, set-split}
+use lib.ListN.{length, getD, take, drop, set, replicate, length-map, List·getD-map, length-append, length-drop, length-set, length-replicate, drop-of-length-le}
+use lib.Seq.{length-take-le, getD-take, take-nil, drop-cons, drop-at, drop-drop, slice, take-at, take-take, length-slice, take-append-add, drop-append-add, take-set-lt, drop-set-lt}
 use Rattle.seqs.specs.Tables.{All, Table, shown, insertAt, removeAt, moveTo, inserted}
 use Rattle.seqs.proofs.Alls.{all-at, all-append, all-cons, all-take, all-drop, all-insert, all-remove, all-weaken, map-same}
 

@@ -1,0 +1,60 @@
+-- The promise of a changing call, made by its ways out: nothing has changed, or the box is another one.
+-- Assumes nothing.
+use mathlib.Core.Bool.{Bool, true, false, not, false≢true}
+use mathlib.Core.Path.{_≡_, refl, sym, _∙_, ap, subst}
+use Rattle.forms.specs.Bytes.{Bytes}
+use Rattle.rules.specs.declared.answers.Answer.{Answer}
+use Rattle.rules.specs.declared.answers.Answer.the-variants.{Accepted, No, Held}
+use Rattle.rules.specs.Answers.{_▸_}
+use Rattle.rules.specs.Box.{Box}
+use Rattle.rules.specs.Calls.{Done, settle}
+use Rattle.laws.proofs.SettleLaws.{settle-old, settle-new}
+use Rattle.lines.specs.declared.store.Store.{Store}
+use Rattle.lines.specs.View.{boxOf}
+use Rattle.lines.specs.Made.{Made}
+use Rattle.calls.specs.declared.changed.Changed.{Changed}
+use Rattle.calls.specs.Settled.{isAccepted, Untouched, Settled}
+
+-- ---- accepted, or a refusal
+
+pub is-accepted : (a : Answer) {t : Bool} → t ≡ isAccepted a → not t ≡ false → a ≡ Accepted
+is-accepted Accepted e n = refl
+is-accepted (No k) e n = cc
+is-accepted (Held o) e n = cc
+
+pub is-refusal : (a : Answer) {t : Bool} → t ≡ isAccepted a → not t ≡ true → a ≡ Accepted → ⊥
+is-refusal a {t} e n q =
+    let z : false ≡ true = sym (ap not (e ∙ ap isAccepted q)) ∙ n in
+    false≢true z
+
+pub then-refused : (a v : Answer) → (a ≡ Accepted → ⊥) → a ≡ a ▸ v
+unfolding _▸_
+then-refused Accepted v n = absurd (n refl)
+then-refused (No k) v n = refl
+then-refused (Held o) v n = refl
+
+-- ---- the promise
+
+pub untouched : {st : Store} {area : Bytes} → Untouched st area st area
+untouched = record { store-is = refl; area-is = refl }
+
+-- nothing has changed, and the definition leaves the box
+pub settled-same : {st : Store} {area : Bytes} {d : Done} {a : Answer} → Made st area → d ≡ record { answer = a; box = boxOf st area } → Settled st area d (record { store = st; answer = a }) area
+settled-same {st} {area} {d} m e = record {
+  answer-is = sym (ap (λ (x : Done). x .answer) e);
+  made = m;
+  shown = sym (ap (λ (x : Done). x .box) e);
+  refused = λ n. untouched;
+  unchanged = λ s. untouched;
+}
+
+-- the box is the definition's, and another one than it was
+pub settled-new : {st : Store} {area : Bytes} {d : Done} {r : Store} {area′ : Bytes} → Made r area′ → d ≡ record { answer = Accepted; box = boxOf r area′ } → (boxOf r area′ ≡ boxOf st area → ⊥)
+    → Settled st area d (record { store = r; answer = Accepted }) area′
+settled-new {st} {area} {d} {r} {area′} m e n = record {
+  answer-is = sym (ap (λ (x : Done). x .answer) e);
+  made = m;
+  shown = sym (ap (λ (x : Done). x .box) e);
+  refused = λ f. absurd (f refl);
+  unchanged = λ s. absurd (n (sym (ap (λ (x : Done). x .box) e) ∙ s));
+}

@@ -1,0 +1,31 @@
+-- The promise of every changing call: `d` is the definition's answer and the box after it.
+-- Assumes nothing.
+use mathlib.Core.Path.{_≡_}
+use mathlib.Core.Bool.{Bool, true, false}
+use Rattle.forms.specs.Bytes.{Bytes}
+use Rattle.rules.specs.declared.answers.Answer.{Answer}
+use Rattle.rules.specs.declared.answers.Answer.the-variants.{Accepted, No, Held}
+use Rattle.rules.specs.Calls.{Done}
+use Rattle.lines.specs.declared.store.Store.{Store}
+use Rattle.lines.specs.View.{boxOf}
+use Rattle.lines.specs.Made.{Made}
+use Rattle.calls.specs.declared.changed.Changed.{Changed}
+
+abbrev pub isAccepted : Answer → Bool
+isAccepted Accepted = true
+isAccepted (No n) = false
+isAccepted (Held h) = false
+
+-- nothing has changed: the store is the same value, and the area has the same bytes
+pub record Untouched (st : Store) (area : Bytes) (r : Store) (area′ : Bytes) : Type 0 where
+  pub store-is : r ≡ st
+  pub area-is : area′ ≡ area
+
+-- the answer is the definition's, and the store shows the definition's box; "A refusal changes nothing in store or buffers"; and a call that
+-- is "accepted and unchanged", as a replay is, changes nothing either
+pub record Settled (st : Store) (area : Bytes) (d : Done) (r : Changed) (area′ : Bytes) : Type 0 where
+  pub answer-is : r .answer ≡ d .answer
+  pub made : Made (r .store) area′
+  pub shown : boxOf (r .store) area′ ≡ d .box
+  pub refused : (r .answer ≡ Accepted → ⊥) → Untouched st area (r .store) area′
+  pub unchanged : d .box ≡ boxOf st area → Untouched st area (r .store) area′

@@ -1,0 +1,129 @@
+// Tests that several calls make, as rules' Calls says them.
+ghost use mathlib.Core.Path.{_≡_};
+ghost use mathlib.Core.Bool.{not};
+ghost use Prim.Native.Nat.{_+_, _≤_};
+ghost use lib.ListN.{length};
+ghost use Rattle.forms.specs.Bytes.{Bytes, bytesAt};
+ghost use Rattle.forms.specs.Row.{Row};
+ghost use Rattle.forms.specs.Readers.{when, isSome};
+ghost use Rattle.rules.specs.Box.{eqKind, holderOf};
+ghost use Rattle.rules.specs.Calls.{kindOf, owns, zeroStep, rowArgument, rowStands};
+ghost use Rattle.lines.specs.View.{lockIn};
+ghost use Rattle.lines.specs.Looks.{lockedBy};
+ghost use Rattle.calls.specs.Settled.{isAccepted};
+use lines::FoundRow;
+use lines::Intent;
+use lines::Locked;
+use rules::Answer;
+use rules::Holder;
+use rules::Kind;
+
+// "zero transaction, start": 3
+pub fn zero_step(txn: u64, start: u64) -> Answer
+    ensures { λ r. ⌜ r ≡ zeroStep txn start ⌝ }
+{
+    if txn == 0 {
+        return Answer::No(3);
+    }
+    if start == 0 {
+        return Answer::No(3);
+    }
+    Answer::Accepted
+}
+
+pub fn accepted(a: Answer) -> bool
+    ensures { λ r. ⌜ r ≡ isAccepted a ⌝ }
+{
+    match a {
+        Answer::Accepted => true,
+        Answer::No(_) => false,
+        Answer::Held(_) => false,
+    }
+}
+
+pub fn is_free(lock: Locked) -> bool
+    ensures { λ r. ⌜ ((area : Bytes) → r ≡ not (isSome (lockedBy area lock))) ⌝ }
+{
+    match lock {
+        Locked::Nobody => true,
+        Locked::By(_) => false,
+    }
+}
+
+// Own means that both transaction and start are the call's.
+pub fn owns(l: Intent, txn: u64, start: u64) -> bool
+    ensures { λ r. ⌜ ((area : Bytes) → r ≡ owns txn start (lockIn area l)) ⌝ }
+{
+    if l.txn != txn {
+        return false;
+    }
+    l.start == start
+}
+
+// "Answer 7 carries the holder's transaction and start"
+pub fn held_by(l: Intent) -> Answer
+    ensures { λ r. ⌜ ((area : Bytes) → r ≡ Answer.Held (holderOf (lockIn area l))) ⌝ }
+{
+    Answer::Held(Holder {
+        txn: l.txn,
+        start: l.start,
+    })
+}
+
+pub fn same_kind(a: Kind, b: Kind) -> bool
+    ensures { λ r. ⌜ r ≡ eqKind a b ⌝ }
+{
+    match a {
+        Kind::Put => match b {
+            Kind::Put => true,
+            Kind::Delete => false,
+            Kind::Rollback => false,
+        },
+        Kind::Delete => match b {
+            Kind::Put => false,
+            Kind::Delete => true,
+            Kind::Rollback => false,
+        },
+        Kind::Rollback => match b {
+            Kind::Put => false,
+            Kind::Delete => false,
+            Kind::Rollback => true,
+        },
+    }
+}
+
+// The kind of an entry: a Put carries a row, a Delete none.
+pub fn kind_for(put: bool) -> Kind
+    ensures { λ r. ⌜ ((row : Row) → r ≡ kindOf (when put row)) ⌝ }
+{
+    if put {
+        return Kind::Put;
+    }
+    Kind::Delete
+}
+
+// "2": a Put's row is in form; a Delete's row argument is ignored.
+pub fn row_argument(put: bool, row: &[u8]) -> bool
+    ensures { λ r. ⌜ r ≡ rowArgument (when put (now (row .entry))) ⌝ }
+{
+    if !put {
+        return true;
+    }
+    forms::row_in_form(row)
+}
+
+// "for a Put, this row": stored, and the same.
+pub fn row_stands(put: bool, row: &[u8], stored: FoundRow, area: &[u8]) -> bool
+    requires { ⌜ stored .at + stored .len ≤ length (now area) ⌝ }
+    ensures { λ r. ⌜ r ≡ rowStands (when put (now (row .entry))) (when (stored .ok) (bytesAt (now (area .entry)) (stored .at) (stored .len))) ⌝ }
+{
+    if !put {
+        return true;
+    }
+    if !stored.ok {
+        return false;
+    }
+    let at = stored.at;
+    let e = at + stored.len;
+    forms::same(row, &area[at..e])
+}

@@ -1,0 +1,83 @@
+use borrow.Author.Needs.{needs}
+use native.Mathlib.Omega.{arith}
+use Prim.Native.Nat.{ℕ, suc, _+_, _-_, _*_, _<_, _≤_}
+use mathlib.Core.Path.{_≡_, refl, sym, ap, _∙_}
+use lib.ListN.{length, getD, take, drop, set, length-set}
+use Rattle.cases.proofs.replay.Statement.{statement}
+use Rattle.cases.proofs.replay.Tie as tie
+use Rattle.cases.proofs.replay.Reads as reads
+use Rattle.cases.proofs.replay.Lts as lts
+use Rattle.cases.proofs.replay_next.Reads as replay-next-reads
+
+abbrev Inv-loop : tie.InvT-loop
+Inv-loop from trace₀ area₀ out₀ fd recorded₀ counted₀ turns₀ trace area out recorded counted turns = (length area ≡ 65536) × (length area ≡ length area₀) × (length trace ≡ length trace₀) × (length out ≡ length out₀) × (length recorded ≡ length recorded₀)
+
+abbrev μ-loop : tie.MeasureT-loop
+μ-loop from trace₀ area₀ out₀ fd recorded₀ counted₀ turns₀ trace area out recorded counted turns = turns
+
+loop-holds : tie.Need-loop-holds Inv-loop μ-loop
+loop-holds c = search needs
+
+replay-next-requires : tie.Need-replay-next-requires Inv-loop μ-loop
+replay-next-requires c κs = search needs
+
+same-length : tie.Need-same-length Inv-loop μ-loop
+same-length c = search needs
+
+same-length-2 : tie.Need-same-length-2 Inv-loop μ-loop
+same-length-2 c = search needs
+
+same-length-3 : tie.Need-same-length-3 Inv-loop μ-loop
+same-length-3 c = search needs
+
+same-length-4 : tie.Need-same-length-4 Inv-loop μ-loop
+same-length-4 c = search needs
+
+returns : tie.Need-returns Inv-loop μ-loop
+returns c = search needs
+
+sub-turns : tie.Need-sub-turns Inv-loop μ-loop
+sub-turns c = search needs
+
+loop-less : tie.Need-loop-less Inv-loop μ-loop
+loop-less c = search needs
+
+loop-again : tie.Need-loop-again Inv-loop μ-loop
+loop-again c = search needs
+
+same-length-5 : tie.Need-same-length-5 Inv-loop μ-loop
+same-length-5 c = search needs
+
+same-length-6 : tie.Need-same-length-6 Inv-loop μ-loop
+same-length-6 c = search needs
+
+same-length-7 : tie.Need-same-length-7 Inv-loop μ-loop
+same-length-7 c = search needs
+
+same-length-8 : tie.Need-same-length-8 Inv-loop μ-loop
+same-length-8 c = search needs
+
+returns-2 : tie.Need-returns-2 Inv-loop μ-loop
+returns-2 c = search needs
+
+pub replay-spec : {M : Type 1} → statement M
+replay-spec =
+    tie.close
+    (tie.spec
+    Inv-loop
+    μ-loop
+    loop-holds
+    replay-next-requires
+    same-length
+    same-length-2
+    same-length-3
+    same-length-4
+    returns
+    sub-turns
+    loop-less
+    loop-again
+    same-length-5
+    same-length-6
+    same-length-7
+    same-length-8
+    returns-2)

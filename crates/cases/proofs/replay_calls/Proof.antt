@@ -1,0 +1,101 @@
+use Rattle.driving.proofs.KeepLaws.{Keeps, keeps-start, keeps-more}
+use Rattle.driving.proofs.RunLaws.{ran-within}
+use lib.Seq.{length-take-le}
+use borrow.Author.Needs.{needs}
+use native.Mathlib.Omega.{arith}
+use Prim.Native.Nat.{ℕ, suc, _+_, _-_, _*_, _<_, _≤_}
+use mathlib.Core.Path.{_≡_, refl, sym, ap, _∙_}
+use lib.ListN.{length, getD, take, drop, set, length-set}
+use Rattle.cases.proofs.replay_calls.Statement.{statement}
+use Rattle.cases.proofs.replay_calls.Tie as tie
+use Rattle.cases.proofs.replay_calls.Reads as reads
+use Rattle.cases.proofs.replay_calls.Lts as lts
+use Rattle.cases.proofs.count.Reads as count-reads
+use Rattle.driving.proofs.run_call.Reads as run-call-reads
+use Rattle.traces.proofs.call_at.Reads as call-at-reads
+use Rattle.traces.proofs.first_call.Reads as first-call-reads
+
+abbrev Inv-loop : tie.InvT-loop
+Inv-loop trace area₀ out₀ fd recorded₀ counted₀ kept₀ at₀ left₀ area out recorded counted kept at left = Keeps area₀ out₀ kept area out × (length recorded ≡ length recorded₀)
+
+abbrev μ-loop : tie.MeasureT-loop
+μ-loop trace area₀ out₀ fd recorded₀ counted₀ kept₀ at₀ left₀ area out recorded counted kept at left = left
+
+first-call-requires : tie.Need-first-call-requires Inv-loop μ-loop
+first-call-requires c κs = search needs
+
+loop-holds : tie.Need-loop-holds Inv-loop μ-loop
+loop-holds c = (keeps-start (c .before .before .before .before .before .pre), refl)
+
+call-at-requires : tie.Need-call-at-requires Inv-loop μ-loop
+call-at-requires c κs = search needs
+
+add-e : tie.Need-add-e Inv-loop μ-loop
+add-e c = search needs
+
+sub-run-call : tie.Need-sub-run-call Inv-loop μ-loop
+sub-run-call c = search needs
+
+part-run-call-start : tie.Need-part-run-call-start Inv-loop μ-loop
+part-run-call-start c = search needs
+
+part-run-call-end : tie.Need-part-run-call-end Inv-loop μ-loop
+part-run-call-end c = search needs
+
+run-call-requires : tie.Need-run-call-requires Inv-loop μ-loop
+run-call-requires c κs = (c .before .before .before .before .before .before .loop) .inv .0 .made
+
+slice-reshare-prefix-count : tie.Need-slice-reshare-prefix-count Inv-loop μ-loop
+slice-reshare-prefix-count c = omega (arith, ran-within ((c .before .before .before .before .run-call) .ensures))
+
+slice-aggregate-count : tie.Need-slice-aggregate-count Inv-loop μ-loop
+slice-aggregate-count c = sym (length-take-le _ _ (omega (arith, ran-within ((c .before .before .before .before .before .run-call) .ensures))))
+
+count-requires : tie.Need-count-requires Inv-loop μ-loop
+count-requires c κs = search needs
+
+sub-left : tie.Need-sub-left Inv-loop μ-loop
+sub-left c = search needs
+
+loop-less : tie.Need-loop-less Inv-loop μ-loop
+loop-less c = search needs
+
+loop-again : tie.Need-loop-again Inv-loop μ-loop
+loop-again c = (keeps-more ((c .before .before .before .before .before .before .before .before .before .before .before .before .before .before .before .before .before .loop) .inv .0) ((c .before .before .before .before .before .before .before .before .before .before .run-call) .ensures) (omega arith) (omega arith), omega arith)
+
+same-length : tie.Need-same-length Inv-loop μ-loop
+same-length c = search needs
+
+same-length-2 : tie.Need-same-length-2 Inv-loop μ-loop
+same-length-2 c = search needs
+
+same-length-3 : tie.Need-same-length-3 Inv-loop μ-loop
+same-length-3 c = search needs
+
+returns : tie.Need-returns Inv-loop μ-loop
+returns c = search needs
+
+pub replay-calls-spec : {M : Type 1} → statement M
+replay-calls-spec =
+    tie.close
+    (tie.spec
+    Inv-loop
+    μ-loop
+    first-call-requires
+    loop-holds
+    call-at-requires
+    add-e
+    sub-run-call
+    part-run-call-start
+    part-run-call-end
+    run-call-requires
+    slice-reshare-prefix-count
+    slice-aggregate-count
+    count-requires
+    sub-left
+    loop-less
+    loop-again
+    same-length
+    same-length-2
+    same-length-3
+    returns)

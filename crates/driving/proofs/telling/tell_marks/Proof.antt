@@ -1,0 +1,52 @@
+use Rattle.driving.proofs.TellLaws.{marks-count, marks-told}
+use lib.Seq.{length-take-le}
+use borrow.Author.Needs.{needs}
+use native.Mathlib.Omega.{arith}
+use Prim.Native.Nat.{ℕ, suc, _+_, _-_, _*_, _<_, _≤_}
+use mathlib.Core.Path.{_≡_, refl, sym, ap, _∙_}
+use lib.ListN.{length, getD, take, drop, set, length-set}
+use borrow.Author.Needs.{needs}
+use Rattle.driving.proofs.telling.tell_marks.Statement.{statement}
+use Rattle.driving.proofs.telling.tell_marks.Tie as tie
+use Rattle.driving.proofs.telling.tell_marks.Reads as reads
+use Rattle.driving.proofs.telling.tell_marks.Lts as lts
+use Rattle.replies.proofs.put_marks.Reads as put-marks-reads
+use Rattle.driving.proofs.telling.tell.Reads as tell-reads
+use Rattle.figures.proofs.allocator_high_water_marks.Reads as allocator-high-water-marks-reads
+
+allocator-high-water-marks-requires : tie.Need-allocator-high-water-marks-requires
+allocator-high-water-marks-requires c κs = search needs
+
+slice-aggregate-put-marks : tie.Need-slice-aggregate-put-marks
+slice-aggregate-put-marks c = search needs
+
+put-marks-requires : tie.Need-put-marks-requires
+put-marks-requires c κs = search needs
+
+array-share-prefix-payload : tie.Need-array-share-prefix-payload
+array-share-prefix-payload c = omega (arith, marks-count _ (search needs) ((c .before .before .put-marks) .ensures))
+
+slice-aggregate-tell : tie.Need-slice-aggregate-tell
+slice-aggregate-tell c = sym (length-take-le _ _ (omega (arith, marks-count _ (search needs) ((c .before .before .before .put-marks) .ensures))))
+
+tell-requires : tie.Need-tell-requires
+tell-requires c κs = search needs
+
+same-length : tie.Need-same-length
+same-length c = search needs
+
+returns : tie.Need-returns
+returns c = marks-told _ (search needs) ((c .before .before .before .before .before .before .put-marks) .ensures) _ ((c .before .before .before .before .before .before .before .before .allocator-high-water-marks) .ensures) ((c .before .before .tell) .ensures)
+
+pub tell-marks-spec : {M : Type 1} → statement M
+tell-marks-spec =
+    tie.close
+    (tie.spec
+    allocator-high-water-marks-requires
+    slice-aggregate-put-marks
+    put-marks-requires
+    array-share-prefix-payload
+    slice-aggregate-tell
+    tell-requires
+    same-length
+    returns)

@@ -1,0 +1,45 @@
+-- What a call, run on a store, leaves: the store, the area, and the buffer with the answer.
+-- Assumes nothing.
+use Prim.Native.Nat.{ℕ, _≤_, _<_}
+use mathlib.Core.Path.{_≡_}
+use mathlib.Core.Bool.{true}
+use lib.ListN.{length}
+use Rattle.forms.specs.Bytes.{Bytes}
+use Rattle.traces.specs.declared.args.Args.{Args}
+use Rattle.traces.specs.Calls.{call}
+use Rattle.traces.specs.Args.{ArgsIn}
+use Rattle.replies.specs.Put.{Put}
+use Rattle.lines.specs.declared.store.Store.{Store}
+use Rattle.lines.specs.View.{boxOf}
+use Rattle.lines.specs.Made.{Made}
+use Rattle.driving.specs.Told.{Told, toldOf, toldBytes}
+use Rattle.driving.specs.declared.run.Ran.{Ran}
+
+-- the store shows the box that the call leaves; the answer's bytes stand over the front of the buffer, all of them and nothing beyond, and
+-- the length is theirs
+pub record RanAs (t : Told) (out : Bytes) (r : Ran) (area′ out′ : Bytes) : Type 0 where
+  pub made : Made (r .store) area′
+  pub shown : boxOf (r .store) area′ ≡ t .box
+  pub put : Put true (toldBytes t) out (r .len) out′
+  pub within : r .len ≤ length out
+
+-- nothing is run or written
+pub record Unrun (st : Store) (area out : Bytes) (r : Ran) (area′ out′ : Bytes) : Type 0 where
+  pub store-is : r .store ≡ st
+  pub area-is : area′ ≡ area
+  pub out-is : out′ ≡ out
+  pub len-is : r .len ≡ 0
+
+-- the longest answer: 29 bytes, and a lent buffer of 65,535
+abbrev pub longest : ℕ
+longest = 65564
+
+pub record RunCall (st : Store) (area s out : Bytes) (r : Ran) (area′ out′ : Bytes) : Type 0 where
+  pub ran : longest ≤ length out → RanAs (toldOf (call s) (boxOf st area)) out r area′ out′
+  pub short : length out < longest → Unrun st area out r area′ out′
+
+-- what running the arguments of a call asks
+pub record RunAsks (st : Store) (area s : Bytes) (a : Args) (out : Bytes) : Type 0 where
+  pub made : Made st area
+  pub places : ArgsIn s a
+  pub long : longest ≤ length out

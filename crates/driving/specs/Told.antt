@@ -1,0 +1,82 @@
+-- docs/TRACE.md, "Answers": what each call tells, and the box after it.
+-- Assumes nothing.
+use Prim.Native.Nat.{ℕ}
+use mathlib.Core.List.{List, [], _∷_, _++_}
+use mathlib.Core.Option.{Option, none, some}
+use Rattle.forms.specs.Bytes.{Bytes}
+use Rattle.rules.specs.declared.answers.Answer.{Answer}
+use Rattle.rules.specs.declared.answers.Answer.the-variants.{Accepted, No}
+use Rattle.rules.specs.Box.{Box, fresh}
+use Rattle.rules.specs.Calls.{Done}
+use Rattle.rules.specs.Restore.{restore}
+use Rattle.rules.specs.Figures.{stats, marks}
+use Rattle.traces.specs.Calls.{Call}
+use Rattle.replies.specs.Put.{Put, room}
+use Rattle.replies.specs.Payloads.{statsPayload, marksPayload}
+use Rattle.replies.specs.Answers.{answerBytes, notInForm}
+
+-- "the answer's number (1 byte), the holder's transaction (8), the holder's start (8), the count (8), a 4-byte payload length, the payload";
+-- and the box after the call
+pub record Told : Type 0 where
+  pub answer : Answer
+  pub count : ℕ
+  pub payload : Bytes
+  pub box : Box
+
+-- the bytes of it
+abbrev pub toldBytes : Told → Bytes
+toldBytes t = answerBytes (t .answer) (t .count) (t .payload)
+
+-- a call that shows something leaves the box as it was
+abbrev pub showing : Answer → Bytes → Box → Told
+showing a payload b = record { answer = a; count = 0; payload = payload; box = b }
+
+-- a call that changes the box tells its answer alone
+abbrev pub changing : Done → Told
+changing d = record { answer = d .answer; count = 0; payload = []; box = d .box }
+
+-- nothing is run. A call that does not exist yet is not in form either: "an unknown op"
+abbrev pub notRun : Box → Told
+notRun b = showing (No 6) [] b
+
+-- what a call tells of a box
+unfoldable pub told : Call → Box → Told
+told (Call.Read m k) b = notRun b
+told (Call.Page m l a n) b = notRun b
+told (Call.IntentPage l a n) b = notRun b
+told (Call.ConflictingIntents m l a n) b = notRun b
+told (Call.OneIntent m k) b = notRun b
+told (Call.Prewrite h d k r) b = notRun b
+told (Call.PrewriteBatch h s) b = notRun b
+told (Call.Commit e k) b = notRun b
+told (Call.CommitBatch e s) b = notRun b
+told (Call.Rollback t u k) b = notRun b
+told (Call.RollbackBatch t u s) b = notRun b
+told (Call.OneStep e s) b = notRun b
+told (Call.Restore s) b = changing (restore s b)
+told Call.Statistics b = showing Accepted (statsPayload (stats b)) b
+told Call.Marks b = showing Accepted (marksPayload (marks b)) b
+
+-- bytes that are no call in form: 6, and nothing is run
+unfoldable pub toldOf : Option Call → Box → Told
+toldOf none b = notRun b
+toldOf (some c) b = told c b
+
+-- ---- a whole trace
+
+-- "The calls of one trace run in turn on one store"
+unfoldable pub answersFrom : List Call → Box → Bytes
+answersFrom [] b = []
+answersFrom (c ∷ cs) b = toldBytes (told c b) ++ answersFrom cs (told c b .box)
+
+-- "fresh at the start"; "A trace not in form gives one answer, number 6, with zeros and no payload, and nothing is run. A trace of no calls
+-- gives no answer at all."
+unfoldable pub answersOf : Option (List Call) → Bytes
+answersOf none = notInForm
+answersOf (some cs) = answersFrom cs fresh
+
+-- ---- the buffer
+
+-- the bytes b over the front of the buffer, where they fit, and nothing beyond; else the buffer as it was, and 0
+abbrev pub Writes : Bytes → Bytes → ℕ → Bytes → Type 0
+Writes b out len out′ = Put (room b out) b out len out′

@@ -1,0 +1,9 @@
+// Driving the store from outside, one call of docs/TRACE.md at a time: a call's bytes are run on a store, and its answer is written into a
+// lent buffer. specs/Told.antt says what each call tells; the program that reads traces and writes answers is thin above this.
+pub mod run;
+pub mod telling;
+
+pub use run::Ran;
+pub use run::run_call;
+pub use telling::tell;
+pub use telling::tell_plain;

@@ -1,0 +1,19 @@
+// The public face: document 01's calls under the Rust's names, as they stand in their crates, re-exported and not wrapped, so that no call
+// copies a table for its name. `fresh` is the Rust's `new`, `restore` its `restore_from_snapshot_entries`. A store and its area of 65,536
+// bytes go together; every call's only premise is that our code made them (`Made`, crates/lines/specs/Made.antt).
+pub use calls::Changed;
+pub use figures::allocator_high_water_marks;
+pub use figures::stats;
+pub use lines::Store;
+pub use lines::fresh;
+pub use reads::Pointed;
+pub use reads::Seen;
+pub use reads::intent_for_read;
+pub use reads::primary_of;
+pub use reads::read;
+pub use reads::row_of;
+pub use restores::restore;
+pub use rules::Answer;
+pub use rules::Holder;
+pub use rules::Marks;
+pub use rules::Stats;

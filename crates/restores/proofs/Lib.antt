@@ -1,0 +1,4 @@
+pub mod TurnLaws
+pub mod WayLaws
+pub mod FillLaws
+pub mod RestoreLaws
