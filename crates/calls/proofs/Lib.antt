@@ -1,6 +1,10 @@
 pub mod EntryLaws
+pub mod BatchLaws
 pub mod SettledLaws
 pub mod WalkLaws
 pub mod KeepLaws
 pub mod ShiftLaws
 pub mod ApplyLaws
+pub mod ReadyLaws
+pub mod AnswerLaws
+pub mod MoveLaws

@@ -1,3 +1,5 @@
 pub mod Settled
 pub mod Loads
 pub mod Keeps
+pub mod Walks
+pub mod Frees

@@ -52,11 +52,11 @@ none-locked : (area : Bytes) (x : Locked) → lockedIf x ≡ false → lockedBy 
 none-locked area Nobody h = refl
 none-locked area (By i) h = absurd (false≢true (sym h))
 
-free-stamp : {es : List box.KeyLine} {area key : Bytes} {start stamp : ℕ} {seen : Looked} → LookedAt es area key start stamp seen → freeIf (seen .history .at) ≡ true → stampedAt stamp (box.recordsOf key es) ≡ none
+free-stamp : {st : Store} {area key : Bytes} {start stamp : ℕ} {seen : Looked} → LookedAt st area key start stamp seen → freeIf (seen .history .at) ≡ true → stampedAt stamp (box.recordsOf key (boxOf st area .lines)) ≡ none
 unfolding historyOf
-free-stamp {es = es} {key = key} {stamp = stamp} l h = free-none (stampedAt stamp (box.recordsOf key es)) (ap (λ (x : History). freeIf (x .at)) (sym (l .history-is)) ∙ h)
+free-stamp {st = st} {area = area} {key = key} {stamp = stamp} l h = free-none (stampedAt stamp (box.recordsOf key (boxOf st area .lines))) (ap (λ (x : History). freeIf (x .at)) (sym (l .history-is)) ∙ h)
 
-module _ {st : Store} {area key : Bytes} {start stamp : ℕ} {seen : Looked} (l : LookedAt (boxOf st area .lines) area key start stamp seen) where
+module _ {st : Store} {area key : Bytes} {start stamp : ℕ} {seen : Looked} (l : LookedAt st area key start stamp seen) where
   pub record-asks : {st₀ : Store} {area₀ : Bytes} {w : Record} → Placed st₀ area₀ 96 st area → st .load .lines < 1024 → keyForm key ≡ true → freeIf (seen .history .at) ≡ true → w .stamp ≡ stamp → RecordAsks st area (seen .place) key w
   record-asks p room form h e = record {
     built = p .made .built;
@@ -102,18 +102,18 @@ same-when : (t : Bool) (row x : Bytes) → t ≡ true → eqBytes row x ≡ same
 same-when true row x h = refl
 same-when false row x h = absurd (false≢true h)
 
-module _ {ds : List box.Default} {area key : Bytes} {start : ℕ} {f : FoundRow} (r : RowFound ds area key start f) where
-  stored : f .ok ≡ true → isSome (box.rowOf key start ds) ≡ true
+module _ {st : Store} {area key : Bytes} {start : ℕ} {f : FoundRow} (r : RowFound st area key start f) where
+  stored : f .ok ≡ true → isSome (box.rowOf key start (boxOf st area .defaults)) ≡ true
   stored h = ap isSome (sym (r .is)) ∙ is-some (f .ok) (bytesAt area (f .at) (f .len)) ∙ h
 
-  pub row-shown : {t : Bool} {p : Bytes} (row : Bytes) → f .ok ≡ true → t ≡ eqBytes row p → p ≡ partOf area (f .at) (f .len) → t ≡ sameRow row (box.rowOf key start ds)
+  pub row-shown : {t : Bool} {p : Bytes} (row : Bytes) → f .ok ≡ true → t ≡ eqBytes row p → p ≡ partOf area (f .at) (f .len) → t ≡ sameRow row (box.rowOf key start (boxOf st area .defaults))
   row-shown row h e q =
       e ∙ ap (eqBytes row) (q ∙ part-is area (f .at) (f .len) (r .within)) ∙ same-when (f .ok) row (bytesAt area (f .at) (f .len)) h ∙ ap (sameRow row) (r .is)
 
-  pub row-missing : (row : Bytes) → f .ok ≡ false → false ≡ sameRow row (box.rowOf key start ds)
+  pub row-missing : (row : Bytes) → f .ok ≡ false → false ≡ sameRow row (box.rowOf key start (boxOf st area .defaults))
   row-missing row h = sym (ap (sameRow row) (sym (r .is) ∙ none-when (f .ok) (bytesAt area (f .at) (f .len)) h))
 
-module _ {st : Store} {area key : Bytes} {start : ℕ} {f : FoundRow} (r : RowFound (boxOf st area .defaults) area key start f) where
+module _ {st : Store} {area key : Bytes} {start : ℕ} {f : FoundRow} (r : RowFound st area key start f) where
   pub row-asks : {st₀ : Store} {area₀ row : Bytes} → Placed st₀ area₀ 303 st area → st .load .defaults < 1024 → keyForm key ≡ true → 1 ≤ length row → length row ≤ 255 → f .ok ≡ false → RowAsks st area (f .place) key start row
   row-asks p room form one short h = record {
     built = p .made .built;

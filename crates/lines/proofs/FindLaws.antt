@@ -106,7 +106,7 @@ module _ {st : Store} {area : Bytes} (m : Built st area) (k : Key) (start : ℕ)
     }
 
     pub passing-hit : i < st .load .defaults → box.rowBefore (defaultOf area (getD (st .defaults) i noHeld)) (pair k start) ≡ false → box.atPair k start (defaultOf area (getD (st .defaults) i noHeld)) ≡ true
-        → RowFound (boxOf st area .defaults) area k start (record { place = i; ok = true; at = getD (st .defaults) i noHeld .rowat; len = getD (st .defaults) i noHeld .rowlen })
+        → RowFound st area k start (record { place = i; ok = true; at = getD (st .defaults) i noHeld .rowat; len = getD (st .defaults) i noHeld .rowlen })
     unfolding d box.addRow
     passing-hit h n e = record {
       place-is = sym (leading-here (w .is) (default-here m i h) n) ∙ pair-place k start (boxOf st area .defaults) (defaults-order m);
@@ -115,7 +115,7 @@ module _ {st : Store} {area : Bytes} (m : Built st area) (k : Key) (start : ℕ)
     }
 
     pub passing-miss : i < st .load .defaults → box.rowBefore (defaultOf area (getD (st .defaults) i noHeld)) (pair k start) ≡ false → box.atPair k start (defaultOf area (getD (st .defaults) i noHeld)) ≡ false
-        → RowFound (boxOf st area .defaults) area k start (record { place = i; ok = false; at = 0; len = 0 })
+        → RowFound st area k start (record { place = i; ok = false; at = 0; len = 0 })
     passing-miss h n e =
         let o : box.ordered box.rowBefore (defaultOf area (getD (st .defaults) i noHeld) ∷ drop (suc i) (boxOf st area .defaults)) ≡ true
         = subst (λ (l : List box.Default). box.ordered box.rowBefore l ≡ true) (default-here m i h) (ordered-drop box.rowBefore i (boxOf st area .defaults) (defaults-order m)) in
@@ -125,7 +125,7 @@ module _ {st : Store} {area : Bytes} (m : Built st area) (k : Key) (start : ℕ)
           within = omega arith;
         }
 
-    pub passing-end : st .load .defaults ≤ i → RowFound (boxOf st area .defaults) area k start (record { place = i; ok = false; at = 0; len = 0 })
+    pub passing-end : st .load .defaults ≤ i → RowFound st area k start (record { place = i; ok = false; at = 0; len = 0 })
     unfolding box.rowOf
     passing-end h = record {
       place-is = sym (leading-end (w .is) (defaults-past m i h)) ∙ pair-place k start (boxOf st area .defaults) (defaults-order m);

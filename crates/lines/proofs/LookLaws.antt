@@ -103,7 +103,7 @@ module _ {st : Store} {area : Bytes} (m : Built st area) (k : Key) (start stamp 
 
   module _ {i : ℕ} {seen : Looked} (w : Looking area k start stamp (st .lines) (st .load .lines) i seen) where
     -- the walk ends: what follows is above the key
-    pub ended : All (Above k) (drop i es) → LookedAt es area k start stamp seen
+    pub ended : All (Above k) (drop i es) → LookedAt st area k start stamp seen
     ended a = record {
       first-is = w .first-is;
       place-is = sym (sym (stamp-place k stamp es (lines-order m)) ∙ w .place-is ∙ go (seen .history .newer) (w .place-at));
@@ -118,13 +118,13 @@ module _ {st : Store} {area : Bytes} (m : Built st area) (k : Key) (start stamp 
         go true at = omega (arith, place-above k stamp (drop i es) a, at refl)
         go false at = refl
 
-    pub looking-other : i < st .load .lines → eqBytes k (keyOf area (getD (st .lines) i noSlot)) ≡ false → LookedAt es area k start stamp seen
+    pub looking-other : i < st .load .lines → eqBytes k (keyOf area (getD (st .lines) i noSlot)) ≡ false → LookedAt st area k start stamp seen
     unfolding All
     looking-other l e =
         ended (subst (All (Above k)) (sym (line-here m i l))
         (all-above k (lineOf area (getD (st .lines) i noSlot)) (drop (suc i) es) (order-here m i l) (subst (All (NotBelow k)) (line-here m i l) (w .past) .0) e))
 
-    pub looking-end : st .load .lines ≤ i → LookedAt es area k start stamp seen
+    pub looking-end : st .load .lines ≤ i → LookedAt st area k start stamp seen
     looking-end l = ended (subst (All (Above k)) (sym (lines-past m i l)) (all-none (Above k)))
 
     -- the walk goes on: one more line of the key

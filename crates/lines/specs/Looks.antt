@@ -24,9 +24,10 @@ use Rattle.rules.specs.Commit.{withStart}
 use Rattle.rules.specs.Rollback.{rollbackRecords}
 use Rattle.rules.specs.Read.{newestFirst, showRow}
 use Rattle.laws.specs.Places.{howMany, linesBefore, pairsBefore, finishedAt}
-use Rattle.lines.specs.View.{lockIn}
+use Rattle.lines.specs.View.{lockIn, boxOf}
 use Rattle.lines.specs.declared.store.Intent.{Intent}
 use Rattle.lines.specs.declared.store.Line.{Line}
+use Rattle.lines.specs.declared.store.Store.{Store}
 use Rattle.lines.specs.declared.store.Line.the-variants.{Standing, Finished}
 use Rattle.lines.specs.declared.places.FoundRow.{FoundRow}
 use Rattle.lines.specs.declared.keys.Found.{Found}
@@ -52,9 +53,10 @@ recordPlace k stamp es = howMany (λ (e : box.KeyLine). box.before e (stampLine 
 abbrev pub pair : Key → ℕ → box.Default
 pair k start = record { key = k; start = start; row = [] }
 
-pub record RowFound (ds : List box.Default) (area key : Bytes) (start : ℕ) (r : FoundRow) : Type 0 where
-  pub place-is : r .place ≡ pairsBefore key start ds
-  pub is : when (r .ok) (bytesAt area (r .at) (r .len)) ≡ box.rowOf key start ds
+-- of a store
+pub record RowFound (st : Store) (area key : Bytes) (start : ℕ) (r : FoundRow) : Type 0 where
+  pub place-is : r .place ≡ pairsBefore key start (boxOf st area .defaults)
+  pub is : when (r .ok) (bytesAt area (r .at) (r .len)) ≡ box.rowOf key start (boxOf st area .defaults)
   pub within : r .at + r .len ≤ length area
 
 -- ---- what the records of a key say
@@ -153,9 +155,9 @@ abbrev pub LockBelow : ℕ → Locked → Type 0
 LockBelow n Nobody = Unit {0}
 LockBelow n (By i) = i .at + i .len ≤ n
 
-pub record LookedAt (es : List box.KeyLine) (area key : Bytes) (start stamp : ℕ) (r : Looked) : Type 0 where
-  pub first-is : r .first ≡ linesBefore key es
-  pub place-is : r .place ≡ recordPlace key stamp es
-  pub lock-is : lockedBy area (r .lock) ≡ box.lockOf key es
+pub record LookedAt (st : Store) (area key : Bytes) (start stamp : ℕ) (r : Looked) : Type 0 where
+  pub first-is : r .first ≡ linesBefore key (boxOf st area .lines)
+  pub place-is : r .place ≡ recordPlace key stamp (boxOf st area .lines)
+  pub lock-is : lockedBy area (r .lock) ≡ box.lockOf key (boxOf st area .lines)
   pub lock-in : LockBelow (length area) (r .lock)
-  pub history-is : r .history ≡ historyOf start stamp (box.recordsOf key es)
+  pub history-is : r .history ≡ historyOf start stamp (box.recordsOf key (boxOf st area .lines))

@@ -220,7 +220,7 @@ fn see(seen: Looked, line: Line, start: u64, stamp: u64, next: usize) -> Looked
 
 pub fn look(store: Store, area: &[u8], key: &[u8], start: u64, stamp: u64) -> Looked
     requires { ⌜ Built store (now area) ⌝ }
-    ensures { λ r. ⌜ LookedAt (boxOf store (now (area .entry)) .lines) (now (area .entry)) (now (key .entry)) start stamp r ⌝ }
+    ensures { λ r. ⌜ LookedAt store (now (area .entry)) (now (key .entry)) start stamp r ⌝ }
 {
     let lines = store.lines;
     let load = store.load;

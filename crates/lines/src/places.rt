@@ -90,7 +90,7 @@ pub struct FoundRow {
 
 pub fn find_row(store: Store, area: &[u8], key: &[u8], start: u64) -> FoundRow
     requires { ⌜ Built store (now area) ⌝ }
-    ensures { λ r. ⌜ RowFound (boxOf store (now (area .entry)) .defaults) (now (area .entry)) (now (key .entry)) start r ⌝ }
+    ensures { λ r. ⌜ RowFound store (now (area .entry)) (now (key .entry)) start r ⌝ }
 {
     let defaults = store.defaults;
     let load = store.load;

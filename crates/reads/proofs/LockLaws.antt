@@ -18,7 +18,8 @@ use Rattle.lines.specs.declared.store.Intent.{Intent}
 use Rattle.lines.specs.declared.keys.Locked.{Locked}
 use Rattle.lines.specs.declared.keys.Locked.the-variants.{Nobody, By}
 use Rattle.lines.specs.declared.keys.Looked.{Looked}
-use Rattle.lines.specs.View.{lockIn}
+use Rattle.lines.specs.View.{lockIn, boxOf}
+use Rattle.lines.specs.declared.store.Store.{Store}
 use Rattle.lines.specs.Looks.{LookedAt, LockBelow, lockedBy}
 use Rattle.reads.specs.declared.seen.Pointed.{Pointed}
 use Rattle.reads.specs.declared.seen.Pointed.the-variants as pointed
@@ -82,10 +83,11 @@ module _ (k : Key) (m : ℕ) (b : Box) where
   unfolding intentAt ifPassed need
   point-invalid area h = record { is = sym (ap (λ (t : Bool). ifPassed (need t 1) (judgeLock m (lockOf k (b .lines)))) h); within = tt }
 
-  pub point-valid : {area : Bytes} {start stamp : ℕ} {found : Looked} {r : Pointed} → LookedAt (b .lines) area k start stamp found → keyForm k ≡ true
-      → PointedAs (judgeLock m (lockedBy area (found .lock))) area r → PointedAs (intentAt k m b) area r
+module _ (k : Key) (m : ℕ) {st : Store} {area : Bytes} where
+  pub point-valid : {start stamp : ℕ} {found : Looked} {r : Pointed} → LookedAt st area k start stamp found → keyForm k ≡ true
+      → PointedAs (judgeLock m (lockedBy area (found .lock))) area r → PointedAs (intentAt k m (boxOf st area)) area r
   unfolding intentAt ifPassed need
   point-valid f h p = record {
-    is = p .is ∙ ap (judgeLock m) (f .lock-is) ∙ sym (ap (λ (t : Bool). ifPassed (need t 1) (judgeLock m (lockOf k (b .lines)))) h);
+    is = p .is ∙ ap (judgeLock m) (f .lock-is) ∙ sym (ap (λ (t : Bool). ifPassed (need t 1) (judgeLock m (lockOf k (boxOf st area .lines)))) h);
     within = p .within;
   }

@@ -21,6 +21,8 @@ use Rattle.rules.specs.Box.{Box, Default, recordsOf, lockOf, rowOf}
 use Rattle.rules.specs.Sound.{soundRecord}
 use Rattle.rules.specs.Read.{lockLets, newestFirst, showIf, showRow, oneRecord, walk, read}
 use Rattle.rules.specs.Page.{withKey, readKey}
+use Rattle.lines.specs.declared.store.Store.{Store}
+use Rattle.lines.specs.View.{boxOf}
 use Rattle.lines.specs.declared.store.Intent.{Intent}
 use Rattle.lines.specs.declared.places.FoundRow.{FoundRow}
 use Rattle.lines.specs.declared.keys.Newest.{Newest}
@@ -117,36 +119,36 @@ module _ {b : Box} {area k : Bytes} {m : ℕ} {r : Seen} where
   pub read-on : KeyRead b area k m r → keyForm k ≡ true → SeenAs (read k m b) area r
   read-on s h = record { is = s .seen .is ∙ read-valid k m b h; within = s .seen .within }
 
-module _ (b : Box) {area k : Bytes} {start m : ℕ} {found : Looked} (f : LookedAt (b .lines) area k start m found) {lets : Answer} (l : (area : Bytes) → lets ≡ lockLets m (lockedBy area (found .lock))) where
-  steps : {a : Answer} {r : Reply Row} → lets ≡ a → r ≡ walk k (b .defaults) (newestFirst m (recordsOf k (b .lines))) → ifPassed a r ≡ readOn k m b
+module _ {st : Store} {area k : Bytes} {start m : ℕ} {found : Looked} (f : LookedAt st area k start m found) {lets : Answer} (l : (area : Bytes) → lets ≡ lockLets m (lockedBy area (found .lock))) where
+  steps : {a : Answer} {r : Reply Row} → lets ≡ a → r ≡ walk k (boxOf st area .defaults) (newestFirst m (recordsOf k (boxOf st area .lines))) → ifPassed a r ≡ readOn k m (boxOf st area)
   unfolding readOn
   steps {a} e q =
       ap (ifPassed a) q
-      ∙ ap (λ (x : Answer). ifPassed x (walk k (b .defaults) (newestFirst m (recordsOf k (b .lines))))) (sym e ∙ l area ∙ ap (lockLets m) (f .lock-is))
+      ∙ ap (λ (x : Answer). ifPassed x (walk k (boxOf st area .defaults) (newestFirst m (recordsOf k (boxOf st area .lines))))) (sym e ∙ l area ∙ ap (lockLets m) (f .lock-is))
 
-  pub key-held : {h : Holder} → lets ≡ Held h → KeyRead b area k m (seen.Refused (Held h))
+  pub key-held : {h : Holder} → lets ≡ Held h → KeyRead (boxOf st area) area k m (seen.Refused (Held h))
   unfolding ifPassed
   key-held e = key-read (record { is = steps e refl; within = tt })
 
-  pub key-no : {n : ℕ} → lets ≡ No n → KeyRead b area k m (seen.Refused (No n))
+  pub key-no : {n : ℕ} → lets ≡ No n → KeyRead (boxOf st area) area k m (seen.Refused (No n))
   unfolding ifPassed
   key-no e = key-read (record { is = steps e refl; within = tt })
 
   -- with the lock's step passed: what the newest record that counts shows
   module _ (e : lets ≡ Accepted) where
-    newest-is : {n : Newest} → found .history .newest ≡ n → showNewest k (b .defaults) n ≡ readOn k m b
+    newest-is : {n : Newest} → found .history .newest ≡ n → showNewest k (boxOf st area .defaults) n ≡ readOn k m (boxOf st area)
     unfolding ifPassed historyOf
     newest-is q =
         steps e
-        (ap (showNewest k (b .defaults)) (sym q ∙ ap (λ (h : History). h .newest) (f .history-is))
-        ∙ walk-newest k (b .defaults) (newestFirst m (recordsOf k (b .lines))))
+        (ap (showNewest k (boxOf st area .defaults)) (sym q ∙ ap (λ (h : History). h .newest) (f .history-is))
+        ∙ walk-newest k (boxOf st area .defaults) (newestFirst m (recordsOf k (boxOf st area .lines))))
 
-    pub key-nothing : found .history .newest ≡ newest.Nothing → KeyRead b area k m seen.Nothing
+    pub key-nothing : found .history .newest ≡ newest.Nothing → KeyRead (boxOf st area) area k m seen.Nothing
     key-nothing q = key-read (record { is = newest-is q; within = tt })
 
-    pub key-unsound : found .history .newest ≡ newest.Unsound → KeyRead b area k m (seen.Refused (No 9))
+    pub key-unsound : found .history .newest ≡ newest.Unsound → KeyRead (boxOf st area) area k m (seen.Refused (No 9))
     key-unsound q = key-read (record { is = newest-is q; within = tt })
 
-    pub key-row : {s : ℕ} {row : FoundRow} {r : Seen} → found .history .newest ≡ newest.Row s → RowFound (b .defaults) area k s row
-        → SeenAs (showRow (when (row .ok) (bytesAt area (row .at) (row .len)))) area r → KeyRead b area k m r
+    pub key-row : {s : ℕ} {row : FoundRow} {r : Seen} → found .history .newest ≡ newest.Row s → RowFound st area k s row
+        → SeenAs (showRow (when (row .ok) (bytesAt area (row .at) (row .len)))) area r → KeyRead (boxOf st area) area k m r
     key-row q w s = key-read (record { is = s .is ∙ ap showRow (w .is) ∙ newest-is q; within = s .within })

@@ -150,7 +150,7 @@ module _ {s : Bytes} {from count : ℕ} {st₀ : Store} {area₀ : Bytes} {at le
   default-here : Next defaultFrom s at left (e .ok) (defaultOf s e) (e .next)
   default-here = default-next (v .filling .form) q more
 
-  pub default-asks : {f : FoundRow} → RowFound (boxOf st area .defaults) area (bytesAt s (e .at) (e .len)) (e .start) f → RowAsks st area (f .place) (bytesAt s (e .at) (e .len)) (e .start) (bytesAt s (e .rowat) (e .rowlen))
+  pub default-asks : {f : FoundRow} → RowFound st area (bytesAt s (e .at) (e .len)) (e .start) f → RowAsks st area (f .place) (bytesAt s (e .at) (e .len)) (e .start) (bytesAt s (e .rowat) (e .rowlen))
   default-asks p =
       let g = good-default (v .filling .table) (defaultOf s e) (entry-good default-laws v default-here) in
       let t = entry-fits default-laws v default-here in
@@ -177,7 +177,7 @@ module _ {s : Bytes} {from count : ℕ} {st₀ : Store} {area₀ : Bytes} {at le
   write-here : Next writeFrom s at left (e .ok) (keyRecordOf s e) (e .next)
   write-here = write-next (v .filling .form) q more
 
-  pub write-asks : {f : Looked} → LookedAt (boxOf st area .lines) area (bytesAt s (e .at) (e .len)) (e .start) (e .stamp) f → RecordAsks st area (f .place) (bytesAt s (e .at) (e .len)) (keyRecordOf s e .write)
+  pub write-asks : {f : Looked} → LookedAt st area (bytesAt s (e .at) (e .len)) (e .start) (e .stamp) f → RecordAsks st area (f .place) (bytesAt s (e .at) (e .len)) (keyRecordOf s e .write)
   write-asks p =
       let g = good-write (v .filling .table) (keyRecordOf s e) (entry-good write-laws v write-here) in
       let t = entry-fits write-laws v write-here in

@@ -18,7 +18,7 @@ judged-lock-requires : tie.Need-judged-lock-requires
 judged-lock-requires c κs = (c .look) .ensures .lock-in
 
 returns-2 : tie.Need-returns-2
-returns-2 c = point-valid _ _ _ ((c .before .look) .ensures) (granted _ _ ((c .before .before .before .key-in-form) .ensures) ((c .before .before .if1) .left)) ((c .judged-lock) .ensures)
+returns-2 c = point-valid _ _ ((c .before .look) .ensures) (granted _ _ ((c .before .before .before .key-in-form) .ensures) ((c .before .before .if1) .left)) ((c .judged-lock) .ensures)
 
 pub intent-for-read-spec : {M : Type 1} → statement M
 intent-for-read-spec =

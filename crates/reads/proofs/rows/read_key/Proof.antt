@@ -36,19 +36,19 @@ enum-known-lets-2 : tie.Need-enum-known-lets-2
 enum-known-lets-2 c = search needs
 
 returns : tie.Need-returns
-returns c = key-nothing _ ((c .before .before .before .before .before .before .look) .ensures) ((c .before .before .before .before .before .lock-lets) .ensures) ((c .before .before .before .enum-told) .given .1) ((c .enum-told2) .given .1)
+returns c = key-nothing ((c .before .before .before .before .before .before .look) .ensures) ((c .before .before .before .before .before .lock-lets) .ensures) ((c .before .before .before .enum-told) .given .1) ((c .enum-told2) .given .1)
 
 returns-2 : tie.Need-returns-2
-returns-2 c = key-unsound _ ((c .before .before .before .before .before .before .look) .ensures) ((c .before .before .before .before .before .lock-lets) .ensures) ((c .before .before .before .enum-told) .given .1) ((c .enum-told3) .given .1)
+returns-2 c = key-unsound ((c .before .before .before .before .before .before .look) .ensures) ((c .before .before .before .before .before .lock-lets) .ensures) ((c .before .before .before .enum-told) .given .1) ((c .enum-told3) .given .1)
 
 returns-3 : tie.Need-returns-3
-returns-3 c = key-row _ ((c .before .before .before .before .before .before .before .before .before .look) .ensures) ((c .before .before .before .before .before .before .before .before .lock-lets) .ensures) ((c .before .before .before .before .before .before .enum-told) .given .1) ((c .before .before .before .newest) .given .1) ((c .before .find-row) .ensures) ((c .stored-row) .ensures)
+returns-3 c = key-row ((c .before .before .before .before .before .before .before .before .before .look) .ensures) ((c .before .before .before .before .before .before .before .before .lock-lets) .ensures) ((c .before .before .before .before .before .before .enum-told) .given .1) ((c .before .before .before .newest) .given .1) ((c .before .find-row) .ensures) ((c .stored-row) .ensures)
 
 returns-4 : tie.Need-returns-4
-returns-4 c = key-no _ ((c .before .before .before .before .look) .ensures) ((c .before .before .before .lock-lets) .ensures) ((c .before .lets) .given .1)
+returns-4 c = key-no ((c .before .before .before .before .look) .ensures) ((c .before .before .before .lock-lets) .ensures) ((c .before .lets) .given .1)
 
 returns-5 : tie.Need-returns-5
-returns-5 c = key-held _ ((c .before .before .before .before .look) .ensures) ((c .before .before .before .lock-lets) .ensures) ((c .before .lets2) .given .1)
+returns-5 c = key-held ((c .before .before .before .before .look) .ensures) ((c .before .before .before .lock-lets) .ensures) ((c .before .lets2) .given .1)
 
 pub read-key-spec : {M : Type 1} → statement M
 read-key-spec =

@@ -8,8 +8,11 @@ ghost use Rattle.forms.specs.Bytes.{Bytes, bytesAt};
 ghost use Rattle.forms.specs.Readers.{when, isSome};
 ghost use Rattle.rules.specs.Calls.{lockAt, kindReady};
 ghost use Rattle.lines.specs.Looks.{lockedBy, foundOf};
-use lines::{Found, FoundRow, Locked};
-use rules::{Kind, Record};
+use lines::Found;
+use lines::FoundRow;
+use lines::Locked;
+use rules::Kind;
+use rules::Record;
 
 // This start's lock stands, whosever it is.
 pub fn lock_at(lock: Locked, start: u64) -> bool

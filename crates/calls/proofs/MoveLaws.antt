@@ -57,7 +57,7 @@ module _ (i k : Key) (l : ltBytes k i ≡ true) where
   pub lock-ends : (x : Line) (es : List KeyLine) → linesBefore i (insertLine (record { key = k; line = x }) (dropLock k es)) + length es ≡ linesBefore i es + length (insertLine (record { key = k; line = x }) (dropLock k es))
   lock-ends x es = omega (arith, lock-goes es, line-comes x (dropLock k es))
 
--- ---- the defaults
+  -- ---- the defaults
 
   -- a row of a lower key goes
   pub row-goes : (s t : ℕ) (ds : List Default) → pairsBefore i s (dropRow k t ds) + length ds ≡ pairsBefore i s ds + length (dropRow k t ds)
