@@ -1,0 +1,2 @@
+-- The demands carried to the code. Assumes nothing.
+pub mod Carried
