@@ -46,12 +46,17 @@ impl Ops {
     pub fn has(self, op: u8) -> bool {
         op < 64 && self.0 >> op & 1 == 1
     }
+
+    /// Is there something to read by, and restore the only op that changes the box? Then what is read comes from images.
+    pub fn reads_images(self) -> bool {
+        self.has(32) && (1..=5).any(|op| self.has(op)) && !(6..=12).any(|op| self.has(op))
+    }
 }
 
 /// What a trace is about.
 #[derive(Clone, Copy, Debug, PartialEq, Eq)]
 pub enum Kind {
-    /// Calls of every op from a fresh store.
+    /// Calls of every op from a fresh store; mostly from an image where images are what is read.
     Fresh,
     /// The same from an odd but sound image.
     Odd,
@@ -83,20 +88,31 @@ pub fn kind_of(seed: u64) -> Kind {
     KINDS[random::Random::new(!seed).weighted(&weights)].0
 }
 
-/// The trace of a seed.
+/// The trace of a seed. A full box costs a driver as much time as thousands of reads and shows restore alone, so where
+/// images are what is read, most of these give way to small ones.
 pub fn trace(seed: u64, ops: Ops) -> Bytes {
-    trace_of(kind_of(seed), seed, ops)
+    let kind = match kind_of(seed) {
+        Kind::Room | Kind::Large if ops.reads_images() && !seed.is_multiple_of(8) => Kind::Odd,
+        kind => kind,
+    };
+    trace_of(kind, seed, ops)
 }
 
 /// A trace of this kind.
 pub fn trace_of(kind: Kind, seed: u64, ops: Ops) -> Bytes {
     let mut maker = Maker::new(seed, ops);
     match kind {
-        Kind::Fresh => some_calls(&mut maker, 4, 50),
+        Kind::Fresh => {
+            if ops.reads_images() && maker.random.percent(80) {
+                let restore = maker.sound_restore();
+                maker.push(restore);
+            }
+            some_calls(&mut maker, 4, if ops.reads_images() { 200 } else { 50 });
+        }
         Kind::Odd => {
             let restore = maker.sound_restore();
             maker.push(restore);
-            some_calls(&mut maker, 4, 35);
+            some_calls(&mut maker, 4, if ops.reads_images() { 200 } else { 35 });
         }
         Kind::Images => {
             for _ in 0..maker.random.between(1, 6) {

@@ -10,13 +10,37 @@ use crate::stock::stamp;
 
 /// A buffer as long as any page.
 const ROOMY: usize = 65_535;
+/// How often a read that shows nothing is drawn anew.
+const TRIES: usize = 8;
 
 impl Maker {
-    /// A read or one intent.
+    /// A read or one intent. Where images are what is read, half of them are drawn anew, a few times over, until they
+    /// show something.
     pub fn point(&mut self, op: u8, faulty: bool) -> Call {
+        let aimed = self.ops.reads_images() && !faulty && self.random.percent(50);
+        let mut call = self.one_point(op, faulty);
+        for _ in 0..if aimed { TRIES } else { 0 } {
+            if self.shows(&call) {
+                break;
+            }
+            call = self.one_point(op, faulty);
+        }
+        call
+    }
+
+    fn one_point(&mut self, op: u8, faulty: bool) -> Call {
         let key = self.stock.any_key(&mut self.random, &self.store, faulty);
         let moment = stamp(&mut self.random, &self.store, &key, faulty);
         if op == 1 { Call::Read { moment, key } } else { Call::OneIntent { moment, key } }
+    }
+
+    /// Does the call show a row or a lock?
+    fn shows(&self, call: &Call) -> bool {
+        match call {
+            Call::Read { moment, key } => matches!(self.store.read(*moment, key), Ok(Some(_))),
+            Call::OneIntent { moment, key } => matches!(self.store.one_intent(*moment, key), Ok(Some(_))),
+            _ => false,
+        }
     }
 
     fn bounds(&mut self, faulty: bool) -> Bounds {

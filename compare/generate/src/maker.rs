@@ -37,6 +37,9 @@ const OPS: [(u8, usize); 15] = [
     (34, 2),
 ];
 
+/// How many points stand for a page.
+const POINTS: usize = 3;
+
 impl Maker {
     pub fn new(seed: u64, ops: Ops) -> Self {
         let mut random = Random::new(seed);
@@ -54,7 +57,9 @@ impl Maker {
 
     /// One call by the weights; one in eight has several arguments at fault, so that the order of refusals shows.
     pub fn any_call(&mut self) {
-        let drawn: Vec<(u8, usize)> = OPS.into_iter().filter(|(op, _)| self.ops.has(*op)).collect();
+        let mut drawn: Vec<(u8, usize)> = OPS.into_iter().filter(|(op, _)| self.ops.has(*op)).collect();
+        // Many reads of each image.
+        drawn.iter_mut().filter(|(op, _)| *op == 32 && self.ops.reads_images()).for_each(|(_, weight)| *weight = 1);
         let weights: Vec<usize> = drawn.iter().map(|(_, weight)| *weight).collect();
         let op = drawn[self.random.weighted(&weights)].0;
         let faulty = self.random.percent(12);
@@ -112,10 +117,17 @@ impl Maker {
         Call::Restore { image: few_keys(&mut self.random, &self.stock).write() }
     }
 
-    /// The store's figures, and a look at every part of it that the ops allow.
+    /// The store's figures, and a look at every part of it that the ops allow: by pages, or by points where there are
+    /// no pages.
     pub fn look(&mut self) {
         self.push(Call::Statistics);
         self.push(Call::Marks);
+        for (op, page) in [(1, 2), (5, 3)] {
+            for _ in 0..if self.ops.has(op) && !self.ops.has(page) { POINTS } else { 0 } {
+                let call = self.point(op, false);
+                self.push(call);
+            }
+        }
         if self.ops.has(2) {
             let call = self.page(false);
             self.push(call);

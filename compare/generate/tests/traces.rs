@@ -1,7 +1,7 @@
 //! The generator keeps what it says: the same seed gives the same trace, only the ops asked for, and every kind of
 //! trace is what it is called.
 
-use std::collections::BTreeSet;
+use std::collections::{BTreeMap, BTreeSet};
 
 use generate::{Kind, Ops, kind_of, named, trace, trace_of};
 use paper::restore::Image;
@@ -34,6 +34,40 @@ fn only_the_ops_asked_for() {
     assert_eq!(Ops::read("13"), None);
     assert_eq!(Ops::read(""), None);
     assert_eq!(Ops::read("x"), None);
+}
+
+/// Where images are what is read, reads meet boxes that hold something, and see all that a read can see.
+#[test]
+fn reads_meet_boxes_that_hold_something() {
+    let ops = Ops::read("1,5,32,33,34").expect("a list of ops");
+    let mut seen: BTreeMap<(u8, &str), usize> = BTreeMap::new();
+    for seed in 0..1000 {
+        let mut store = Store::default();
+        for call in read_trace(&trace(seed, ops)).unwrap_or_default() {
+            let held = !(store.locks.is_empty() && store.records.is_empty());
+            let answer = run_call(&mut store, &call);
+            if matches!(call.op(), 1 | 5) {
+                let mut count = |what| *seen.entry((call.op(), what)).or_default() += 1;
+                count("all");
+                count(if held { "of a box with lines" } else { "of a box without" });
+                count(match (answer.number, answer.payload[0]) {
+                    (0, 0) => "nothing",
+                    (0, _) => "shown",
+                    (7, _) => "held",
+                    _ => "out of form",
+                });
+            }
+        }
+    }
+    println!("{seen:?}");
+    for op in [1, 5] {
+        let all = seen[&(op, "all")];
+        assert!(seen[&(op, "of a box with lines")] * 10 >= all * 8, "op {op}: {seen:?}");
+        assert!(seen[&(op, "of a box without")] > 100, "op {op}: {seen:?}");
+        assert!(seen[&(op, "shown")] * 10 >= all, "op {op}: {seen:?}");
+        assert!(seen[&(op, "nothing")] * 10 >= all, "op {op}: {seen:?}");
+    }
+    assert!(seen[&(1, "held")] * 10 >= seen[&(1, "all")], "{seen:?}");
 }
 
 #[test]

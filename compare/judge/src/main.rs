@@ -9,13 +9,14 @@ use judge::{bends, one, sample, shrink, two};
 
 const USAGE: &str = "\
 judge one      [--seconds N] [--seed S] [--ops LIST] [--smallest]    comparison 1: the paper against mvcc.rs
-judge two      [--seconds N] [--seed S] [--ops LIST] [--per-start N] [--save FILE] --driver COMMAND..
+judge two      [--seconds N] [--seed S] [--ops LIST] [--per-start N] [--patience N] [--save FILE] --driver COMMAND..
                                                                      comparison 2: a driver against the paper
 judge bends    [--traces N] [--seed S] [--ops LIST]                  how many traces notice each bent rule
 judge sample   [--ops LIST] FOLDER                                   writes the fixed sample of traces and answers
 judge check    FOLDER --driver COMMAND..                             replays a sample with a driver
 judge smallest FILE --bend NAME | [--save FILE] --driver COMMAND..   shrinks the trace in a file
-LIST is ops of TRACE.md such as 32,33,34; all if left out. COMMAND takes all words to the end of the line.";
+LIST is ops of TRACE.md such as 32,33,34; all if left out. COMMAND takes all words to the end of the line; a driver that
+writes nothing for as many seconds as --patience says (20) counts as hanging and is stopped.";
 
 /// The words of a command line.
 struct Words {
@@ -23,6 +24,7 @@ struct Words {
     seed: u64,
     traces: u64,
     per_start: u64,
+    patience: u64,
     ops: Ops,
     smallest: bool,
     bend: Option<String>,
@@ -48,7 +50,7 @@ fn command() -> Option<bool> {
     let name = words.next()?;
     let words = read(words)?;
     let length = Duration::from_secs(words.seconds);
-    let driver = Driver { words: words.driver.clone() };
+    let driver = Driver { words: words.driver.clone(), patience: Duration::from_secs(words.patience) };
     let has_driver = !words.driver.is_empty();
     match (name.as_str(), &words.plain[..]) {
         ("one", []) => Some(one::run(length, words.seed, words.ops, words.smallest)),
@@ -100,6 +102,7 @@ fn read(mut words: impl Iterator<Item = String>) -> Option<Words> {
         seed: now << 20,
         traces: 1000,
         per_start: 200,
+        patience: 20,
         ops: Ops::all(),
         smallest: false,
         bend: None,
@@ -113,6 +116,7 @@ fn read(mut words: impl Iterator<Item = String>) -> Option<Words> {
             "--seed" => read.seed = words.next()?.parse().ok()?,
             "--traces" => read.traces = words.next()?.parse().ok()?,
             "--per-start" => read.per_start = words.next()?.parse().ok()?,
+            "--patience" => read.patience = words.next()?.parse().ok()?,
             "--ops" => read.ops = Ops::read(&words.next()?)?,
             "--smallest" => read.smallest = true,
             "--bend" => read.bend = Some(words.next()?),

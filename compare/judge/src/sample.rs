@@ -78,7 +78,9 @@ pub fn write(folder: &str, ops: Ops) -> bool {
     }
     for longest in SIZES {
         for number in 0..TRIED {
-            sample.offer(generate::trace(SEED + number, ops), false, longest);
+            // With every full box: a sample may take its time.
+            let seed = SEED + number;
+            sample.offer(generate::trace_of(generate::kind_of(seed), seed, ops), false, longest);
         }
     }
     let answers: Bytes = sample.traces.iter().flat_map(|trace| answers_of(trace)).collect();
@@ -150,8 +152,8 @@ pub fn check(folder: &str, driver: &Driver) -> bool {
             println!("sample: the answers part at byte {place}; {} bytes against {}", output.len(), answers.len());
             false
         }
-        Err(error) => {
-            println!("{error}");
+        Err(fault) => {
+            println!("{}", fault.text);
             false
         }
     }

@@ -1,8 +1,9 @@
 //! Comparison 2: a driver against the paper, where nothing may differ. Many traces go to each start of the driver, and
 //! one of them is given to it alone as well.
 
-use std::io::{Read, Write};
-use std::process::{Command, Stdio};
+use std::io::{ErrorKind, Read, Write};
+use std::process::{Child, ChildStdout, Command, ExitStatus, Stdio};
+use std::sync::mpsc::{Receiver, RecvTimeoutError, channel};
 use std::time::{Duration, Instant};
 
 use generate::Ops;
@@ -14,40 +15,121 @@ use paper::trace::read_trace;
 use crate::bends::answers_of;
 use crate::{shrink, words};
 
-/// A driver's command: its program and words before `many`.
+/// A driver's command: its program and words before `many`; and how long it may be silent, so that one that hangs is
+/// found. A driver that writes each answer as it comes is silent no longer than a call takes.
 pub struct Driver {
     pub words: Vec<String>,
+    pub patience: Duration,
+}
+
+/// Why a driver's output is not whole, and what it wrote before that.
+pub struct Fault {
+    pub text: String,
+    pub hangs: bool,
+    pub output: Bytes,
+}
+
+impl Fault {
+    fn plain(text: String) -> Self {
+        Fault { text, hangs: false, output: Bytes::new() }
+    }
 }
 
 impl Driver {
     /// The driver's output for this input, or why there is none.
-    pub fn run(&self, input: &[u8], many: bool) -> Result<Bytes, String> {
-        let (program, first) = self.words.split_first().ok_or("no driver is named")?;
+    pub fn run(&self, input: &[u8], many: bool) -> Result<Bytes, Fault> {
+        let (program, first) = self.words.split_first().ok_or(Fault::plain("no driver is named".to_string()))?;
         let mut child = Command::new(program)
             .args(first)
             .args(many.then_some("many"))
             .stdin(Stdio::piped())
             .stdout(Stdio::piped())
             .spawn()
-            .map_err(|error| format!("{program} does not start: {error}"))?;
-        let mut to = child.stdin.take().ok_or("no way to the driver")?;
-        let mut from = child.stdout.take().ok_or("no way from the driver")?;
-        let mut output = Bytes::new();
+            .map_err(|error| Fault::plain(format!("{program} does not start: {error}")))?;
+        let mut to = child.stdin.take().expect("the driver's input is a pipe");
+        let from = child.stdout.take().expect("the driver's output is a pipe");
+        // Neither thread is waited for: where a driver hangs, one that it has started may hold the pipes open.
         // A driver that stops reading early breaks the pipe; what it wrote is judged all the same.
-        std::thread::scope(|scope| {
-            scope.spawn(move || {
-                let _ = to.write_all(input);
-            });
-            from.read_to_end(&mut output)
-        })
-        .map_err(|error| format!("the driver's answers do not read: {error}"))?;
-        let status = child.wait().map_err(|error| format!("the driver does not end: {error}"))?;
-        if status.success() { Ok(output) } else { Err(format!("the driver ends with {status}")) }
+        let input = input.to_vec();
+        std::thread::spawn(move || {
+            let _ = to.write_all(&input);
+        });
+        let mut output = Bytes::new();
+        let ended = match take_all(&pieces(from), self.patience, &mut output) {
+            Some(Ok(())) => ended(&mut child, self.patience),
+            Some(Err(error)) => Some(Err(error)),
+            None => None,
+        };
+        match ended {
+            Some(Ok(status)) if status.success() => Ok(output),
+            Some(Ok(status)) => Err(Fault { text: format!("the driver ends with {status}"), hangs: false, output }),
+            Some(Err(error)) => {
+                Err(Fault { text: format!("the driver's answers do not read: {error}"), hangs: false, output })
+            }
+            None => {
+                let _ = child.kill();
+                let _ = child.wait();
+                let text = format!(
+                    "the driver hangs: no byte and no end for {} seconds, after {} bytes of answers; it was stopped",
+                    self.patience.as_secs_f64(),
+                    output.len()
+                );
+                Err(Fault { text, hangs: true, output })
+            }
+        }
     }
 
     /// Does the driver differ from the paper on this one trace?
     pub fn differs(&self, trace: &[u8]) -> bool {
-        self.run(trace, false).as_ref() != Ok(&answers_of(trace))
+        self.run(trace, false).ok() != Some(answers_of(trace))
+    }
+}
+
+type Pieces = Receiver<std::io::Result<Bytes>>;
+
+/// What the driver writes, piece by piece, from a thread of its own.
+fn pieces(mut from: ChildStdout) -> Pieces {
+    let (send, receive) = channel();
+    std::thread::spawn(move || {
+        let mut piece = vec![0; 65_536];
+        loop {
+            let said = match from.read(&mut piece) {
+                Ok(0) => return,
+                Ok(length) => Ok(piece[..length].to_vec()),
+                Err(error) if error.kind() == ErrorKind::Interrupted => continue,
+                Err(error) => Err(error),
+            };
+            let fault = said.is_err();
+            if send.send(said).is_err() || fault {
+                return;
+            }
+        }
+    });
+    receive
+}
+
+/// All that is written, to its end; none if nothing comes for too long.
+fn take_all(pieces: &Pieces, patience: Duration, output: &mut Bytes) -> Option<std::io::Result<()>> {
+    loop {
+        match pieces.recv_timeout(patience) {
+            Ok(Ok(piece)) => output.extend_from_slice(&piece),
+            Ok(Err(error)) => return Some(Err(error)),
+            Err(RecvTimeoutError::Disconnected) => return Some(Ok(())),
+            Err(RecvTimeoutError::Timeout) => return None,
+        }
+    }
+}
+
+/// How the driver ends once its output has; none if it does not.
+fn ended(child: &mut Child, patience: Duration) -> Option<std::io::Result<ExitStatus>> {
+    let begin = Instant::now();
+    loop {
+        match child.try_wait() {
+            Ok(Some(status)) => return Some(Ok(status)),
+            Ok(None) if begin.elapsed() < patience => std::thread::sleep(Duration::from_millis(1)),
+            Ok(None) => return None,
+            Err(error) => return Some(Err(error)),
+        }
     }
 }
 
@@ -104,22 +186,18 @@ pub fn run(driver: &Driver, length: Duration, choice: &Choice) -> bool {
 }
 
 /// Finds the trace at which the outputs part, and shrinks it.
-fn report(driver: &Driver, batch: &[Bytes], expected: &[Bytes], output: Result<Bytes, String>, save: Option<&str>) {
-    let output = match output {
-        Ok(output) => output,
-        Err(error) => {
-            println!("{error}");
-            match batch.iter().find(|trace| driver.differs(trace)) {
-                Some(trace) => report_trace(driver, trace, save),
-                None => println!("no single trace of this start shows it; only many in one start do"),
-            }
-            return;
+fn report(driver: &Driver, batch: &[Bytes], expected: &[Bytes], output: Result<Bytes, Fault>, save: Option<&str>) {
+    let (output, whole) = match output {
+        Ok(output) => (output, true),
+        Err(fault) => {
+            println!("{}", fault.text);
+            (fault.output, false)
         }
     };
     let mut place = 0;
-    for (trace, answers) in batch.iter().zip(expected) {
+    for (number, (trace, answers)) in batch.iter().zip(expected).enumerate() {
         if output.get(place..place + answers.len()) != Some(answers) {
-            println!("the driver differs from the paper");
+            println!("the driver differs from the paper at trace {} of the {} of this start", number + 1, batch.len());
             if driver.differs(trace) {
                 report_trace(driver, trace, save);
             } else {
@@ -130,13 +208,23 @@ fn report(driver: &Driver, batch: &[Bytes], expected: &[Bytes], output: Result<B
         }
         place += answers.len();
     }
-    println!("the driver writes {} bytes beyond the last answer", output.len() - place);
+    if whole {
+        println!("the driver writes {} bytes beyond the last answer", output.len() - place);
+    } else {
+        println!("every answer of this start was written");
+    }
 }
 
-/// The smallest trace found, and both sides' answers; the trace is kept in a file if one is named.
+/// The smallest trace found, and both sides' answers; the trace is kept in a file if one is named. A trace at which the
+/// driver hangs is not made smaller, since each try would wait.
 pub fn report_trace(driver: &Driver, trace: &[u8], save: Option<&str>) {
-    let smallest = shrink::smallest(trace, 400, &mut |trace| driver.differs(trace));
-    println!("the smallest trace found, {} bytes: {}", smallest.len(), words::hex(&smallest));
+    let hangs = driver.run(trace, false).is_err_and(|fault| fault.hangs);
+    let (smallest, what) = if hangs {
+        (trace.to_vec(), "a trace at which the driver hangs")
+    } else {
+        (shrink::smallest(trace, 400, &mut |trace| driver.differs(trace)), "the smallest trace found")
+    };
+    println!("{what}, {} bytes: {}", smallest.len(), words::hex(&smallest));
     if let Some(file) = save {
         match std::fs::write(file, &smallest) {
             Ok(()) => println!("kept in {file}"),
@@ -149,7 +237,10 @@ pub fn report_trace(driver: &Driver, trace: &[u8], save: Option<&str>) {
     println!("the driver's answers:");
     match driver.run(&smallest, false) {
         Ok(output) => print_answers(&output),
-        Err(error) => println!("  {error}"),
+        Err(fault) => {
+            print_answers(&fault.output);
+            println!("  {}", fault.text);
+        }
     }
 }
 

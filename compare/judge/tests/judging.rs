@@ -1,5 +1,7 @@
 //! The judge judges: no difference outside the classes, a planted fault is found and shrunk, and bends are noticed.
 
+use std::time::{Duration, Instant};
+
 use generate::Ops;
 use judge::bends::{answers_of, named, notices};
 use judge::classes::Class;
@@ -55,11 +57,28 @@ fn many_traces_in_one_start_answer_as_each_alone() {
     assert_eq!(many_answers(&many_form(&traces)), Some(alone));
 }
 
+fn shell(command: &str, patience: Duration) -> Driver {
+    Driver { words: ["sh", "-c", command].map(String::from).to_vec(), patience }
+}
+
 #[test]
 fn a_driver_is_judged_by_its_bytes() {
-    let silent = Driver { words: ["sh", "-c", "cat > /dev/null"].map(String::from).to_vec() };
+    let silent = shell("cat > /dev/null", Duration::from_secs(10));
     assert!(!silent.differs(&[0, 0]), "a trace of no calls has no answer");
     assert!(silent.differs(&[]), "an empty input has one");
-    let failing = Driver { words: ["sh", "-c", "exit 3"].map(String::from).to_vec() };
+    let failing = shell("exit 3", Duration::from_secs(10));
     assert!(failing.differs(&[0, 0]), "a driver that ends with a fault differs");
+}
+
+#[test]
+fn a_driver_that_hangs_is_stopped() {
+    let begin = Instant::now();
+    for (command, written) in [("sleep 30", 0), ("printf xy; sleep 30", 2), ("exec >&-; sleep 30", 0)] {
+        let fault = shell(command, Duration::from_millis(300)).run(&[0, 0], false).expect_err("it hangs");
+        assert!(fault.hangs && fault.text.contains("hangs"), "{command}: {}", fault.text);
+        assert_eq!(fault.output.len(), written, "{command}");
+    }
+    assert!(begin.elapsed() < Duration::from_secs(15));
+    let slow = shell("for i in 1 2 3 4 5; do printf x; sleep 0.1; done", Duration::from_millis(400));
+    assert_eq!(slow.run(&[], false).ok(), Some(b"xxxxx".to_vec()), "a slow one that writes on is let be");
 }

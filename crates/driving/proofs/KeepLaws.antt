@@ -5,7 +5,7 @@ use lib.ListN.{length}
 use Rattle.forms.specs.Bytes.{Bytes}
 use Rattle.lines.specs.declared.store.Store.{Store}
 use Rattle.lines.specs.Made.{Made}
-use Rattle.driving.specs.declared.run.Ran.{Ran}
+use Rattle.driving.specs.declared.ran.Ran.{Ran}
 use Rattle.driving.specs.Ran.{RunCall}
 use Rattle.driving.proofs.RunLaws.{ran-made}
 

@@ -1,3 +1,4 @@
 pub mod TellLaws
+pub mod ReplyLaws
 pub mod RunLaws
 pub mod KeepLaws

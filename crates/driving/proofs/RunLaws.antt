@@ -1,6 +1,6 @@
 -- A call, run: from the arguments to the call's own definition, and from an answer that fits to what `run_call` promises.
 -- Assumes nothing.
-use Prim.Native.Nat.{ℕ, _+_, _≤_, _<_}
+use Prim.Native.Nat.{ℕ, _≤_, _<_}
 use native.Mathlib.Omega.{arith}
 use mathlib.Core.Path.{_≡_, refl, sym, _∙_, ap, subst}
 use mathlib.Core.Bool.{Bool, true, false, not}
@@ -11,61 +11,68 @@ use lib.Dec.{ltb}
 use types.Run.{OneOf, miss}
 use borrow.Author.Tests.{not-true, not-false, ltb-true, ltb-false}
 use denote.Enum.Declared.{tagOf}
-use Rattle.forms.specs.Bytes.{Bytes, bytesAt}
+use Rattle.forms.specs.Bytes.{Bytes}
 use Rattle.forms.specs.Readers.{when}
 use Rattle.rules.specs.declared.answers.Answer.{Answer}
-use Rattle.rules.specs.declared.answers.Answer.the-variants.{Accepted, No}
 use Rattle.rules.specs.Answers.{number, holder}
 use Rattle.rules.specs.Box.{Box}
 use Rattle.rules.specs.Calls.{Done}
-use Rattle.rules.specs.Restore.{restore}
-use Rattle.rules.specs.Figures.{stats, marks}
 use Rattle.calls.specs.declared.changed.Changed.{Changed}
+use Rattle.calls.specs.Settled.{Settled}
 use Rattle.restores.specs.Replaced.{Replaced}
 use Rattle.traces.specs.declared.args.Args.{Args}
 use Rattle.traces.proofs.op.Op as ops
 use Rattle.traces.specs.declared.op.Op.{Op}
 use Rattle.traces.specs.Calls.{Call, call}
 use Rattle.traces.specs.Args.{callOf, callAs, ArgsOf}
-use Rattle.replies.specs.Payloads.{statsPayload, marksPayload}
 use Rattle.replies.specs.Answers.{answerBytes}
 use Rattle.replies.proofs.FormLaws.{length-answer}
 use Rattle.lines.specs.declared.store.Store.{Store}
 use Rattle.lines.specs.View.{boxOf}
 use Rattle.lines.specs.Made.{Made}
-use Rattle.driving.specs.Told.{Told, told, toldOf, toldBytes, notRun, showing, changing, Writes}
-use Rattle.driving.specs.Ran.{RunAsks, RanAs, Unrun, RunCall, longest}
-use Rattle.driving.specs.declared.run.Ran.{Ran}
-use Rattle.driving.proofs.TellLaws.{written, written-count, length-stats, length-marks}
+use Rattle.driving.specs.Told.{Told, told, toldOf, toldBytes, notRun, changing, Writes}
+use Rattle.driving.specs.Ran.{RunAsks, RanAs, DoneAs, TellsChange, Unrun, RunCall, longest}
+use Rattle.driving.specs.declared.ran.Ran.{Ran}
+use Rattle.driving.proofs.TellLaws.{written, written-count}
 
--- what a call that leaves the store as it was promises, once its answer is written
-pub showed : (t : Told) {st : Store} {area out out′ : Bytes} {n : ℕ} → Made st area → boxOf st area ≡ t .box → length (t .payload) ≤ 65535 → longest ≤ length out → Writes (toldBytes t) out n out′
+-- what a call that leaves the store as it was promises, once its answer is written; its payload has at most k bytes
+pub showed : (t : Told) (k : ℕ) {st : Store} {area out out′ : Bytes} {n : ℕ} → Made st area → boxOf st area ≡ t .box → length (t .payload) ≤ k → k ≤ 65535 → longest ≤ length out → Writes (toldBytes t) out n out′
     → RanAs t out (record { store = st; len = n }) area out′
-showed t {out = out} m e short long w =
+showed t k {out = out} m e short few long w =
     let h : length (toldBytes t) ≤ length out = omega (arith, length-answer (number (t .answer)) (holder (t .answer) .txn) (holder (t .answer) .start) (t .count) (t .payload)) in
     record { made = m; shown = e; put = written h w; within = omega (arith, written-count h w) }
 
 -- what a call that changes the store promises, once its answer is written
-pub changed : (d : Done) {m : Changed} {area′ out out′ : Bytes} {n : ℕ} → m .answer ≡ d .answer → Made (m .store) area′ → boxOf (m .store) area′ ≡ d .box → longest ≤ length out → Writes (answerBytes (m .answer) 0 []) out n out′
+changed : (d : Done) {m : Changed} {area′ out out′ : Bytes} {n : ℕ} → DoneAs d m area′ → longest ≤ length out → Writes (answerBytes (m .answer) 0 []) out n out′
     → RanAs (changing d) out (record { store = m .store; len = n }) area′ out′
-changed d {m} {out = out} {out′ = out′} {n = n} a k e long w =
-    let v : Writes (toldBytes (changing d)) out n out′ = subst (λ (x : Answer). Writes (answerBytes x 0 []) out n out′) a w in
+changed d {m} {out = out} {out′ = out′} {n = n} v long w =
+    let u : Writes (toldBytes (changing d)) out n out′ = subst (λ (x : Answer). Writes (answerBytes x 0 []) out n out′) (v .answer-is) w in
     let h : length (toldBytes (changing d)) ≤ length out = omega (arith, length-answer (number (d .answer)) (holder (d .answer) .txn) (holder (d .answer) .start) 0 []) in
-    record { made = k; shown = e; put = written h v; within = omega (arith, written-count h v) }
+    record { made = v .made; shown = v .shown; put = written h u; within = omega (arith, written-count h u) }
+
+pub tells-change : {m : Changed} {out out′ : Bytes} {n : ℕ} → longest ≤ length out → Writes (answerBytes (m .answer) 0 []) out n out′ → TellsChange m out (record { store = m .store; len = n }) out′
+tells-change long w = record { tells = λ d area′ v. changed d v long w }
+
+-- the promise of restore, and that of every other changing call
+pub replaced : {st : Store} {area : Bytes} {d : Done} {m : Changed} {area′ : Bytes} → Replaced st area d m area′ → DoneAs d m area′
+replaced v = record { answer-is = v .answer-is; made = v .made; shown = v .shown }
+
+pub settled : {st : Store} {area : Bytes} {d : Done} {m : Changed} {area′ : Bytes} → Settled st area d m area′ → DoneAs d m area′
+settled v = record { answer-is = v .answer-is; made = v .made; shown = v .shown }
 
 -- ---- by the op
 
 -- the tags of the ops of calls that do not exist yet
 abbrev pub others : List ℕ
-others = 0 ∷ 1 ∷ 2 ∷ 3 ∷ 4 ∷ 5 ∷ 6 ∷ 7 ∷ 8 ∷ 9 ∷ 10 ∷ 11 ∷ []
+others = 1 ∷ 2 ∷ 3 ∷ 5 ∷ 6 ∷ 7 ∷ 8 ∷ 9 ∷ 10 ∷ 11 ∷ []
 
 unknown : (op : Op) (a : Args) (s : Bytes) (b : Box) → OneOf others (tagOf ops.the-type op) → told (callAs op s a) b ≡ notRun b
 unfolding told
-unknown Op.Read a s b h = refl
+unknown Op.Read a s b h = absurd (miss others 0 tt h)
 unknown Op.Page a s b h = refl
 unknown Op.IntentPage a s b h = refl
 unknown Op.ConflictingIntents a s b h = refl
-unknown Op.OneIntent a s b h = refl
+unknown Op.OneIntent a s b h = absurd (miss others 4 tt h)
 unknown Op.Prewrite a s b h = refl
 unknown Op.PrewriteBatch a s b h = refl
 unknown Op.Commit a s b h = refl
@@ -77,29 +84,14 @@ unknown Op.Restore a s b h = absurd (miss others 12 tt h)
 unknown Op.Statistics a s b h = absurd (miss others 13 tt h)
 unknown Op.Marks a s b h = absurd (miss others 14 tt h)
 
-module _ {a : Args} {s : Bytes} {st : Store} {area out out′ : Bytes} {n : ℕ} (asks : RunAsks st area s a out) where
+module _ {st : Store} {area s : Bytes} {a : Args} {out : Bytes} (asks : RunAsks st area s a out) {r : Ran} {area′ out′ : Bytes} where
   -- a call of this op, run, is the call that the arguments say
-  pub by-op : {op : Op} → a .op ≡ op → RanAs (told (callAs op s a) (boxOf st area)) out (record { store = st; len = n }) area out′ → RanAs (told (callOf s a) (boxOf st area)) out (record { store = st; len = n }) area out′
-  by-op e r = subst (λ (o : Op). RanAs (told (callAs o s a) (boxOf st area)) out (record { store = st; len = n }) area out′) (sym e) r
-
-  pub run-stats : a .op ≡ Op.Statistics → Writes (answerBytes Accepted 0 (statsPayload (stats (boxOf st area)))) out n out′ → RanAs (told (callOf s a) (boxOf st area)) out (record { store = st; len = n }) area out′
-  unfolding told
-  run-stats e w = by-op e (showed (told Call.Statistics (boxOf st area)) (asks .made) refl (omega (arith, length-stats (stats (boxOf st area)))) (asks .long) w)
-
-  pub run-marks : a .op ≡ Op.Marks → Writes (answerBytes Accepted 0 (marksPayload (marks (boxOf st area)))) out n out′ → RanAs (told (callOf s a) (boxOf st area)) out (record { store = st; len = n }) area out′
-  unfolding told
-  run-marks e w = by-op e (showed (told Call.Marks (boxOf st area)) (asks .made) refl (omega (arith, length-marks (marks (boxOf st area)))) (asks .long) w)
-
-  pub run-restore : {m : Changed} {area′ : Bytes} → a .op ≡ Op.Restore → Replaced st area (restore (bytesAt s (a .restat) (a .restlen)) (boxOf st area)) m area′ → Writes (answerBytes (m .answer) 0 []) out n out′
-      → RanAs (told (callOf s a) (boxOf st area)) out (record { store = m .store; len = n }) area′ out′
-  unfolding told
-  run-restore {m} {area′} e v w =
-      subst (λ (o : Op). RanAs (told (callAs o s a) (boxOf st area)) out (record { store = m .store; len = n }) area′ out′) (sym e)
-      (changed (restore (bytesAt s (a .restat) (a .restlen)) (boxOf st area)) (v .answer-is) (v .made) (v .shown) (asks .long) w)
+  pub by-op : (op : Op) → a .op ≡ op → RanAs (told (callAs op s a) (boxOf st area)) out r area′ out′ → RanAs (told (callOf s a) (boxOf st area)) out r area′ out′
+  by-op op e v = subst (λ (o : Op). RanAs (told (callAs o s a) (boxOf st area)) out r area′ out′) (sym e) v
 
   -- a call that does not exist yet
-  pub run-unknown : OneOf others (tagOf ops.the-type (a .op)) → Writes (answerBytes (No 6) 0 []) out n out′ → RanAs (told (callOf s a) (boxOf st area)) out (record { store = st; len = n }) area out′
-  run-unknown h w = subst (λ (t : Told). RanAs t out (record { store = st; len = n }) area out′) (sym (unknown (a .op) a s (boxOf st area) h)) (showed (notRun (boxOf st area)) (asks .made) refl (omega arith) (asks .long) w)
+  pub by-none : OneOf others (tagOf ops.the-type (a .op)) → RanAs (notRun (boxOf st area)) out r area′ out′ → RanAs (told (callOf s a) (boxOf st area)) out r area′ out′
+  by-none h v = subst (λ (t : Told). RanAs t out r area′ out′) (sym (unknown (a .op) a s (boxOf st area) h)) v
 
 -- ---- the call's bytes
 
@@ -107,12 +99,12 @@ module _ {st : Store} {area s out : Bytes} where
   pub run-short : length out < longest → RunCall st area s out (record { store = st; len = 0 }) area out
   run-short h = record { ran = λ g. absurd (omega arith); short = λ g. record { store-is = refl; area-is = refl; out-is = refl; len-is = refl } }
 
-  pub run-formless : {a : Args} {n : ℕ} {out′ : Bytes} → Made st area → ArgsOf s a → not (a .ok) ≡ true → longest ≤ length out → Writes (answerBytes (No 6) 0 []) out n out′ → RunCall st area s out (record { store = st; len = n }) area out′
+  pub run-formless : {a : Args} {r : Ran} {area′ out′ : Bytes} → ArgsOf s a → not (a .ok) ≡ true → longest ≤ length out → RanAs (notRun (boxOf st area)) out r area′ out′ → RunCall st area s out r area′ out′
   unfolding toldOf
-  run-formless {a} {n} {out′} m g k long w =
+  run-formless {a} {r} {area′} {out′} g k long v =
       let e : call s ≡ none = g .is ∙ ap (λ (f : Bool). when f (callOf s a)) (not-true (a .ok) k) in
       record {
-        ran = λ q. subst (λ (c : Option Call). RanAs (toldOf c (boxOf st area)) out (record { store = st; len = n }) area out′) (sym e) (showed (notRun (boxOf st area)) m refl (omega arith) long w);
+        ran = λ q. subst (λ (c : Option Call). RanAs (toldOf c (boxOf st area)) out r area′ out′) (sym e) v;
         short = λ q. absurd (omega arith);
       }
 

@@ -1,15 +1,13 @@
 -- Answers written over a buffer: that a payload, put into a buffer of its own, is what the answer carries.
 -- Assumes nothing.
-use Prim.Native.Nat.{ℕ, _*_, _≤_}
+use Prim.Native.Nat.{ℕ, _≤_}
 use native.Mathlib.Omega.{arith}
 use mathlib.Core.Path.{_≡_, refl, sym, _∙_, ap, subst}
 use mathlib.Core.Bool.{Bool, true, false}
-use mathlib.Core.List.{[], _++_}
 use lib.ListN.{length, take, drop}
 use lib.Seq.{take-at}
 use borrow.Author.Tests.{le-leb, leb-true}
 use Rattle.forms.specs.Bytes.{Bytes}
-use Rattle.forms.specs.Places.{putIf}
 use Rattle.rules.specs.declared.answers.Holder.{Holder}
 use Rattle.rules.specs.declared.answers.Answer.{Answer}
 use Rattle.rules.specs.declared.answers.Answer.the-variants.{Accepted}
@@ -45,6 +43,9 @@ within {b} {s} {r} v = omega (arith, v .count, counts (room b s) refl)
     counts true e = leb-true (length b) (length s) e
     counts false e = omega arith
 
+pub at-most : (n : ℕ) {b s : Bytes} {r : ℕ} {t : Bytes} → length s ≤ n → Writes b s r t → r ≤ n
+at-most n h v = omega (arith, within v)
+
 -- ---- an answer
 
 -- the number and the holder are the answer's
@@ -64,8 +65,14 @@ carried a count {out = out} {out′ = out′} {r = r} h v w =
 pub length-stats : (s : Stats) → length (statsPayload s) ≡ 120
 length-stats s = length-numbers _
 
+pub stats-short : (s : Stats) → length (statsPayload s) ≤ 120
+stats-short s = omega (arith, length-stats s)
+
 pub length-marks : (m : Marks) → length (marksPayload m) ≡ 16
 length-marks m = length-numbers _
+
+pub marks-short : (m : Marks) → length (marksPayload m) ≤ 16
+marks-short m = omega (arith, length-marks m)
 
 module _ (x : Stats) {pay pay′ : Bytes} {n : ℕ} (long : 120 ≤ length pay) (v : Writes (statsPayload x) pay n pay′) where
   pub stats-count : n ≡ 120

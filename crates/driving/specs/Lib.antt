@@ -1,2 +1,3 @@
 pub mod Told
+pub mod Replying
 pub mod Ran

@@ -5,6 +5,8 @@ use mathlib.Core.Path.{_≡_}
 use mathlib.Core.Bool.{true}
 use lib.ListN.{length}
 use Rattle.forms.specs.Bytes.{Bytes}
+use Rattle.rules.specs.Calls.{Done}
+use Rattle.calls.specs.declared.changed.Changed.{Changed}
 use Rattle.traces.specs.declared.args.Args.{Args}
 use Rattle.traces.specs.Calls.{call}
 use Rattle.traces.specs.Args.{ArgsIn}
@@ -12,8 +14,8 @@ use Rattle.replies.specs.Put.{Put}
 use Rattle.lines.specs.declared.store.Store.{Store}
 use Rattle.lines.specs.View.{boxOf}
 use Rattle.lines.specs.Made.{Made}
-use Rattle.driving.specs.Told.{Told, toldOf, toldBytes}
-use Rattle.driving.specs.declared.run.Ran.{Ran}
+use Rattle.driving.specs.Told.{Told, toldOf, toldBytes, changing}
+use Rattle.driving.specs.declared.ran.Ran.{Ran}
 
 -- the store shows the box that the call leaves; the answer's bytes stand over the front of the buffer, all of them and nothing beyond, and
 -- the length is theirs
@@ -22,6 +24,17 @@ pub record RanAs (t : Told) (out : Bytes) (r : Ran) (area′ out′ : Bytes) : T
   pub shown : boxOf (r .store) area′ ≡ t .box
   pub put : Put true (toldBytes t) out (r .len) out′
   pub within : r .len ≤ length out
+
+-- what the promise of every changing call holds, restore's and the others': the answer is the definition's, the store is made and shows the
+-- definition's box
+pub record DoneAs (d : Done) (m : Changed) (area′ : Bytes) : Type 0 where
+  pub answer-is : m .answer ≡ d .answer
+  pub made : Made (m .store) area′
+  pub shown : boxOf (m .store) area′ ≡ d .box
+
+-- whatever the definition, what it tells is told
+pub record TellsChange (m : Changed) (out : Bytes) (r : Ran) (out′ : Bytes) : Type 0 where
+  pub tells : (d : Done) (area′ : Bytes) → DoneAs d m area′ → RanAs (changing d) out r area′ out′
 
 -- nothing is run or written
 pub record Unrun (st : Store) (area out : Bytes) (r : Ran) (area′ out′ : Bytes) : Type 0 where

@@ -6,13 +6,16 @@ use mathlib.Core.Option.{Option, none, some}
 use Rattle.forms.specs.Bytes.{Bytes}
 use Rattle.rules.specs.declared.answers.Answer.{Answer}
 use Rattle.rules.specs.declared.answers.Answer.the-variants.{Accepted, No}
+use Rattle.rules.specs.Answers.{Reply, answerOf}
 use Rattle.rules.specs.Box.{Box, fresh}
 use Rattle.rules.specs.Calls.{Done}
+use Rattle.rules.specs.Read.{read}
+use Rattle.rules.specs.Intent.{intentAt}
 use Rattle.rules.specs.Restore.{restore}
 use Rattle.rules.specs.Figures.{stats, marks}
 use Rattle.traces.specs.Calls.{Call}
 use Rattle.replies.specs.Put.{Put, room}
-use Rattle.replies.specs.Payloads.{statsPayload, marksPayload}
+use Rattle.replies.specs.Payloads.{readPayload, intentPayload, statsPayload, marksPayload}
 use Rattle.replies.specs.Answers.{answerBytes, notInForm}
 
 -- "the answer's number (1 byte), the holder's transaction (8), the holder's start (8), the count (8), a 4-byte payload length, the payload";
@@ -31,6 +34,13 @@ toldBytes t = answerBytes (t .answer) (t .count) (t .payload)
 abbrev pub showing : Answer → Bytes → Box → Told
 showing a payload b = record { answer = a; count = 0; payload = payload; box = b }
 
+-- what a reply tells: its answer, and what it shows
+abbrev pub replyBytes : {A : Type 0} → (Reply A → Bytes) → Reply A → Bytes
+replyBytes payload r = answerBytes (answerOf r) 0 (payload r)
+
+abbrev pub replying : {A : Type 0} → (Reply A → Bytes) → Reply A → Box → Told
+replying payload r b = showing (answerOf r) (payload r) b
+
 -- a call that changes the box tells its answer alone
 abbrev pub changing : Done → Told
 changing d = record { answer = d .answer; count = 0; payload = []; box = d .box }
@@ -41,11 +51,11 @@ notRun b = showing (No 6) [] b
 
 -- what a call tells of a box
 unfoldable pub told : Call → Box → Told
-told (Call.Read m k) b = notRun b
+told (Call.Read m k) b = replying readPayload (read k m b) b
 told (Call.Page m l a n) b = notRun b
 told (Call.IntentPage l a n) b = notRun b
 told (Call.ConflictingIntents m l a n) b = notRun b
-told (Call.OneIntent m k) b = notRun b
+told (Call.OneIntent m k) b = replying intentPayload (intentAt k m b) b
 told (Call.Prewrite h d k r) b = notRun b
 told (Call.PrewriteBatch h s) b = notRun b
 told (Call.Commit e k) b = notRun b

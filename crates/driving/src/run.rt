@@ -1,25 +1,33 @@
-// One call, run on a store.
+// One call, run on a store: its bytes are read, and the function of its op runs it.
 ghost use Prim.Native.Nat.{_≤_};
-ghost use mathlib.Core.Path.{_≡_};
-ghost use mathlib.Core.Bool.{true};
 ghost use lib.ListN.{length};
-ghost use Rattle.traces.specs.Args.{callOf, ArgsIn};
+ghost use Rattle.traces.specs.Args.{callOf};
 ghost use Rattle.lines.specs.View.{boxOf};
 ghost use Rattle.lines.specs.Made.{Made};
-ghost use Rattle.driving.specs.Told.{told};
-ghost use Rattle.driving.specs.Ran.{RunAsks, RanAs, RunCall};
-use crate::telling::tell_marks;
+ghost use Rattle.driving.specs.Told.{told, notRun};
+ghost use Rattle.driving.specs.Ran.{RunAsks, RanAs, RunCall, longest};
+use crate::changes::run_restore;
+use crate::ran::Ran;
+use crate::shows::run_intent;
+use crate::shows::run_marks;
+use crate::shows::run_read;
+use crate::shows::run_stats;
 use crate::telling::tell_plain;
-use crate::telling::tell_stats;
 use lines::Store;
 use rules::Answer;
 use traces::Args;
 use traces::Op;
 
-// The store after a call, and how many bytes its answer has.
-pub struct Ran {
-    pub store: Store,
-    pub len: usize,
+// A call that is not run: 6, and the same store.
+fn not_run(store: Store, area: &[u8], out: &mut [u8]) -> Ran
+    requires { ⌜ (Made store (now area)) × (longest ≤ length (now out)) ⌝ }
+    ensures { λ r. ⌜ RanAs (notRun (boxOf store (now (area .entry)))) (now (out .entry)) r (now (area .entry)) (now (out .exit)) ⌝ }
+{
+    let len = tell_plain(out, Answer::No(6));
+    Ran {
+        store: store,
+        len: len,
+    }
 }
 
 // The call that the arguments say, by its op.
@@ -29,39 +37,12 @@ fn run_args(store: Store, area: &mut [u8], call: &[u8], args: Args, out: &mut [u
 {
     let op = args.op;
     match op {
-        Op::Restore => {
-            let at = args.restat;
-            let end = at + args.restlen;
-            let done = restores::restore(store, area, &call[at..end]);
-            let answer = done.answer;
-            let after = done.store;
-            let len = tell_plain(out, answer);
-            Ran {
-                store: after,
-                len: len,
-            }
-        }
-        Op::Statistics => {
-            let len = tell_stats(store, area, out);
-            Ran {
-                store: store,
-                len: len,
-            }
-        }
-        Op::Marks => {
-            let len = tell_marks(store, area, out);
-            Ran {
-                store: store,
-                len: len,
-            }
-        }
-        _ => {
-            let len = tell_plain(out, Answer::No(6));
-            Ran {
-                store: store,
-                len: len,
-            }
-        }
+        Op::Read => run_read(store, area, call, args, out),
+        Op::OneIntent => run_intent(store, area, call, args, out),
+        Op::Restore => run_restore(store, area, call, args, out),
+        Op::Statistics => run_stats(store, area, out),
+        Op::Marks => run_marks(store, area, out),
+        _ => not_run(store, area, out),
     }
 }
 
@@ -82,11 +63,7 @@ pub fn run_call(store: Store, area: &mut [u8], call: &[u8], out: &mut [u8]) -> R
     }
     let args = traces::args_of(call);
     if !args.ok {
-        let len = tell_plain(out, Answer::No(6));
-        return Ran {
-            store: store,
-            len: len,
-        };
+        return not_run(store, area, out);
     }
     run_args(store, area, call, args, out)
 }

@@ -33,7 +33,7 @@ use Rattle.lines.specs.declared.keys.Locked.the-variants.{Nobody, By}
 use Rattle.lines.specs.declared.keys.Looked.{Looked}
 use Rattle.lines.specs.View.{lockIn, lineIn, keyOf, lineOf, boxOf, noSlot}
 use Rattle.lines.specs.Made.{Built, LineBelow}
-use Rattle.lines.specs.Looks.{stampLine, historyOf, moreHistory, orLocked, either, seeLine, lockedBy, LockBelow, LookedAt}
+use Rattle.lines.specs.Looks.{stampLine, historyOf, moreHistory, orLocked, either, seeLine, lockedBy, LockBelow, LookedAt, ofLines, LinesOf}
 use Rattle.lines.proofs.HistoryLaws.{history-snoc, records-append, orLock, lock-append}
 use Rattle.lines.proofs.OrderLaws.{ordered-drop, keyBelow, key-place, stampBelow, stamp-place, NotBelow, Above, all-not-below, all-above, below-other, records-none, lock-none, records-above, lock-above, place-above}
 use Rattle.lines.proofs.FindLaws.{Finding, slot-in, line-here, lines-past, lines-order, finding-here, finding-end}
@@ -209,3 +209,15 @@ module _ {st : Store} {area : Bytes} (m : Built st area) (k : Key) (start stamp 
 
       pub looking-own : {r : Looked} → r ≡ seeLine start stamp (i + 1) seen (getD (st .lines) i noSlot .line) → Looking area k start stamp (st .lines) (st .load .lines) (i + 1) r
       looking-own q = subst (Looking area k start stamp (st .lines) (st .load .lines) (i + 1)) (sym q) (own (here .line) refl (line-wide (st .top) 65536 (m .top-in) (here .line) (slot-in m i l .line-below)))
+
+-- ---- only the lines count
+
+pub lines-of : {st : Store} {area : Bytes} → Built st area → LinesOf (st .lines) (st .load .lines) area
+lines-of {st} m = record { defaults = st .defaults; locks = st .load .locks; rows = st .load .defaults; bytes = st .load .bytes; top = st .top; built = m }
+
+module _ {st : Store} {area k : Bytes} {start stamp : ℕ} {seen : Looked} where
+  pub of-store : LookedAt (ofLines (st .lines) (st .load .lines)) area k start stamp seen → LookedAt st area k start stamp seen
+  of-store f = record { first-is = f .first-is; place-is = f .place-is; lock-is = f .lock-is; lock-in = f .lock-in; history-is = f .history-is }
+
+  pub of-lines : LookedAt st area k start stamp seen → LookedAt (ofLines (st .lines) (st .load .lines)) area k start stamp seen
+  of-lines f = record { first-is = f .first-is; place-is = f .place-is; lock-is = f .lock-is; lock-in = f .lock-in; history-is = f .history-is }

@@ -25,8 +25,11 @@ use Rattle.rules.specs.Rollback.{rollbackRecords}
 use Rattle.rules.specs.Read.{newestFirst, showRow}
 use Rattle.laws.specs.Places.{howMany, linesBefore, pairsBefore, finishedAt}
 use Rattle.lines.specs.View.{lockIn, boxOf}
+use Rattle.lines.specs.Made.{Built}
 use Rattle.lines.specs.declared.store.Intent.{Intent}
 use Rattle.lines.specs.declared.store.Line.{Line}
+use Rattle.lines.specs.declared.store.Slot.{Slot}
+use Rattle.lines.specs.declared.store.Held.{Held}
 use Rattle.lines.specs.declared.store.Store.{Store}
 use Rattle.lines.specs.declared.store.Line.the-variants.{Standing, Finished}
 use Rattle.lines.specs.declared.places.FoundRow.{FoundRow}
@@ -154,6 +157,19 @@ lockedBy area (By i) = some (lockIn area i)
 abbrev pub LockBelow : ℕ → Locked → Type 0
 LockBelow n Nobody = Unit {0}
 LockBelow n (By i) = i .at + i .len ≤ n
+
+-- a store of which only the lines count
+abbrev pub ofLines : List Slot → ℕ → Store
+ofLines lines n = record { lines = lines; defaults = []; load = record { lines = n; locks = 0; defaults = 0; bytes = 0 }; top = 0 }
+
+-- these are the lines of a store that is built, whatever else it has
+pub record LinesOf (lines : List Slot) (n : ℕ) (area : Bytes) : Type 0 where
+  pub defaults : List Held
+  pub locks : ℕ
+  pub rows : ℕ
+  pub bytes : ℕ
+  pub top : ℕ
+  pub built : Built (record { lines = lines; defaults = defaults; load = record { lines = n; locks = locks; defaults = rows; bytes = bytes }; top = top }) area
 
 pub record LookedAt (st : Store) (area key : Bytes) (start stamp : ℕ) (r : Looked) : Type 0 where
   pub first-is : r .first ≡ linesBefore key (boxOf st area .lines)

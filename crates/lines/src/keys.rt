@@ -3,13 +3,13 @@ ghost use mathlib.Core.Path.{_≡_};
 ghost use mathlib.Core.Bool.{_&&_};
 ghost use mathlib.Core.List.{[]};
 ghost use Prim.Native.Nat.{ℕ};
-ghost use Rattle.lines.specs.View.{boxOf};
 ghost use Rattle.lines.specs.Made.{Built};
-ghost use Rattle.lines.specs.Looks.{orFound, rollsBy, newerBy, moreHistory, historyOf, orLocked, either, seeLine, LookedAt};
+ghost use Rattle.lines.specs.Looks.{orFound, rollsBy, newerBy, moreHistory, historyOf, orLocked, either, seeLine, LookedAt, ofLines, LinesOf};
 use crate::places::slot_below;
 use crate::places::slot_has;
 use crate::store::Intent;
 use crate::store::Line;
+use crate::store::Slot;
 use crate::store::Store;
 use rules::Answer;
 use rules::Kind;
@@ -172,7 +172,7 @@ fn either(test: bool, a: usize, b: usize) -> usize
     b
 }
 
-fn no_history() -> History
+pub fn no_history() -> History
     ensures { λ r. ⌜ ((start stamp : ℕ) → r ≡ historyOf start stamp []) ⌝ }
 {
     History {
@@ -187,7 +187,7 @@ fn no_history() -> History
 }
 
 // One line more of the key, before the place `next`.
-fn see(seen: Looked, line: Line, start: u64, stamp: u64, next: usize) -> Looked
+pub fn see(seen: Looked, line: Line, start: u64, stamp: u64, next: usize) -> Looked
     ensures { λ r. ⌜ r ≡ seeLine start stamp next seen line ⌝ }
 {
     match line {
@@ -218,13 +218,11 @@ fn see(seen: Looked, line: Line, start: u64, stamp: u64, next: usize) -> Looked
     }
 }
 
-pub fn look(store: Store, area: &[u8], key: &[u8], start: u64, stamp: u64) -> Looked
-    requires { ⌜ Built store (now area) ⌝ }
-    ensures { λ r. ⌜ LookedAt store (now (area .entry)) (now (key .entry)) start stamp r ⌝ }
+// What stands at a key among the first n of these lines.
+fn look_in(lines: [Slot; 1024], n: usize, area: &[u8], key: &[u8], start: u64, stamp: u64) -> Looked
+    requires { ⌜ LinesOf lines n (now area) ⌝ }
+    ensures { λ r. ⌜ LookedAt (ofLines lines n) (now (area .entry)) (now (key .entry)) start stamp r ⌝ }
 {
-    let lines = store.lines;
-    let load = store.load;
-    let n = load.lines;
     let mut i: usize = 0;
     while i < n {
         let s = lines[i];
@@ -250,4 +248,15 @@ pub fn look(store: Store, area: &[u8], key: &[u8], start: u64, stamp: u64) -> Lo
         seen = see(seen, line, start, stamp, i);
     }
     seen
+}
+
+// The lines go on alone: so a lookup copies no defaults.
+pub fn look(store: Store, area: &[u8], key: &[u8], start: u64, stamp: u64) -> Looked
+    requires { ⌜ Built store (now area) ⌝ }
+    ensures { λ r. ⌜ LookedAt store (now (area .entry)) (now (key .entry)) start stamp r ⌝ }
+{
+    let lines = store.lines;
+    let load = store.load;
+    let n = load.lines;
+    look_in(lines, n, area, key, start, stamp)
 }

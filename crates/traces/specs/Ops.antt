@@ -10,6 +10,8 @@ use Rattle.traces.specs.declared.op.Op.{Op}
 
 abbrev pub knownOps : List ℕ
 knownOps =
+    1 ∷  -- read
+    5 ∷  -- one intent at a point
     32 ∷  -- restore
     33 ∷  -- statistics
     34 ∷  -- high-water marks

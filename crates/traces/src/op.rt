@@ -40,7 +40,9 @@ pub fn known_op(byte: u8) -> bool
     ensures { λ r. ⌜ r ≡ knownOp byte ⌝ }
 {
     let known = [
-        32u8, // restore
+        1u8, // read
+        5, // one intent at a point
+        32, // restore
         33, // statistics
         34, // high-water marks
     ];

@@ -1,17 +1,8 @@
+-- `driving::run::run_call` meets its contract: a way out for each of a short buffer, no call in form, and a call. Assumes nothing.
 use Rattle.driving.proofs.RunLaws.{run-short, run-formless, run-formed}
-use borrow.Author.Needs.{needs}
-use native.Mathlib.Omega.{arith}
-use Prim.Native.Nat.{ℕ, suc, _+_, _-_, _*_, _<_, _≤_}
-use mathlib.Core.Path.{_≡_, refl, sym, ap, _∙_}
-use lib.ListN.{length, getD, take, drop, set, length-set}
 use borrow.Author.Needs.{needs}
 use Rattle.driving.proofs.run.run_call.Statement.{statement}
 use Rattle.driving.proofs.run.run_call.Tie as tie
-use Rattle.driving.proofs.run.run_call.Reads as reads
-use Rattle.driving.proofs.run.run_call.Lts as lts
-use Rattle.driving.proofs.run.run_args.Reads as run-args-reads
-use Rattle.driving.proofs.telling.tell_plain.Reads as tell-plain-reads
-use Rattle.traces.proofs.args_of.Reads as args-of-reads
 
 returns : tie.Need-returns
 returns c = run-short ((c .if1) .taken)
@@ -19,23 +10,26 @@ returns c = run-short ((c .if1) .taken)
 args-of-requires : tie.Need-args-of-requires
 args-of-requires c κs = search needs
 
-tell-plain-requires : tie.Need-tell-plain-requires
-tell-plain-requires c κs = search needs
+not-run-requires : tie.Need-not-run-requires
+not-run-requires c κs = search needs
 
 same-length : tie.Need-same-length
 same-length c = search needs
 
+same-length-2 : tie.Need-same-length-2
+same-length-2 c = search needs
+
 returns-2 : tie.Need-returns-2
-returns-2 c = run-formless (c .before .before .before .before .before .before .before .before .before .before .before .pre) ((c .before .before .before .before .before .before .args-of) .ensures) ((c .before .before .before .before .if2) .taken) ((c .before .before .before .before .before .before .before .if1) .left) ((c .before .before .tell-plain) .ensures)
+returns-2 c = run-formless ((c .before .before .before .before .before .before .before .args-of) .ensures) ((c .before .before .before .before .before .if2) .taken) ((c .before .before .before .before .before .before .before .before .if1) .left) ((c .before .before .not-run) .ensures)
 
 run-args-requires : tie.Need-run-args-requires
 run-args-requires c κs = record { made = ((c .before .before .before .before .before .before .before .before .before .pre)); places = ((c .before .before .before .before .args-of)) .ensures .places; long = ((c .before .before .before .before .before .if1)) .left }
 
-same-length-2 : tie.Need-same-length-2
-same-length-2 c = search needs
-
 same-length-3 : tie.Need-same-length-3
 same-length-3 c = search needs
+
+same-length-4 : tie.Need-same-length-4
+same-length-4 c = search needs
 
 returns-3 : tie.Need-returns-3
 returns-3 c = run-formed ((c .before .before .before .before .before .before .before .before .before .args-of) .ensures) ((c .before .before .before .before .before .before .before .if2) .left) ((c .before .before .before .before .before .before .before .before .before .before .if1) .left) ((c .before .before .before .before .run-args) .ensures)
@@ -46,10 +40,11 @@ run-call-spec =
     (tie.spec
     returns
     args-of-requires
-    tell-plain-requires
+    not-run-requires
     same-length
+    same-length-2
     returns-2
     run-args-requires
-    same-length-2
     same-length-3
+    same-length-4
     returns-3)

@@ -1,17 +1,8 @@
+-- `driving::telling::tell` meets its contract: the number and the holder are the answer's. Assumes nothing.
 use Rattle.driving.proofs.TellLaws.{tell-as}
-use borrow.Author.Needs.{needs}
-use native.Mathlib.Omega.{arith}
-use Prim.Native.Nat.{ℕ, suc, _+_, _-_, _*_, _<_, _≤_}
-use mathlib.Core.Path.{_≡_, refl, sym, ap, _∙_}
-use lib.ListN.{length, getD, take, drop, set, length-set}
 use borrow.Author.Needs.{needs}
 use Rattle.driving.proofs.telling.tell.Statement.{statement}
 use Rattle.driving.proofs.telling.tell.Tie as tie
-use Rattle.driving.proofs.telling.tell.Reads as reads
-use Rattle.driving.proofs.telling.tell.Lts as lts
-use Rattle.replies.proofs.holder_of.Reads as holder-of-reads
-use Rattle.replies.proofs.number_of.Reads as number-of-reads
-use Rattle.replies.proofs.put_answer.Reads as put-answer-reads
 
 number-of-requires : tie.Need-number-of-requires
 number-of-requires c κs = search needs

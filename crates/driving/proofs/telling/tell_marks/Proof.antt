@@ -1,18 +1,11 @@
+-- `driving::telling::tell_marks` meets its contract: the payload of the marks is what the answer carries. Assumes nothing.
 use Rattle.driving.proofs.TellLaws.{marks-count, marks-told}
 use lib.Seq.{length-take-le}
 use borrow.Author.Needs.{needs}
 use native.Mathlib.Omega.{arith}
-use Prim.Native.Nat.{ℕ, suc, _+_, _-_, _*_, _<_, _≤_}
-use mathlib.Core.Path.{_≡_, refl, sym, ap, _∙_}
-use lib.ListN.{length, getD, take, drop, set, length-set}
-use borrow.Author.Needs.{needs}
+use mathlib.Core.Path.{sym}
 use Rattle.driving.proofs.telling.tell_marks.Statement.{statement}
 use Rattle.driving.proofs.telling.tell_marks.Tie as tie
-use Rattle.driving.proofs.telling.tell_marks.Reads as reads
-use Rattle.driving.proofs.telling.tell_marks.Lts as lts
-use Rattle.replies.proofs.put_marks.Reads as put-marks-reads
-use Rattle.driving.proofs.telling.tell.Reads as tell-reads
-use Rattle.figures.proofs.allocator_high_water_marks.Reads as allocator-high-water-marks-reads
 
 allocator-high-water-marks-requires : tie.Need-allocator-high-water-marks-requires
 allocator-high-water-marks-requires c κs = search needs

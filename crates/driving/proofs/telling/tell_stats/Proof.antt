@@ -1,18 +1,11 @@
+-- `driving::telling::tell_stats` meets its contract: the payload of the statistics is what the answer carries. Assumes nothing.
 use Rattle.driving.proofs.TellLaws.{stats-count, stats-told}
 use lib.Seq.{length-take-le}
 use borrow.Author.Needs.{needs}
 use native.Mathlib.Omega.{arith}
-use Prim.Native.Nat.{ℕ, suc, _+_, _-_, _*_, _<_, _≤_}
-use mathlib.Core.Path.{_≡_, refl, sym, ap, _∙_}
-use lib.ListN.{length, getD, take, drop, set, length-set}
-use borrow.Author.Needs.{needs}
+use mathlib.Core.Path.{sym}
 use Rattle.driving.proofs.telling.tell_stats.Statement.{statement}
 use Rattle.driving.proofs.telling.tell_stats.Tie as tie
-use Rattle.driving.proofs.telling.tell_stats.Reads as reads
-use Rattle.driving.proofs.telling.tell_stats.Lts as lts
-use Rattle.replies.proofs.put_stats.Reads as put-stats-reads
-use Rattle.driving.proofs.telling.tell.Reads as tell-reads
-use Rattle.figures.proofs.stats.Reads as stats-reads
 
 stats-requires : tie.Need-stats-requires
 stats-requires c κs = search needs

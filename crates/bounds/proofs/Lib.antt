@@ -1,0 +1,3 @@
+-- Laws of bounds.
+-- Assumes nothing.
+pub mod BoundLaws

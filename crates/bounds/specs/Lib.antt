@@ -1,0 +1,3 @@
+-- The bounds that flags and slices say.
+-- Assumes nothing.
+pub mod Bounds

@@ -1,0 +1,9 @@
+-- The laws of this crate: of one key, of the lock that ends, of both passes, and of the calls' ways out.
+-- Assumes nothing.
+pub mod KeyLaws
+pub mod EndLaws
+pub mod CheckLaws
+pub mod ApplyLaws
+pub mod PassLaws
+pub mod PastLaws
+pub mod BatchLaws

@@ -1,0 +1,10 @@
+// "Commit", single and batch: a checking pass over the store as it came, and an applying pass. There is no 11: a record takes the lock's
+// place, and live bytes fall by the primary, so a commit never needs room (`commits-room` of laws' CommitLaws).
+pub mod batch;
+pub mod checks;
+pub mod passes;
+pub mod single;
+pub mod terms;
+
+pub use batch::commit_intents_batch;
+pub use single::commit_intent;

@@ -1,0 +1,9 @@
+pub mod WalkLaws
+pub mod EachLaws
+pub mod MadeLaws
+pub mod DoesLaws
+pub mod LineKinds
+pub mod RowKinds
+pub mod KeepLaws
+pub mod BuiltLaws
+pub mod WrittenLaws

@@ -1,0 +1,36 @@
+use Rattle.rules.specs.declared.answers.Answer.{Answer}
+use Rattle.rules.specs.OneStep.{countIf}
+use borrow.Author.Needs.{needs}
+use native.Mathlib.Omega.{arith}
+use Prim.Native.Nat.{ℕ, suc, _+_, _-_, _*_, _<_, _≤_}
+use mathlib.Core.Path.{_≡_, refl, sym, ap, _∙_}
+use lib.ListN.{length, getD, take, drop, set, length-set}
+use borrow.Author.Needs.{needs}
+use Rattle.onesteps.proofs.batch.count_if.Statement.{statement}
+use Rattle.onesteps.proofs.batch.count_if.Tie as tie
+use Rattle.onesteps.proofs.batch.count_if.Reads as reads
+use Rattle.onesteps.proofs.batch.count_if.Lts as lts
+
+enum-told : tie.Need-enum-told
+enum-told c = search needs
+
+enum-told-2 : tie.Need-enum-told-2
+enum-told-2 c = search needs
+
+enum-told-3 : tie.Need-enum-told-3
+enum-told-3 c = search needs
+
+returns : tie.Need-returns
+unfolding countIf
+returns c = sym (ap (λ (x : Answer). countIf x ((c .before .before .args) .n)) ((c .enum-told) .given .1))
+
+returns-2 : tie.Need-returns-2
+unfolding countIf
+returns-2 c = sym (ap (λ (x : Answer). countIf x ((c .before .before .args) .n)) ((c .enum-told2) .given .1))
+
+returns-3 : tie.Need-returns-3
+unfolding countIf
+returns-3 c = sym (ap (λ (x : Answer). countIf x ((c .before .before .args) .n)) ((c .enum-told3) .given .1))
+
+pub count-if-spec : {M : Type 1} → statement M
+count-if-spec = tie.close (tie.spec enum-told enum-told-2 enum-told-3 returns returns-2 returns-3)

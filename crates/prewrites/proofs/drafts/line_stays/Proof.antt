@@ -1,0 +1,17 @@
+-- `prewrites::drafts::line_stays` meets its contract.
+-- Assumes nothing.
+use Rattle.lines.specs.declared.store.Slot.{Slot}
+use mathlib.Core.Bool.{false}
+use borrow.Author.Needs.{needs}
+use mathlib.Core.Path.{ap}
+use Rattle.prewrites.proofs.drafts.line_stays.Statement.{statement}
+use Rattle.prewrites.proofs.drafts.line_stays.Tie as tie
+
+no-slot-requires : tie.Need-no-slot-requires
+no-slot-requires c κs = search needs
+
+returns : tie.Need-returns
+returns c = ap (λ (s : Slot). record { gone = false; from = 0; comes = false; to = (c .before .args) .to; slot = s }) ((c .no-slot) .ensures)
+
+pub line-stays-spec : {M : Type 1} → statement M
+line-stays-spec = tie.close (tie.spec no-slot-requires returns)

@@ -1,0 +1,7 @@
+-- The laws of the checks of a one-step batch.
+-- Assumes nothing.
+pub mod ArgumentLaws
+pub mod TallyLaws
+pub mod StepLaws
+pub mod WeightLaws
+pub mod VerdictLaws

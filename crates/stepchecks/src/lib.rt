@@ -1,0 +1,14 @@
+// "One-step batch": its checks. Each pass is one loop over the entries of a batch, and takes what the entries' keys met in the store, and not
+// the store: a function that takes the tables copies them.
+pub mod applied;
+pub mod arguments;
+pub mod steps;
+pub mod terms;
+pub mod verdict;
+pub mod weights;
+
+pub use arguments::check_arguments;
+pub use terms::Terms;
+pub use terms::ending_step;
+pub use verdict::Verdict;
+pub use verdict::judge;

@@ -1,0 +1,53 @@
+-- Keys that ascend: each is below the next; and what holds at each place of an array, after one place more is set.
+-- Assumes nothing.
+use Prim.Native.Nat.{ℕ, zero, suc, _+_, _<_}
+use native.Mathlib.Omega.{arith}
+use native.Mathlib.Numerals.{add-one}
+use mathlib.Core.Path.{_≡_, refl, sym, ap, ap₂, _∙_, subst}
+use mathlib.Core.Bool.{Bool, true, false}
+use mathlib.Core.List.{List, [], _∷_, map}
+use lib.Dec.{ltb}
+use lib.ListN.{length, getD, set, take, length-map, List·getD-map}
+use lib.Seq.{getD-set-same, getD-set-other, getD-take, length-take-le}
+use borrow.Author.Tests.{ltb-true, ltb-false}
+use Rattle.forms.specs.Bytes.{Bytes, ltBytes}
+use Rattle.forms.specs.Key.{Key}
+use Rattle.forms.specs.Batch.{above, ascend}
+use Rattle.laws.proofs.StepLaws.{and-left, and-right}
+use Rattle.surveys.specs.declared.cuts.Cut.{Cut}
+use Rattle.surveys.specs.Surveys.{noCut, cutOf, CutsAsk}
+
+module _ {A : Type 0} (key : A → Key) (d : A) where
+  pub ascend-at : (xs : List A) (j : ℕ) → ascend key xs ≡ true → suc j < length xs → ltBytes (key (getD xs j d)) (key (getD xs (suc j) d)) ≡ true
+  unfolding ascend above
+  ascend-at [] j a l = absurd (omega arith)
+  ascend-at (x ∷ []) j a l = absurd (omega arith)
+  ascend-at (x ∷ y ∷ zs) zero a l = and-left (ltBytes (key x) (key y)) _ a
+  ascend-at (x ∷ y ∷ zs) (suc j) a l = ascend-at (y ∷ zs) j (and-right (ltBytes (key x) (key y)) _ a) (omega arith)
+
+-- the key of a cut
+abbrev pub keyAt : Bytes → List Cut → ℕ → Key
+keyAt s cs j = cutOf s (getD cs j noCut)
+
+module _ {s : Bytes} {n : ℕ} {cs : List Cut} (q : CutsAsk s n cs) where
+  cut-at : (j : ℕ) → j < n → getD (map (cutOf s) (take n cs)) j (cutOf s noCut) ≡ keyAt s cs j
+  cut-at j l = List·getD-map (cutOf s) (take n cs) j noCut ∙ ap (cutOf s) (getD-take n cs j noCut l)
+
+  -- the next key is above
+  pub key-next-above : (j : ℕ) → j + 1 < n → ltBytes (keyAt s cs j) (keyAt s cs (j + 1)) ≡ true
+  key-next-above j l =
+      let few : suc j < n = omega arith in
+      let long : length (map (cutOf s) (take n cs)) ≡ n = length-map (take n cs) (cutOf s) ∙ length-take-le n cs (omega (arith, q .long, q .few)) in
+      ap₂ ltBytes (sym (cut-at j (omega arith))) (ap (keyAt s cs) (add-one j) ∙ sym (cut-at (suc j) few))
+      ∙ ascend-at (λ (k : Key). k) (cutOf s noCut) (map (cutOf s) (take n cs)) j (q .ascends) (omega arith)
+
+-- P holds of what stands at each place below j; then also with k at j
+pub set-each : {K : Type 0} (P : ℕ → K → Type 0) (none : K) (ks : List K) (j : ℕ) (k : K) → length ks ≡ 32 → j < 32 → ((m : ℕ) → m < j → P m (getD ks m none)) → P j k
+    → (m : ℕ) → m < j + 1 → P m (getD (set ks j k) m none)
+set-each P none ks j k long few each p m l = go (ltb m j) refl
+  where
+    go : (t : Bool) → ltb m j ≡ t → P m (getD (set ks j k) m none)
+    go true q = subst (P m) (sym (getD-set-other ks j m k none (λ z. omega (arith, ltb-true m j q)))) (each m (ltb-true m j q))
+    go false q =
+        let here : j ≡ m = omega (arith, ltb-false m j q) in
+        subst (λ (i : ℕ). P i (getD (set ks j k) i none)) here (subst (P j) (sym (getD-set-same ks j k none (omega arith))) p)

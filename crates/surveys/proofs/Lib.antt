@@ -1,0 +1,5 @@
+pub mod CutLaws
+pub mod AscendLaws
+pub mod WalkLaws
+pub mod RowLaws
+pub mod KeptLaws
