@@ -1,4 +1,5 @@
 pub mod TellLaws
 pub mod ReplyLaws
+pub mod PagingLaws
 pub mod RunLaws
 pub mod KeepLaws

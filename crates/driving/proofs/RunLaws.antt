@@ -4,33 +4,35 @@ use Prim.Native.Nat.{ℕ, _≤_, _<_}
 use native.Mathlib.Omega.{arith}
 use mathlib.Core.Path.{_≡_, refl, sym, _∙_, ap, subst}
 use mathlib.Core.Bool.{Bool, true, false, not}
-use mathlib.Core.List.{List, [], _∷_}
+use mathlib.Core.List.{[]}
 use mathlib.Core.Option.{Option, none, some}
 use lib.ListN.{length}
 use lib.Dec.{ltb}
-use types.Run.{OneOf, miss}
 use borrow.Author.Tests.{not-true, not-false, ltb-true, ltb-false}
-use denote.Enum.Declared.{tagOf}
 use Rattle.forms.specs.Bytes.{Bytes}
 use Rattle.forms.specs.Readers.{when}
 use Rattle.rules.specs.declared.answers.Answer.{Answer}
 use Rattle.rules.specs.Answers.{number, holder}
 use Rattle.rules.specs.Box.{Box}
 use Rattle.rules.specs.Calls.{Done}
+use Rattle.rules.specs.Prewrite.{Head, prewrite}
+use Rattle.rules.specs.OneStep.{Counted}
 use Rattle.calls.specs.declared.changed.Changed.{Changed}
 use Rattle.calls.specs.Settled.{Settled}
 use Rattle.restores.specs.Replaced.{Replaced}
+use Rattle.onesteps.specs.declared.batch.Stepped.{Stepped}
+use Rattle.onesteps.specs.Counts.{Counts}
 use Rattle.traces.specs.declared.args.Args.{Args}
-use Rattle.traces.proofs.op.Op as ops
 use Rattle.traces.specs.declared.op.Op.{Op}
 use Rattle.traces.specs.Calls.{Call, call}
+use Rattle.traces.specs.Places.{kindOf}
 use Rattle.traces.specs.Args.{callOf, callAs, ArgsOf}
 use Rattle.replies.specs.Answers.{answerBytes}
 use Rattle.replies.proofs.FormLaws.{length-answer}
 use Rattle.lines.specs.declared.store.Store.{Store}
 use Rattle.lines.specs.View.{boxOf}
 use Rattle.lines.specs.Made.{Made}
-use Rattle.driving.specs.Told.{Told, told, toldOf, toldBytes, notRun, changing, Writes}
+use Rattle.driving.specs.Told.{Told, told, toldOf, toldBytes, notRun, changing, counting, rowFor, Writes}
 use Rattle.driving.specs.Ran.{RunAsks, RanAs, DoneAs, TellsChange, Unrun, RunCall, longest}
 use Rattle.driving.specs.declared.ran.Ran.{Ran}
 use Rattle.driving.proofs.TellLaws.{written, written-count}
@@ -60,38 +62,27 @@ replaced v = record { answer-is = v .answer-is; made = v .made; shown = v .shown
 pub settled : {st : Store} {area : Bytes} {d : Done} {m : Changed} {area′ : Bytes} → Settled st area d m area′ → DoneAs d m area′
 settled v = record { answer-is = v .answer-is; made = v .made; shown = v .shown }
 
+-- a prewrite whose kind is a flag
+pub prewritten : (h : Head) (k r : Bytes) (b : Box) (put : Bool) {st : Store} {area : Bytes} {m : Changed} {area′ : Bytes} → Settled st area (prewrite h (record { key = k; row = when put r }) b) m area′
+    → DoneAs (prewrite h (record { key = k; row = rowFor (kindOf put) r }) b) m area′
+prewritten h k r b true v = settled v
+prewritten h k r b false v = settled v
+
+-- what a one-step batch promises, once its answer is written with its count
+pub counted : {st : Store} {area : Bytes} {d : Counted} {m : Stepped} {area′ out out′ : Bytes} {n : ℕ} → Counts st area d m area′ → longest ≤ length out → Writes (answerBytes (m .answer) (m .count) []) out n out′
+    → RanAs (counting d) out (record { store = m .store; len = n }) area′ out′
+counted {d = d} {m = m} {out = out} {out′ = out′} {n = n} v long w =
+    let a : Writes (answerBytes (d .done .answer) (m .count) []) out n out′ = subst (λ (x : Answer). Writes (answerBytes x (m .count) []) out n out′) (v .settled .answer-is) w in
+    let u : Writes (toldBytes (counting d)) out n out′ = subst (λ (x : ℕ). Writes (answerBytes (d .done .answer) x []) out n out′) (v .count-is) a in
+    let h : length (toldBytes (counting d)) ≤ length out = omega (arith, length-answer (number (d .done .answer)) (holder (d .done .answer) .txn) (holder (d .done .answer) .start) (d .count) []) in
+    record { made = v .settled .made; shown = v .settled .shown; put = written h u; within = omega (arith, written-count h u) }
+
 -- ---- by the op
-
--- the tags of the ops of calls that do not exist yet
-abbrev pub others : List ℕ
-others = 1 ∷ 2 ∷ 3 ∷ 5 ∷ 6 ∷ 7 ∷ 8 ∷ 9 ∷ 10 ∷ 11 ∷ []
-
-unknown : (op : Op) (a : Args) (s : Bytes) (b : Box) → OneOf others (tagOf ops.the-type op) → told (callAs op s a) b ≡ notRun b
-unfolding told
-unknown Op.Read a s b h = absurd (miss others 0 tt h)
-unknown Op.Page a s b h = refl
-unknown Op.IntentPage a s b h = refl
-unknown Op.ConflictingIntents a s b h = refl
-unknown Op.OneIntent a s b h = absurd (miss others 4 tt h)
-unknown Op.Prewrite a s b h = refl
-unknown Op.PrewriteBatch a s b h = refl
-unknown Op.Commit a s b h = refl
-unknown Op.CommitBatch a s b h = refl
-unknown Op.Rollback a s b h = refl
-unknown Op.RollbackBatch a s b h = refl
-unknown Op.OneStep a s b h = refl
-unknown Op.Restore a s b h = absurd (miss others 12 tt h)
-unknown Op.Statistics a s b h = absurd (miss others 13 tt h)
-unknown Op.Marks a s b h = absurd (miss others 14 tt h)
 
 module _ {st : Store} {area s : Bytes} {a : Args} {out : Bytes} (asks : RunAsks st area s a out) {r : Ran} {area′ out′ : Bytes} where
   -- a call of this op, run, is the call that the arguments say
   pub by-op : (op : Op) → a .op ≡ op → RanAs (told (callAs op s a) (boxOf st area)) out r area′ out′ → RanAs (told (callOf s a) (boxOf st area)) out r area′ out′
   by-op op e v = subst (λ (o : Op). RanAs (told (callAs o s a) (boxOf st area)) out r area′ out′) (sym e) v
-
-  -- a call that does not exist yet
-  pub by-none : OneOf others (tagOf ops.the-type (a .op)) → RanAs (notRun (boxOf st area)) out r area′ out′ → RanAs (told (callOf s a) (boxOf st area)) out r area′ out′
-  by-none h v = subst (λ (t : Told). RanAs t out r area′ out′) (sym (unknown (a .op) a s (boxOf st area) h)) v
 
 -- ---- the call's bytes
 

@@ -9,7 +9,8 @@ use Rattle.rules.specs.Calls.{Done}
 use Rattle.calls.specs.declared.changed.Changed.{Changed}
 use Rattle.traces.specs.declared.args.Args.{Args}
 use Rattle.traces.specs.Calls.{call}
-use Rattle.traces.specs.Args.{ArgsIn}
+use Rattle.rules.specs.Page.{Bounds}
+use Rattle.traces.specs.Args.{ArgsIn, boundOf}
 use Rattle.replies.specs.Put.{Put}
 use Rattle.lines.specs.declared.store.Store.{Store}
 use Rattle.lines.specs.View.{boxOf}
@@ -56,3 +57,17 @@ pub record RunAsks (st : Store) (area s : Bytes) (a : Args) (out : Bytes) : Type
   pub made : Made st area
   pub places : ArgsIn s a
   pub long : longest ≤ length out
+
+-- the bounds that the arguments of a page say
+abbrev pub boundsIn : Bytes → Args → Bounds
+boundsIn s a =
+    record {
+      from = boundOf s (a .from) (a .fromat) (a .fromlen);
+      to = boundOf s (a .to) (a .toat) (a .tolen);
+      resume = boundOf s (a .resume) (a .resumeat) (a .resumelen);
+    }
+
+-- what telling of a page asks
+pub record TellAsks (st : Store) (area s : Bytes) (a : Args) : Type 0 where
+  pub made : Made st area
+  pub places : ArgsIn s a

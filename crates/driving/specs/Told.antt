@@ -3,7 +3,11 @@
 use Prim.Native.Nat.{ℕ}
 use mathlib.Core.List.{List, [], _∷_, _++_}
 use mathlib.Core.Option.{Option, none, some}
+use lib.ListN.{replicate}
 use Rattle.forms.specs.Bytes.{Bytes}
+use Rattle.forms.specs.Row.{Row}
+use Rattle.rules.specs.declared.records.Kind.{Kind}
+use Rattle.rules.specs.declared.records.Kind.the-variants.{Put, Delete, Rollback}
 use Rattle.rules.specs.declared.answers.Answer.{Answer}
 use Rattle.rules.specs.declared.answers.Answer.the-variants.{Accepted, No}
 use Rattle.rules.specs.Answers.{Reply, answerOf}
@@ -11,10 +15,15 @@ use Rattle.rules.specs.Box.{Box, fresh}
 use Rattle.rules.specs.Calls.{Done}
 use Rattle.rules.specs.Read.{read}
 use Rattle.rules.specs.Intent.{intentAt}
+use Rattle.rules.specs.Written.{Written, scanPage, scanIntentPage, scanConflictingIntents}
+use Rattle.rules.specs.Prewrite.{prewrite, prewriteBatch}
+use Rattle.rules.specs.Commit.{commit, commitBatch}
+use Rattle.rules.specs.Rollback.{rollback, rollbackBatch}
+use Rattle.rules.specs.OneStep.{Counted, oneStep}
 use Rattle.rules.specs.Restore.{restore}
 use Rattle.rules.specs.Figures.{stats, marks}
 use Rattle.traces.specs.Calls.{Call}
-use Rattle.replies.specs.Put.{Put, room}
+use Rattle.replies.specs.Put as put
 use Rattle.replies.specs.Payloads.{readPayload, intentPayload, statsPayload, marksPayload}
 use Rattle.replies.specs.Answers.{answerBytes, notInForm}
 
@@ -45,24 +54,46 @@ replying payload r b = showing (answerOf r) (payload r) b
 abbrev pub changing : Done → Told
 changing d = record { answer = d .answer; count = 0; payload = []; box = d .box }
 
--- nothing is run. A call that does not exist yet is not in form either: "an unknown op"
+-- "the number of entries for an accepted one-step batch, a replay too"
+abbrev pub counting : Counted → Told
+counting d = record { answer = d .done .answer; count = d .count; payload = []; box = d .done .box }
+
+-- "the call is lent a buffer of that many bytes, each 0xEE before the call"
+abbrev pub lent : ℕ → Bytes
+lent n = replicate n 238
+
+-- "Count: the bytes written for an accepted page of any kind"; "Payload of a page of any kind: the whole lent buffer as it stands after the
+-- call, refused or not"
+abbrev pub writtenBytes : Written → Bytes
+writtenBytes w = answerBytes (w .answer) (w .count) (w .buffer)
+
+abbrev pub paging : Written → Box → Told
+paging w b = record { answer = w .answer; count = w .count; payload = w .buffer; box = b }
+
+-- "a Delete's row argument is ignored"; no call says Rollback
+abbrev pub rowFor : Kind → Row → Option Row
+rowFor Put r = some r
+rowFor Delete r = none
+rowFor Rollback r = none
+
+-- nothing is run
 abbrev pub notRun : Box → Told
 notRun b = showing (No 6) [] b
 
 -- what a call tells of a box
 unfoldable pub told : Call → Box → Told
 told (Call.Read m k) b = replying readPayload (read k m b) b
-told (Call.Page m l a n) b = notRun b
-told (Call.IntentPage l a n) b = notRun b
-told (Call.ConflictingIntents m l a n) b = notRun b
+told (Call.Page m l a n) b = paging (scanPage a m l b (lent n)) b
+told (Call.IntentPage l a n) b = paging (scanIntentPage a l b (lent n)) b
+told (Call.ConflictingIntents m l a n) b = paging (scanConflictingIntents a m l b (lent n)) b
 told (Call.OneIntent m k) b = replying intentPayload (intentAt k m b) b
-told (Call.Prewrite h d k r) b = notRun b
-told (Call.PrewriteBatch h s) b = notRun b
-told (Call.Commit e k) b = notRun b
-told (Call.CommitBatch e s) b = notRun b
-told (Call.Rollback t u k) b = notRun b
-told (Call.RollbackBatch t u s) b = notRun b
-told (Call.OneStep e s) b = notRun b
+told (Call.Prewrite h d k r) b = changing (prewrite h (record { key = k; row = rowFor d r }) b)
+told (Call.PrewriteBatch h s) b = changing (prewriteBatch h s b)
+told (Call.Commit e k) b = changing (commit e k b)
+told (Call.CommitBatch e s) b = changing (commitBatch e s b)
+told (Call.Rollback t u k) b = changing (rollback t u k b)
+told (Call.RollbackBatch t u s) b = changing (rollbackBatch t u s b)
+told (Call.OneStep e s) b = counting (oneStep e s b)
 told (Call.Restore s) b = changing (restore s b)
 told Call.Statistics b = showing Accepted (statsPayload (stats b)) b
 told Call.Marks b = showing Accepted (marksPayload (marks b)) b
@@ -89,4 +120,4 @@ answersOf (some cs) = answersFrom cs fresh
 
 -- the bytes b over the front of the buffer, where they fit, and nothing beyond; else the buffer as it was, and 0
 abbrev pub Writes : Bytes → Bytes → ℕ → Bytes → Type 0
-Writes b out len out′ = Put (room b out) b out len out′
+Writes b out len out′ = put.Put (put.room b out) b out len out′

@@ -4,10 +4,12 @@ ghost use Prim.Native.Nat.{_≤_};
 ghost use lib.ListN.{length};
 ghost use Rattle.forms.specs.Bytes.{bytesAt};
 ghost use Rattle.traces.specs.Calls.{Call};
+ghost use Rattle.traces.specs.Places.{kindOf};
 ghost use Rattle.lines.specs.View.{boxOf};
 ghost use Rattle.driving.specs.Told.{told};
 ghost use Rattle.driving.specs.Ran.{RunAsks, RanAs, TellsChange, longest};
 use crate::ran::Ran;
+use crate::telling::tell_count;
 use crate::telling::tell_plain;
 use calls::Changed;
 use lines::Store;
@@ -21,6 +23,150 @@ fn tell_change(done: Changed, out: &mut [u8]) -> Ran
     let answer = done.answer;
     let after = done.store;
     let len = tell_plain(out, answer);
+    Ran {
+        store: after,
+        len: len,
+    }
+}
+
+// "prewrite | transaction, start, time to live, kind, primary, key, row"
+pub(crate) fn run_prewrite(
+    store: Store,
+    area: &mut [u8],
+    call: &[u8],
+    args: Args,
+    out: &mut [u8],
+) -> Ran
+    requires { ⌜ RunAsks store (now area) (now call) args (now out) ⌝ }
+    ensures { λ r. ⌜ RanAs (told (Call.Prewrite (record { txn = args .one; start = args .two; primary = bytesAt (now (call .entry)) (args .primaryat) (args .primarylen); ttl = args .three }) (kindOf (args .put)) (bytesAt (now (call .entry)) (args .keyat) (args .keylen)) (bytesAt (now (call .entry)) (args .rowat) (args .rowlen))) (boxOf store (now (area .entry)))) (now (out .entry)) r (now (area .exit)) (now (out .exit)) ⌝ }
+{
+    let p = args.primaryat;
+    let pend = p + args.primarylen;
+    let k = args.keyat;
+    let kend = k + args.keylen;
+    let r = args.rowat;
+    let rend = r + args.rowlen;
+    let done = prewrites::prewrite(
+        store,
+        area,
+        args.one,
+        args.two,
+        args.three,
+        &call[p..pend],
+        &call[k..kend],
+        args.put,
+        &call[r..rend],
+    );
+    tell_change(done, out)
+}
+
+// "prewrite of a batch | transaction, start, time to live, primary, batch"
+pub(crate) fn run_prewrites(
+    store: Store,
+    area: &mut [u8],
+    call: &[u8],
+    args: Args,
+    out: &mut [u8],
+) -> Ran
+    requires { ⌜ RunAsks store (now area) (now call) args (now out) ⌝ }
+    ensures { λ r. ⌜ RanAs (told (Call.PrewriteBatch (record { txn = args .one; start = args .two; primary = bytesAt (now (call .entry)) (args .primaryat) (args .primarylen); ttl = args .three }) (bytesAt (now (call .entry)) (args .restat) (args .restlen))) (boxOf store (now (area .entry)))) (now (out .entry)) r (now (area .exit)) (now (out .exit)) ⌝ }
+{
+    let p = args.primaryat;
+    let pend = p + args.primarylen;
+    let at = args.restat;
+    let end = at + args.restlen;
+    let done = prewrites::prewrite_batch(
+        store,
+        area,
+        args.one,
+        args.two,
+        args.three,
+        &call[p..pend],
+        &call[at..end],
+    );
+    tell_change(done, out)
+}
+
+// "commit | transaction, start, commit, key"
+pub(crate) fn run_commit(store: Store, area: &[u8], call: &[u8], args: Args, out: &mut [u8]) -> Ran
+    requires { ⌜ RunAsks store (now area) (now call) args (now out) ⌝ }
+    ensures { λ r. ⌜ RanAs (told (Call.Commit (record { txn = args .one; start = args .two; commit = args .three }) (bytesAt (now (call .entry)) (args .keyat) (args .keylen))) (boxOf store (now (area .entry)))) (now (out .entry)) r (now (area .entry)) (now (out .exit)) ⌝ }
+{
+    let at = args.keyat;
+    let end = at + args.keylen;
+    let done = commits::commit_intent(store, area, args.one, args.two, args.three, &call[at..end]);
+    tell_change(done, out)
+}
+
+// "commit of a key batch | transaction, start, commit, batch"
+pub(crate) fn run_commits(store: Store, area: &[u8], call: &[u8], args: Args, out: &mut [u8]) -> Ran
+    requires { ⌜ RunAsks store (now area) (now call) args (now out) ⌝ }
+    ensures { λ r. ⌜ RanAs (told (Call.CommitBatch (record { txn = args .one; start = args .two; commit = args .three }) (bytesAt (now (call .entry)) (args .restat) (args .restlen))) (boxOf store (now (area .entry)))) (now (out .entry)) r (now (area .entry)) (now (out .exit)) ⌝ }
+{
+    let at = args.restat;
+    let end = at + args.restlen;
+    let done = commits::commit_intents_batch(
+        store,
+        area,
+        args.one,
+        args.two,
+        args.three,
+        &call[at..end],
+    );
+    tell_change(done, out)
+}
+
+// "rollback | transaction, start, key"
+pub(crate) fn run_rollback(
+    store: Store,
+    area: &mut [u8],
+    call: &[u8],
+    args: Args,
+    out: &mut [u8],
+) -> Ran
+    requires { ⌜ RunAsks store (now area) (now call) args (now out) ⌝ }
+    ensures { λ r. ⌜ RanAs (told (Call.Rollback (args .one) (args .two) (bytesAt (now (call .entry)) (args .keyat) (args .keylen))) (boxOf store (now (area .entry)))) (now (out .entry)) r (now (area .exit)) (now (out .exit)) ⌝ }
+{
+    let at = args.keyat;
+    let end = at + args.keylen;
+    let done = rollbacks::rollback_intent(store, area, args.one, args.two, &call[at..end]);
+    tell_change(done, out)
+}
+
+// "rollback of a key batch | transaction, start, batch"
+pub(crate) fn run_rollbacks(
+    store: Store,
+    area: &mut [u8],
+    call: &[u8],
+    args: Args,
+    out: &mut [u8],
+) -> Ran
+    requires { ⌜ RunAsks store (now area) (now call) args (now out) ⌝ }
+    ensures { λ r. ⌜ RanAs (told (Call.RollbackBatch (args .one) (args .two) (bytesAt (now (call .entry)) (args .restat) (args .restlen))) (boxOf store (now (area .entry)))) (now (out .entry)) r (now (area .exit)) (now (out .exit)) ⌝ }
+{
+    let at = args.restat;
+    let end = at + args.restlen;
+    let done = rollbacks::rollback_intents_batch(store, area, args.one, args.two, &call[at..end]);
+    tell_change(done, out)
+}
+
+// "one-step batch | transaction, start, commit, batch"
+pub(crate) fn run_step(
+    store: Store,
+    area: &mut [u8],
+    call: &[u8],
+    args: Args,
+    out: &mut [u8],
+) -> Ran
+    requires { ⌜ RunAsks store (now area) (now call) args (now out) ⌝ }
+    ensures { λ r. ⌜ RanAs (told (Call.OneStep (record { txn = args .one; start = args .two; commit = args .three }) (bytesAt (now (call .entry)) (args .restat) (args .restlen))) (boxOf store (now (area .entry)))) (now (out .entry)) r (now (area .exit)) (now (out .exit)) ⌝ }
+{
+    let at = args.restat;
+    let end = at + args.restlen;
+    let done = onesteps::commit_batch(store, area, args.one, args.two, args.three, &call[at..end]);
+    let answer = done.answer;
+    let after = done.store;
+    let len = tell_count(out, answer, done.count as u64);
     Ran {
         store: after,
         len: len,

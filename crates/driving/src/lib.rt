@@ -1,7 +1,8 @@
 // Driving the store from outside, one call of docs/TRACE.md at a time: a call's bytes are run on a store, and its answer is written into a
 // lent buffer. specs/Told.antt says what each call tells; the program that reads traces and writes answers is thin above this.
-// telling and replying write answers; shows and changes have a function for each op; run chooses among them.
+// telling and replying write answers; shows, paging and changes have a function for each op; run chooses among them.
 pub mod changes;
+pub mod paging;
 pub mod ran;
 pub mod replying;
 pub mod run;

@@ -6,7 +6,17 @@ ghost use Rattle.lines.specs.View.{boxOf};
 ghost use Rattle.lines.specs.Made.{Made};
 ghost use Rattle.driving.specs.Told.{told, notRun};
 ghost use Rattle.driving.specs.Ran.{RunAsks, RanAs, RunCall, longest};
+use crate::changes::run_commit;
+use crate::changes::run_commits;
+use crate::changes::run_prewrite;
+use crate::changes::run_prewrites;
 use crate::changes::run_restore;
+use crate::changes::run_rollback;
+use crate::changes::run_rollbacks;
+use crate::changes::run_step;
+use crate::paging::run_conflicts;
+use crate::paging::run_intents;
+use crate::paging::run_page;
 use crate::ran::Ran;
 use crate::shows::run_intent;
 use crate::shows::run_marks;
@@ -38,11 +48,20 @@ fn run_args(store: Store, area: &mut [u8], call: &[u8], args: Args, out: &mut [u
     let op = args.op;
     match op {
         Op::Read => run_read(store, area, call, args, out),
+        Op::Page => run_page(store, area, call, args, out),
+        Op::IntentPage => run_intents(store, area, call, args, out),
+        Op::ConflictingIntents => run_conflicts(store, area, call, args, out),
         Op::OneIntent => run_intent(store, area, call, args, out),
+        Op::Prewrite => run_prewrite(store, area, call, args, out),
+        Op::PrewriteBatch => run_prewrites(store, area, call, args, out),
+        Op::Commit => run_commit(store, area, call, args, out),
+        Op::CommitBatch => run_commits(store, area, call, args, out),
+        Op::Rollback => run_rollback(store, area, call, args, out),
+        Op::RollbackBatch => run_rollbacks(store, area, call, args, out),
+        Op::OneStep => run_step(store, area, call, args, out),
         Op::Restore => run_restore(store, area, call, args, out),
         Op::Statistics => run_stats(store, area, out),
         Op::Marks => run_marks(store, area, out),
-        _ => not_run(store, area, out),
     }
 }
 

@@ -20,6 +20,14 @@ pub fn tell(out: &mut [u8], answer: Answer, count: u64, payload: &[u8]) -> usize
     replies::put_answer(out, number, holder.txn, holder.start, count, payload)
 }
 
+// An answer without payload.
+pub fn tell_count(out: &mut [u8], answer: Answer, count: u64) -> usize
+    ensures { λ r. ⌜ Writes (answerBytes answer count []) (now (out .entry)) r (now (out .exit)) ⌝ }
+{
+    let none = [0u8; 1];
+    tell(out, answer, count, &none[0..0])
+}
+
 // An answer without count and payload.
 pub fn tell_plain(out: &mut [u8], answer: Answer) -> usize
     ensures { λ r. ⌜ Writes (answerBytes answer 0 []) (now (out .entry)) r (now (out .exit)) ⌝ }

@@ -2,10 +2,20 @@
 // copies a table for its name. `fresh` is the Rust's `new`, `restore` its `restore_from_snapshot_entries`. A store and its area of 65,536
 // bytes go together; every call's only premise is that our code made them (`Made`, crates/lines/specs/Made.antt).
 pub use calls::Changed;
+pub use commits::commit_intent;
+pub use commits::commit_intents_batch;
 pub use figures::allocator_high_water_marks;
 pub use figures::stats;
 pub use lines::Store;
 pub use lines::fresh;
+pub use onesteps::Stepped;
+pub use onesteps::commit_batch;
+pub use pages::Paged;
+pub use pages::scan_conflicting_intents;
+pub use pages::scan_intent_page;
+pub use pages::scan_page;
+pub use prewrites::prewrite;
+pub use prewrites::prewrite_batch;
 pub use reads::Pointed;
 pub use reads::Seen;
 pub use reads::intent_for_read;
@@ -13,6 +23,8 @@ pub use reads::primary_of;
 pub use reads::read;
 pub use reads::row_of;
 pub use restores::restore;
+pub use rollbacks::rollback_intent;
+pub use rollbacks::rollback_intents_batch;
 pub use rules::Answer;
 pub use rules::Holder;
 pub use rules::Marks;

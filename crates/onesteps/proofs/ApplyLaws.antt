@@ -1,10 +1,10 @@
 -- The applying pass of a one-step batch: the plan of its edits, and that the box that it leaves is another one.
 -- Assumes nothing.
-use Prim.Native.Nat.{ℕ, suc, _+_, _≤_, _<_}
+use Prim.Native.Nat.{_+_, _≤_, _<_}
 use native.Mathlib.Omega.{arith}
-use mathlib.Core.Path.{_≡_, refl, sym, ap, _∙_, subst}
-use mathlib.Core.Bool.{Bool, true}
-use mathlib.Core.List.{List, [], _∷_, _++_}
+use mathlib.Core.Path.{_≡_, refl, ap, _∙_}
+use mathlib.Core.Bool.{true}
+use mathlib.Core.List.{List, [], _∷_}
 use lib.ListN.{length, length-append}
 use Rattle.forms.specs.Bytes.{Bytes}
 use Rattle.forms.specs.Key.{keyForm}
@@ -13,17 +13,15 @@ use Rattle.forms.specs.Places.{ahead}
 use Rattle.forms.specs.declared.batch.Cursor.{Cursor}
 use Rattle.forms.proofs.BatchLaws.{ahead-length}
 use Rattle.rules.specs.declared.answers.Answer.the-variants.{Accepted}
-use Rattle.rules.specs.declared.records.Record.{Record}
 use Rattle.rules.specs.declared.room.Load.{Load}
 use Rattle.rules.specs.Answers.{need}
 use Rattle.rules.specs.Box as box
-use Rattle.rules.specs.Room.{loadOf, fits, Fits, roomFor}
+use Rattle.rules.specs.Room.{fits, Fits, roomFor}
 use Rattle.rules.specs.Calls.{rowArgument, kindOf, recordFor}
 use Rattle.rules.specs.Commit.{Ending}
-use Rattle.rules.specs.OneStep.{argumentsStep, applyStep, applySteps, stepNew}
+use Rattle.rules.specs.OneStep.{argumentsStep, applyStep, applySteps}
 use Rattle.rules.specs.Restore.{allGood}
 use Rattle.rules.proofs.RoomLaws.{fits-out}
-use Rattle.laws.specs.Adds.{sumLoads, stepAdds}
 use Rattle.laws.proofs.StepLaws.{then-left, then-right, need-true, and-both}
 use Rattle.laws.proofs.CallLaws.{step-new}
 use Rattle.laws.proofs.FrameLaws.{ascend-apart}
@@ -36,7 +34,6 @@ use Rattle.lines.specs.declared.places.FoundRow.{FoundRow}
 use Rattle.lines.specs.declared.keys.Looked.{Looked}
 use Rattle.lines.specs.View.{boxOf}
 use Rattle.lines.specs.Made.{KeysIn, Kept}
-use Rattle.changes.specs.Changes.{Leaves}
 use Rattle.edits.specs.Seen.{StoreAsks, Applied}
 use Rattle.edits.proofs.BuiltLaws.{Planned, planned-asks, planned-leaves}
 use Rattle.edits.proofs.WrittenLaws.{written-planned}

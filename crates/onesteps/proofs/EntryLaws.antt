@@ -2,23 +2,22 @@
 -- Assumes nothing.
 use Prim.Native.Nat.{ℕ, _+_, _≤_}
 use native.Mathlib.Omega.{arith}
-use mathlib.Core.Path.{_≡_, refl, sym, ap, ap₂, _∙_, subst}
+use mathlib.Core.Path.{_≡_, refl, sym, ap, ap₂, _∙_}
 use mathlib.Core.Bool.{Bool, true, false, _&&_, not, false≢true}
-use mathlib.Core.List.{List}
 use mathlib.Core.Option.{Option, none, some}
 use lib.ListN.{length}
 use borrow.Author.Tests.{not-true, not-false}
-use Rattle.forms.specs.Bytes.{Bytes, bytesAt}
+use Rattle.forms.specs.Bytes.{Bytes}
 use Rattle.forms.specs.Key.{Key}
 use Rattle.forms.specs.Row.{Row}
 use Rattle.forms.specs.Readers.{when, isSome}
-use Rattle.forms.specs.Batch.{Mutation, keyIn}
+use Rattle.forms.specs.Batch.{keyIn}
 use Rattle.rules.specs.declared.records.Kind.{Kind}
 use Rattle.rules.specs.declared.records.Record.{Record}
 use Rattle.rules.specs.Box as box
 use Rattle.rules.specs.Calls.{kindOf, recordFor}
 use Rattle.rules.specs.Commit.{Ending}
-use Rattle.rules.specs.OneStep.{replaceIf, applyStep}
+use Rattle.rules.specs.OneStep.{applyStep}
 use Rattle.laws.specs.Adds.{ofRow}
 use Rattle.laws.proofs.FrameLaws.{Same}
 use Rattle.laws.proofs.OneStepLaws.{replace-none, replace-some}
@@ -29,7 +28,6 @@ use Rattle.lines.specs.declared.places.FoundRow.{FoundRow}
 use Rattle.lines.specs.declared.keys.Looked.{Looked}
 use Rattle.lines.specs.Looks.{lockedBy}
 use Rattle.areas.specs.Areas.{Appended}
-use Rattle.areas.specs.Packs.{Above}
 use Rattle.areas.proofs.AreaLaws.{twice}
 use Rattle.edits.specs.declared.edit.LineEdit.{LineEdit}
 use Rattle.edits.proofs.DoesLaws.{LineDoes, RowDoes}
@@ -37,7 +35,7 @@ use Rattle.edits.proofs.KeepLaws.{seenLine, seenRow, LineKept, RowKept}
 use Rattle.edits.proofs.LineKinds.{line-unlocked, line-ended}
 use Rattle.edits.proofs.RowKinds.{row-none, row-fresh, row-swapped}
 use Rattle.stepchecks.specs.Checks.{entryOf}
-use Rattle.onesteps.specs.Writes.{LineAsks, LineWritten, pastOf, RowAsks, RowWritten, SpotAt, RowAt}
+use Rattle.onesteps.specs.Writes.{LineWritten, pastOf, RowAsks, RowWritten, SpotAt, RowAt}
 use Rattle.onesteps.specs.declared.writes.RowPlan.{RowPlan}
 
 -- ---- what is written

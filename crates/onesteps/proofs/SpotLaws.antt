@@ -3,18 +3,14 @@
 use Prim.Native.Nat.{ℕ, zero, suc, _≤_, _<_}
 use native.Mathlib.Omega.{arith}
 use mathlib.Core.Path.{_≡_, refl, sym, ap, _∙_, subst}
-use mathlib.Core.Bool.{Bool, true}
 use mathlib.Core.List.{List, [], _∷_}
-use mathlib.Core.Option.{Option}
 use lib.ListN.{length, getD, drop}
 use Rattle.forms.specs.Bytes.{Bytes}
-use Rattle.forms.specs.Row.{Row}
 use Rattle.forms.specs.Readers.{isSome}
 use Rattle.forms.specs.Batch.{Mutation, keyIn}
 use Rattle.rules.specs.declared.answers.Answer.{Answer}
 use Rattle.rules.specs.declared.answers.Answer.the-variants.{Accepted}
-use Rattle.rules.specs.Answers.{_▸_}
-use Rattle.rules.specs.Box.{Box, Lock, recordsOf}
+use Rattle.rules.specs.Box.{Box, recordsOf}
 use Rattle.rules.specs.Commit.{Ending}
 use Rattle.rules.specs.OneStep.{stepNew}
 use Rattle.laws.proofs.StepLaws.{then-left, then-right}

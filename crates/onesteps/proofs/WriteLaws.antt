@@ -2,10 +2,9 @@
 -- Assumes nothing.
 use Prim.Native.Nat.{ℕ, _+_, _-_, _≤_, _<_}
 use native.Mathlib.Omega.{arith}
-use mathlib.Core.Path.{_≡_, refl, sym, ap, ap₂, _∙_, subst}
-use mathlib.Core.Bool.{Bool, true, false}
-use mathlib.Core.List.{List, [], _∷_}
-use mathlib.Core.Option.{Option, none, some}
+use mathlib.Core.Path.{_≡_, sym, ap, _∙_, subst}
+use mathlib.Core.Bool.{Bool, true}
+use mathlib.Core.List.{List, _∷_}
 use lib.ListN.{length, getD, set}
 use Rattle.forms.specs.Bytes.{Bytes, bytesAt}
 use Rattle.forms.specs.Key.{Key, keyForm}
@@ -18,8 +17,7 @@ use Rattle.forms.specs.declared.batch.Entry.{Entry}
 use Rattle.forms.proofs.BatchLaws.{Next, mutation-next, ahead-end}
 use Rattle.forms.proofs.RowLaws.{row-bounds}
 use Rattle.rules.specs.declared.answers.Answer.the-variants.{Accepted}
-use Rattle.rules.specs.declared.room.Load.{Load}
-use Rattle.rules.specs.Answers.{_▸_, need}
+use Rattle.rules.specs.Answers.{need}
 use Rattle.rules.specs.Calls.{rowArgument}
 use Rattle.rules.specs.Commit.{Ending}
 use Rattle.rules.specs.OneStep.{argumentsStep, applyStep}
@@ -29,7 +27,6 @@ use Rattle.lines.specs.declared.store.Store.{Store}
 use Rattle.lines.specs.declared.places.FoundRow.{FoundRow}
 use Rattle.lines.specs.declared.keys.Looked.{Looked}
 use Rattle.lines.specs.View.{defaultOf, boxOf}
-use Rattle.lines.specs.Made.{Built}
 use Rattle.areas.specs.Packs.{Above}
 use Rattle.changes.proofs.WhereLaws.{rows-few}
 use Rattle.seqs.proofs.Tables.{shown-length}
@@ -40,7 +37,7 @@ use Rattle.edits.specs.declared.edit.RowEdit.{RowEdit}
 use Rattle.edits.proofs.KeepLaws.{LineKept, line-grows}
 use Rattle.edits.proofs.WrittenLaws.{above-more, Written, written-start, written-more}
 use Rattle.stepchecks.specs.Checks.{noLooked, noFound}
-use Rattle.onesteps.specs.Writes.{LineAsks, LineWritten, RowAsks, RowWritten, SpotAt, RowAt, WriteAsks, Wrote}
+use Rattle.onesteps.specs.Writes.{LineAsks, LineWritten, RowAsks, RowWritten, RowAt, WriteAsks, Wrote}
 use Rattle.onesteps.specs.declared.writes.RowPlan.{RowPlan}
 use Rattle.onesteps.proofs.EntryLaws.{line-kept, row-kept}
 

@@ -55,8 +55,8 @@ fn apply_all(
     edits::apply_edits(store, lines, rows, first.left, after, plan.top)
 }
 
-// The steps of a batch in form whose head and arguments have passed: what its keys meet in the store as it came, the checks, and the applying
-// pass.
+// The steps of a batch in form whose head and arguments have passed: what its keys meet in the store as it came, the checks, and the
+// applying pass.
 fn step_all(store: Store, area: &mut [u8], terms: Terms, batch: &[u8], first: Cursor) -> Stepped
     requires { ⌜ AllAsks store (now area) (now batch) first ⌝ }
     ensures { λ r. ⌜ Counts store (now (area .entry)) (laterCounted (endingOf terms) (ahead mutation (now (batch .entry)) (first .at) (first .left)) (boxOf store (now (area .entry)))) r (now (area .exit)) ⌝ }

@@ -1,5 +1,5 @@
-// "One-step batch": `commit_batch`. The checks of crate stepchecks over what the keys met in the store as it came; then the entries' bytes go
-// into the area and each entry is written down as an edit of each table, and one walk over each table makes all edits.
+// "One-step batch": `commit_batch`. The checks of crate stepchecks over what the keys met in the store as it came; then the entries' bytes
+// go into the area and each entry is written down as an edit of each table, and one walk over each table makes all edits.
 pub mod batch;
 pub mod writes;
 

@@ -1,5 +1,5 @@
-// "Each entry gets a record of this start and its kind, stamped with the commit; a Put's row is stored and replaces one already stored at this
-// start; an own lock goes": written down as edits, at places of the store as it came.
+// "Each entry gets a record of this start and its kind, stamped with the commit; a Put's row is stored and replaces one already stored at
+// this start; an own lock goes": written down as edits, at places of the store as it came.
 ghost use mathlib.Core.Path.{_≡_};
 ghost use Prim.Native.Nat.{_≤_};
 ghost use Rattle.edits.specs.Seen.{noLineEdit, noRowEdit};
@@ -75,14 +75,14 @@ pub struct RowPlan {
 fn write_row(
     area: &mut [u8],
     top: usize,
-    start: u64,
+    terms: Terms,
     key: &[u8],
     put: bool,
     row: &[u8],
     stored: FoundRow,
 ) -> RowPlan
     requires { ⌜ RowAsks (now area) top (now key) put (now row) stored ⌝ }
-    ensures { λ r. ⌜ RowWritten (now (area .entry)) top start (now (key .entry)) put (now (row .entry)) stored r (now (area .exit)) ⌝ }
+    ensures { λ r. ⌜ RowWritten (now (area .entry)) top (terms .start) (now (key .entry)) put (now (row .entry)) stored r (now (area .exit)) ⌝ }
 {
     if !put {
         let none = no_held();
@@ -111,7 +111,7 @@ fn write_row(
                 at: top as u16,
                 len: key.len() as u8,
                 used: true,
-                start: start,
+                start: terms.start,
                 rowat: mid as u16,
                 rowlen: row.len() as u8,
             },
@@ -185,15 +185,7 @@ pub fn write_all(
         lines[i] = line;
         let d = stored[i];
         let mid = top + e.len;
-        let plan = write_row(
-            area,
-            mid,
-            terms.start,
-            &batch[ka..ke],
-            e.put,
-            &batch[ra..re],
-            d,
-        );
+        let plan = write_row(area, mid, terms, &batch[ka..ke], e.put, &batch[ra..re], d);
         let row = plan.edit;
         rows[i] = row;
         top = plan.top;

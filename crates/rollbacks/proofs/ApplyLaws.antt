@@ -1,6 +1,6 @@
 -- The applying pass of a batch, whole: what the plan is asked, and what the edits make of the store.
 -- Assumes nothing.
-use Prim.Native.Nat.{ℕ, zero, suc, _+_, _*_, _≤_, _<_}
+use Prim.Native.Nat.{ℕ, zero, suc, _*_, _≤_, _<_}
 use native.Mathlib.Omega.{arith}
 use mathlib.Core.Path.{_≡_, refl, sym, ap, _∙_, subst}
 use mathlib.Core.Bool.{Bool, true}
@@ -18,8 +18,7 @@ use Rattle.rules.specs.declared.answers.Answer.the-variants.{Accepted}
 use Rattle.rules.specs.declared.records.Kind.the-variants.{Rollback}
 use Rattle.rules.specs.declared.records.Record.{Record}
 use Rattle.rules.specs.declared.room.Load.{Load}
-use Rattle.rules.specs.Answers.{_▸_}
-use Rattle.rules.specs.Box.{Box, KeyLine, Default, Finished, before, rowBefore, recordsOf, inOrder, dropLock, dropRow}
+use Rattle.rules.specs.Box.{Box, KeyLine, Default, Finished, before, rowBefore, recordsOf, inOrder, dropLock}
 use Rattle.rules.specs.Room.{loadOf}
 use Rattle.rules.specs.Calls.{stampedAt, recordFor}
 use Rattle.rules.specs.Rollback.{rollbackKey, rollbackKeys, rollbackTo, applyRollback, applyRollbacks}
@@ -30,7 +29,7 @@ use Rattle.laws.proofs.PlaceLaws.{howMany-le}
 use Rattle.laws.proofs.BoxOrder.{dropLock-fewer, dropRow-fewer}
 use Rattle.laws.proofs.LoadLaws.{load-fields}
 use Rattle.laws.proofs.BatchLaws.{applyAll}
-use Rattle.laws.proofs.RollbackLaws.{rollback-passed, rolledBack, applyRollbacks-all, rollbacks-load}
+use Rattle.laws.proofs.RollbackLaws.{rollback-passed, applyRollbacks-all, rollbacks-load}
 use Rattle.lines.specs.declared.store.Store.{Store}
 use Rattle.lines.specs.declared.keys.Locked.{Locked}
 use Rattle.lines.specs.declared.keys.Locked.the-variants.{Nobody, By}
@@ -38,17 +37,16 @@ use Rattle.lines.specs.declared.keys.Looked.{Looked}
 use Rattle.lines.specs.declared.places.FoundRow.{FoundRow}
 use Rattle.lines.specs.View.{boxOf}
 use Rattle.lines.specs.Made as store
-use Rattle.lines.specs.Made.{KeysIn, Built}
+use Rattle.lines.specs.Made.{KeysIn}
 use Rattle.lines.specs.Looks.{lockedBy, pair}
 use Rattle.areas.specs.Packs.{Placed}
-use Rattle.changes.specs.Changes.{Leaves}
 use Rattle.edits.specs.Seen.{StoreAsks, Applied}
 use Rattle.edits.proofs.BuiltLaws.{Planned, planned-asks, planned-leaves}
 use Rattle.edits.proofs.WrittenLaws.{written-at-once, written-planned}
 use Rattle.rollbacks.specs.declared.plans.Plan.{Plan}
 use Rattle.rollbacks.specs.Checks.{Met}
-use Rattle.rollbacks.specs.Passes.{noLook, noRow, Surveyed}
-use Rattle.rollbacks.specs.Plans.{Spot, Spots, PlanAsks, PlanFor, PlanKept, AllPlanned}
+use Rattle.rollbacks.specs.Passes.{noRow}
+use Rattle.rollbacks.specs.Plans.{Spot, Spots, PlanAsks, PlanKept, AllPlanned}
 use Rattle.rollbacks.specs.Applies.{ApplyAsks, AllApplied}
 use Rattle.rollbacks.proofs.SeenLaws.{at-is, stored-is}
 

@@ -1,10 +1,10 @@
 -- The single form: what its ways out say.
 -- Assumes nothing.
-use Prim.Native.Nat.{ℕ, _≤_}
+use Prim.Native.Nat.{ℕ}
 use native.Mathlib.Omega.{arith}
 use mathlib.Core.Path.{_≡_, refl, sym, ap, _∙_, subst}
 use mathlib.Core.Bool.{Bool, true, false, not, true≢false}
-use mathlib.Core.List.{List, [], _∷_}
+use mathlib.Core.List.{[], _∷_}
 use mathlib.Core.Option.{Option, none, some}
 use Rattle.forms.specs.Bytes.{Bytes}
 use Rattle.forms.specs.Key.{Key}
@@ -35,7 +35,7 @@ use Rattle.calls.proofs.SettledLaws.{settled-same}
 use Rattle.calls.proofs.AnswerLaws.{then-end, head-out, head-on}
 use borrow.Author.Tests.{not-true, not-false}
 use Rattle.rollbacks.specs.declared.checks.Seen.{Seen}
-use Rattle.rollbacks.specs.Weights.{Light, LeftAsks}
+use Rattle.rollbacks.specs.Weights.{LeftAsks}
 use Rattle.rollbacks.specs.Checks.{Met, KeyChecked, KeySeen, Weighed}
 use Rattle.rollbacks.specs.Applies.{RollAsks, KeyApplied, allDone, OneAsks}
 use Rattle.rollbacks.proofs.SeenLaws.{at-is}

@@ -1,40 +1,34 @@
 -- The calls from their keys on: the room, and what the ways out of both forms say.
 -- Assumes nothing.
-use Prim.Native.Nat.{ℕ, _+_, _*_, _≤_}
+use Prim.Native.Nat.{ℕ, _≤_}
 use native.Mathlib.Omega.{arith}
-use mathlib.Core.Path.{_≡_, refl, sym, ap, ap₂, _∙_, subst}
-use mathlib.Core.Bool.{Bool, true, false, not, true≢false}
-use mathlib.Core.List.{List, [], _∷_}
-use mathlib.Core.Option.{Option, none, some}
+use mathlib.Core.Path.{_≡_, sym, ap, ap₂, _∙_, subst}
+use mathlib.Core.Bool.{Bool, true, false, not}
+use mathlib.Core.List.{List}
 use borrow.Author.Tests.{not-true, not-false}
 use Rattle.forms.specs.Bytes.{Bytes}
 use Rattle.forms.specs.Key.{Key}
-use Rattle.forms.specs.Readers.{piece, isSome}
-use Rattle.forms.specs.Batch.{keys, ascend}
-use Rattle.forms.specs.Places.{ahead}
-use Rattle.forms.specs.declared.batch.Cursor.{Cursor}
-use Rattle.forms.proofs.BatchLaws.{Judged}
+use Rattle.forms.specs.Batch.{ascend}
 use Rattle.rules.specs.declared.answers.Answer.{Answer}
 use Rattle.rules.specs.declared.answers.Answer.the-variants.{Accepted, No}
 use Rattle.rules.specs.declared.room.Load.{Load}
 use Rattle.rules.specs.Answers.{_▸_, need}
 use Rattle.rules.specs.Box.{Box}
 use Rattle.rules.specs.Room.{loadOf, fits, Fits}
-use Rattle.rules.specs.Calls.{Done, settle}
+use Rattle.rules.specs.Calls.{settle}
 use Rattle.rules.specs.Rollback.{rollbackKeys, rollbackRoom, applyRollbacks}
 use Rattle.rules.proofs.RoomLaws.{fits-out}
 use Rattle.laws.specs.Adds.{plus, minus, sumLoads, rollbackAdds, rollbackFrees}
 use Rattle.laws.proofs.SettleLaws.{settle-old}
-use Rattle.laws.proofs.LoadLaws.{load-fields, load-left, AtMost, freed-at-most}
+use Rattle.laws.proofs.LoadLaws.{load-fields, load-left, freed-at-most}
 use Rattle.laws.proofs.RollbackLaws.{rollbacks-load, rollback-room}
 use Rattle.lines.specs.declared.store.Store.{Store}
 use Rattle.lines.specs.View.{boxOf}
 use Rattle.lines.specs.Made.{Built, Made}
-use Rattle.areas.specs.Packs.{Placed}
 use Rattle.calls.specs.Settled.{Settled}
 use Rattle.calls.proofs.SettledLaws.{then-refused, settled-same, settled-new}
 use Rattle.rollbacks.specs.declared.weights.Weight.{Weight}
-use Rattle.rollbacks.specs.Weights.{Light, LeftAsks}
+use Rattle.rollbacks.specs.Weights.{LeftAsks}
 use Rattle.rollbacks.specs.Checks.{Weighed}
 use Rattle.rollbacks.specs.Applies.{allDone}
 use Rattle.rollbacks.proofs.GrowLaws.{rolled-already, rolled-new}

@@ -3,8 +3,8 @@
 use Prim.Native.Nat.{ℕ, zero, suc, _+_, _-_, _*_, _≤_, _<_}
 use native.Mathlib.Omega.{arith}
 use native.Mathlib.Nat.{suc-mul}
-use mathlib.Core.Path.{_≡_, refl, sym, ap, _∙_, subst}
-use mathlib.Core.List.{List, [], _∷_}
+use mathlib.Core.Path.{_≡_, sym, ap, _∙_, subst}
+use mathlib.Core.List.{List, []}
 use lib.ListN.{length, getD, set}
 use Rattle.forms.specs.Bytes.{Bytes, bytesAt}
 use Rattle.forms.specs.Key.{Key}
@@ -13,7 +13,6 @@ use Rattle.forms.specs.Places.{PartAt, ahead, Ahead}
 use Rattle.forms.specs.declared.batch.Cursor.{Cursor}
 use Rattle.forms.specs.declared.part.Part.{Part}
 use Rattle.forms.proofs.BatchLaws.{Next, key-next, ahead-end}
-use Rattle.rules.specs.Box.{Box}
 use Rattle.rules.specs.Rollback.{applyRollback}
 use Rattle.laws.specs.Adds.{sumLoads, rollbackAdds}
 use Rattle.lines.specs.declared.store.Store.{Store}
@@ -25,9 +24,8 @@ use Rattle.edits.specs.declared.edit.LineEdit.{LineEdit}
 use Rattle.edits.specs.declared.edit.RowEdit.{RowEdit}
 use Rattle.edits.proofs.WrittenLaws.{Written, written-start, written-more}
 use Rattle.rollbacks.specs.declared.plans.KeyPlan.{KeyPlan}
-use Rattle.rollbacks.specs.declared.plans.Plan.{Plan}
 use Rattle.rollbacks.specs.Passes.{noLook, noRow}
-use Rattle.rollbacks.specs.Plans.{PlaceAsks, KeyKept, KeyPlanned, PlanAsks, PlanFor, PlanKept, AllPlanned}
+use Rattle.rollbacks.specs.Plans.{PlaceAsks, KeyPlanned, PlanAsks, PlanFor, PlanKept, AllPlanned}
 
 pub record Planning (start : ℕ) (area : Bytes) (top : ℕ) (batch : Bytes) (c : Cursor) (founds : List Looked) (rows : List FoundRow) (area′ : Bytes) (ls : List LineEdit) (rs : List RowEdit) (end at left i : ℕ) : Type 0 where
   pub cursor : Ahead piece batch at left

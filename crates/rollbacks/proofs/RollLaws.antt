@@ -1,8 +1,8 @@
 -- One key rolled back: what the changes of lines and defaults are asked, and what they leave together.
 -- Assumes nothing.
-use Prim.Native.Nat.{ℕ, _+_, _≤_, _<_}
+use Prim.Native.Nat.{ℕ, _+_, _≤_}
 use native.Mathlib.Omega.{arith}
-use mathlib.Core.Path.{_≡_, refl, sym, ap, ap₂, _∙_, subst}
+use mathlib.Core.Path.{_≡_, refl, sym, ap, ap₂, _∙_}
 use mathlib.Core.Bool.{Bool, true, false, not}
 use mathlib.Core.List.{List}
 use mathlib.Core.Option.{Option, none, some}
@@ -15,12 +15,10 @@ use Rattle.forms.proofs.KeyLaws.{key-bounds}
 use Rattle.rules.specs.declared.answers.Answer.the-variants.{Accepted}
 use Rattle.rules.specs.declared.records.Kind.the-variants.{Rollback}
 use Rattle.rules.specs.declared.records.Record.{Record}
-use Rattle.rules.specs.declared.room.Load.{Load}
-use Rattle.rules.specs.Box.{Box, Lock, Finished, KeyLine, Default, recordsOf, lockOf, rowOf, insertLine, dropLock, dropRow}
+use Rattle.rules.specs.Box.{Box, Lock, Finished, KeyLine, Default, recordsOf, lockOf, rowOf, insertLine, dropLock}
 use Rattle.rules.specs.Room.{loadOf}
 use Rattle.rules.specs.Calls.{stampedAt, recordFor}
 use Rattle.rules.specs.Rollback.{rollbackKey, applyRollback}
-use Rattle.laws.specs.Adds.{plus, recordLoad, ofLock, ofRow, rollbackAdds, rollbackFrees}
 use Rattle.laws.specs.Places.{pairsBefore}
 use Rattle.laws.proofs.StepLaws.{is-none, none-there}
 use Rattle.laws.proofs.KeyLaws.{dropLock-none, dropRow-none}
@@ -31,7 +29,6 @@ use Rattle.lines.specs.declared.store.Store.{Store}
 use Rattle.lines.specs.declared.keys.Looked.{Looked}
 use Rattle.lines.specs.declared.places.FoundRow.{FoundRow}
 use Rattle.lines.specs.View.{boxOf}
-use Rattle.lines.specs.Made.{Built}
 use Rattle.lines.specs.Looks.{lockedBy, recordPlace}
 use Rattle.areas.specs.Packs.{Placed}
 use Rattle.changes.specs.Changes.{withRecord, ended, withoutRow, Leaves, RecordAsks, EndAsks, DropAsks}

@@ -2,7 +2,7 @@
 -- Assumes nothing.
 use Prim.Native.Nat.{ℕ}
 use native.Mathlib.Omega.{arith}
-use mathlib.Core.Path.{_≡_, refl, sym, ap, _∙_}
+use mathlib.Core.Path.{_≡_, sym, ap, _∙_}
 use mathlib.Core.Bool.{Bool, true, false, not}
 use mathlib.Core.List.{List}
 use mathlib.Core.Option.{Option}
@@ -17,7 +17,7 @@ use Rattle.rules.specs.Answers.{_▸_}
 use Rattle.rules.specs.Box.{Box, Lock, recordsOf, lockOf, rowOf}
 use Rattle.rules.specs.Calls.{stampedAt}
 use Rattle.rules.specs.Rollback.{rollbackRecords, rollbackStep, rollbackKey}
-use Rattle.laws.specs.Adds.{plus, recordLoad, ofLock, ofRow, ifNew, rollbackAdds, rollbackFrees}
+use Rattle.laws.specs.Adds.{plus, ofLock, ofRow, ifNew, rollbackAdds, rollbackFrees}
 use Rattle.laws.proofs.ChainLaws.{out, on, call-on, denied, granted}
 use Rattle.lines.specs.declared.store.Store.{Store}
 use Rattle.lines.specs.declared.keys.History.{History}
@@ -31,7 +31,7 @@ use Rattle.calls.proofs.ReadyLaws.{bytes-long, when-some}
 use Rattle.rollbacks.specs.declared.weights.Weight.{Weight}
 use Rattle.rollbacks.specs.declared.checks.Seen.{Seen}
 use Rattle.rollbacks.specs.Weights.{Weighs}
-use Rattle.rollbacks.specs.Checks.{Met, KeyAsks, Refused, KeyChecked, KeySeen}
+use Rattle.rollbacks.specs.Checks.{Met, KeyAsks, Refused, KeySeen}
 use Rattle.rollbacks.proofs.WeightLaws.{no-weight-light, frees-asks}
 
 -- ---- what was found is what the box has

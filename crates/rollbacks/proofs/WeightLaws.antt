@@ -1,8 +1,8 @@
 -- What a key of a rollback adds and frees, and that it is little.
 -- Assumes nothing.
-use Prim.Native.Nat.{ℕ, _+_, _*_, _≤_}
+use Prim.Native.Nat.{ℕ, _≤_}
 use native.Mathlib.Omega.{arith}
-use mathlib.Core.Path.{_≡_, refl, sym, ap, ap₂, _∙_, subst}
+use mathlib.Core.Path.{_≡_, sym, ap, ap₂, _∙_, subst}
 use mathlib.Core.Bool.{Bool, true, false}
 use mathlib.Core.Option.{Option, none, some}
 use lib.ListN.{length}
@@ -17,10 +17,10 @@ use Rattle.rules.specs.declared.records.Kind.{Kind}
 use Rattle.rules.specs.declared.records.Kind.the-variants.{Put, Delete, Rollback}
 use Rattle.rules.specs.declared.records.Record.{Record}
 use Rattle.rules.specs.declared.room.Load.{Load}
-use Rattle.rules.specs.Box.{Box, Lock, lockOf, rowOf}
+use Rattle.rules.specs.Box.{Box, Lock, rowOf}
 use Rattle.rules.specs.Calls.{kindReady}
 use Rattle.rules.specs.Rollback.{rollbackKey}
-use Rattle.laws.specs.Adds.{noLoad, plus, minus, recordLoad, ofLock, ofRow, ifNew}
+use Rattle.laws.specs.Adds.{plus, minus, recordLoad, ofLock, ofRow, ifNew}
 use Rattle.laws.proofs.LoadLaws.{load-fields}
 use Rattle.laws.proofs.RollbackLaws.{RollbackLock, lock-free, lock-own, RollbackWay, rollback-replay, rollback-first, rollback-passed, rollback-way}
 use Rattle.lines.specs.declared.store.Store.{Store}
@@ -29,8 +29,8 @@ use Rattle.lines.specs.declared.keys.Found.{Found}
 use Rattle.lines.specs.declared.keys.Found.the-variants as found
 use Rattle.lines.specs.declared.keys.Locked.{Locked}
 use Rattle.lines.specs.declared.places.FoundRow.{FoundRow}
-use Rattle.lines.specs.Looks.{lockedBy, foundOf, RowFound}
-use Rattle.calls.specs.Loads.{AddedBy, Summable}
+use Rattle.lines.specs.Looks.{lockedBy, RowFound}
+use Rattle.calls.specs.Loads.{Summable}
 use Rattle.calls.specs.Frees.{Within, LockFrees, FreesAsks, RowFrees}
 use Rattle.calls.proofs.ReadyLaws.{bytes-long, was-found, was-nothing}
 use Rattle.rollbacks.specs.Weights.{noWeight, Light, Weighs, LeftAsks}

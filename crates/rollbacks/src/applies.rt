@@ -9,8 +9,8 @@ use lines::Looked;
 use lines::Store;
 use rules::Load;
 
-// The keys' edits, after a repack where the area wants one for their bytes, and one walk over each table that makes them all. `load` is that
-// of the box that the call leaves.
+// The keys' edits, after a repack where the area wants one for their bytes ("Length 5 to 48"), and one walk over each table that makes them
+// all. `load` is that of the box that the call leaves.
 pub fn apply_all(
     store: Store,
     area: &mut [u8],

@@ -14,8 +14,8 @@ use rules::Answer;
 use rules::Kind;
 use rules::Record;
 
-// "Lock and its row go, a Rollback record comes." The record of a key with a lock takes the lock's stretch of the area; that of a key without
-// one brings its bytes.
+// "Lock and its row go, a Rollback record comes." The record of a key with a lock takes the lock's stretch of the area; that of a key
+// without one brings its bytes.
 fn roll_key(
     store: Store,
     area: &mut [u8],

@@ -6,8 +6,7 @@ use native.Mathlib.Omega.{arith}
 use mathlib.Core.Path.{_≡_, refl, sym, ap, ap₂, _∙_}
 use mathlib.Core.Bool.{Bool, true, false, _&&_, not}
 use mathlib.Core.List.{List, [], _∷_}
-use mathlib.Core.Option.{Option, none, some}
-use lib.ListN.{length, getD}
+use lib.ListN.{getD}
 use borrow.Author.Tests.{not-true, not-false}
 use Rattle.forms.specs.Bytes.{Bytes}
 use Rattle.forms.specs.Row.{Row}
@@ -21,7 +20,7 @@ use Rattle.rules.specs.declared.answers.Answer.{Answer}
 use Rattle.rules.specs.declared.answers.Answer.the-variants.{Accepted, No, Held}
 use Rattle.rules.specs.declared.records.Kind.{Kind}
 use Rattle.rules.specs.Answers.{_▸_, need, needOwn}
-use Rattle.rules.specs.Box.{Box, Lock, eqKind, holderOf, recordsOf, lockOf}
+use Rattle.rules.specs.Box.{Box, eqKind, holderOf, recordsOf, lockOf}
 use Rattle.rules.specs.Sound.{allSound}
 use Rattle.rules.specs.Calls.{kindOf, owns, allBelow}
 use Rattle.rules.specs.Commit.{Ending}

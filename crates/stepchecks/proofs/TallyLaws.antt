@@ -5,8 +5,8 @@ use native.Mathlib.Omega.{arith}
 use mathlib.Core.Path.{_≡_, refl, sym, ap, ap₂, _∙_}
 use mathlib.Core.Bool.{Bool, true, false, _&&_, _||_, not}
 use mathlib.Core.List.{List, [], _∷_}
-use mathlib.Core.Option.{Option, none, some}
-use lib.ListN.{length, getD}
+use mathlib.Core.Option.{Option, some}
+use lib.ListN.{getD}
 use lib.Dec.{eqb}
 use borrow.Author.Tests.{eq-eqb, ne-eqb, not-true, not-false}
 use Rattle.forms.specs.Bytes.{Bytes, bytesAt}
@@ -19,7 +19,7 @@ use Rattle.forms.specs.declared.batch.Entry.{Entry}
 use Rattle.forms.proofs.BatchLaws.{Next, mutation-next, ahead-end}
 use Rattle.rules.specs.declared.records.Kind.{Kind}
 use Rattle.rules.specs.declared.records.Record.{Record}
-use Rattle.rules.specs.Box.{Box, eqKind, recordsOf, rowOf}
+use Rattle.rules.specs.Box.{Box, eqKind, recordsOf}
 use Rattle.rules.specs.Calls.{kindOf, rowStands, stampedAt}
 use Rattle.rules.specs.Commit.{Ending}
 use Rattle.rules.specs.OneStep as rule

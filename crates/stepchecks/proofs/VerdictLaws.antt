@@ -2,25 +2,25 @@
 -- Assumes nothing.
 use Prim.Native.Nat.{ℕ, _+_, _≤_, _<_}
 use native.Mathlib.Omega.{arith}
-use mathlib.Core.Path.{_≡_, refl, sym, ap, ap₂, _∙_, subst}
+use mathlib.Core.Path.{_≡_, refl, sym, ap, ap₂, _∙_}
 use mathlib.Core.Bool.{Bool, true, false, not, true≢false, false≢true}
 use mathlib.Core.List.{List, [], _∷_}
 use lib.ListN.{length, getD, drop, length-drop}
 use borrow.Author.Tests.{not-true, not-false}
 use Rattle.forms.specs.Bytes.{Bytes}
-use Rattle.forms.specs.Batch.{Mutation, keyIn, mutation, ascend}
-use Rattle.forms.specs.Places.{ahead, Ahead}
+use Rattle.forms.specs.Batch.{Mutation, mutation}
+use Rattle.forms.specs.Places.{ahead}
 use Rattle.forms.specs.declared.batch.Cursor.{Cursor}
 use Rattle.forms.proofs.BatchLaws.{ahead-length}
 use Rattle.rules.specs.declared.answers.Answer.{Answer}
-use Rattle.rules.specs.declared.answers.Answer.the-variants.{Accepted, No, Held}
+use Rattle.rules.specs.declared.answers.Answer.the-variants.{Accepted, No}
 use Rattle.rules.specs.declared.room.Load.{Load}
 use Rattle.rules.specs.Answers.{_▸_, need}
-use Rattle.rules.specs.Box.{Box, inOrder}
+use Rattle.rules.specs.Box.{Box}
 use Rattle.rules.specs.Room.{loadOf, fits, roomFor}
-use Rattle.rules.specs.Calls.{Done, settle}
+use Rattle.rules.specs.Calls.{settle}
 use Rattle.rules.specs.Commit.{Ending}
-use Rattle.rules.specs.OneStep.{noneOther, allApplied, someApplied, stepEntries, newestStep, applySteps, stepNew, stepApplied, thenApplied}
+use Rattle.rules.specs.OneStep.{allApplied, stepEntries, newestStep, applySteps, stepNew, stepApplied, thenApplied}
 use Rattle.laws.specs.Adds.{plus, minus, sumLoads, stepAdds, stepFrees}
 use Rattle.laws.proofs.StepLaws.{then-left, then-right, then-assoc, need-is}
 use Rattle.laws.proofs.ChainLaws.{call-on, last-out, last-on}
@@ -32,16 +32,13 @@ use Rattle.lines.specs.declared.store.Store.{Store}
 use Rattle.lines.specs.declared.places.FoundRow.{FoundRow}
 use Rattle.lines.specs.declared.keys.Looked.{Looked}
 use Rattle.lines.specs.View.{boxOf}
-use Rattle.lines.specs.Looks.{RowFound}
 use Rattle.calls.specs.Settled.{isAccepted}
-use Rattle.calls.specs.Loads.{AddedBy, Summable}
-use Rattle.calls.specs.Frees.{Within}
 use Rattle.calls.specs.Keeps.{Kept}
 use Rattle.calls.proofs.SettledLaws.{is-accepted, then-refused}
-use Rattle.stepchecks.specs.Checks.{noFound, Surveyed, StepsAsk, PassAsks}
+use Rattle.stepchecks.specs.Checks.{noFound, StepsAsk, PassAsks}
 use Rattle.stepchecks.specs.Tallies.{Tallied}
 use Rattle.stepchecks.specs.Weights.{WeighAsks, Weighed, LeftAsks}
-use Rattle.stepchecks.specs.Verdicts.{JudgeAsks, NewJudged, laterDone, Fresh, Decided}
+use Rattle.stepchecks.specs.Verdicts.{JudgeAsks, NewJudged, laterDone, Decided}
 use Rattle.stepchecks.specs.declared.applied.Tally.{Tally}
 use Rattle.stepchecks.specs.declared.verdict.Verdict.{Verdict}
 use Rattle.stepchecks.specs.declared.weights.Weight.{Weight}

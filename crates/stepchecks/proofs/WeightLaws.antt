@@ -2,10 +2,9 @@
 -- Assumes nothing.
 use Prim.Native.Nat.{ℕ, _+_, _-_, _*_, _≤_, _<_}
 use native.Mathlib.Omega.{arith}
-use mathlib.Core.Path.{_≡_, refl, sym, ap, ap₂, _∙_, subst}
+use mathlib.Core.Path.{_≡_, sym, ap, ap₂, _∙_, subst}
 use mathlib.Core.Bool.{Bool, true, false, not}
-use mathlib.Core.List.{List, [], _∷_}
-use mathlib.Core.Option.{Option, none, some}
+use mathlib.Core.List.{List, _∷_}
 use lib.ListN.{length, getD}
 use borrow.Author.Tests.{not-true, not-false}
 use Rattle.forms.specs.Bytes.{Bytes, bytesAt}
@@ -18,11 +17,9 @@ use Rattle.forms.specs.declared.batch.Cursor.{Cursor}
 use Rattle.forms.specs.declared.batch.Entry.{Entry}
 use Rattle.forms.proofs.BatchLaws.{Next, mutation-next, ahead-end}
 use Rattle.forms.proofs.KeyLaws.{key-bounds}
-use Rattle.rules.specs.declared.answers.Answer.{Answer}
 use Rattle.rules.specs.declared.answers.Answer.the-variants.{Accepted}
 use Rattle.rules.specs.declared.room.Load.{Load}
-use Rattle.rules.specs.Answers.{_▸_, need}
-use Rattle.rules.specs.Box.{Box, lockOf, rowOf}
+use Rattle.rules.specs.Answers.{need}
 use Rattle.rules.specs.Calls.{rowArgument}
 use Rattle.rules.specs.Commit.{Ending}
 use Rattle.rules.specs.OneStep.{argumentsStep}
@@ -34,13 +31,12 @@ use Rattle.lines.specs.declared.places.FoundRow.{FoundRow}
 use Rattle.lines.specs.declared.keys.Locked.{Locked}
 use Rattle.lines.specs.declared.keys.Looked.{Looked}
 use Rattle.lines.specs.View.{boxOf}
-use Rattle.lines.specs.Looks.{lockedBy}
-use Rattle.calls.specs.Loads.{AddedBy, Summable}
+use Rattle.calls.specs.Loads.{Summable}
 use Rattle.calls.specs.Frees.{Within, LockFrees}
 use Rattle.calls.proofs.ReadyLaws.{bytes-long}
 use Rattle.calls.proofs.KeepLaws.{Indexed, indexed-start, indexed-here, indexed-more}
 use Rattle.calls.proofs.WalkLaws.{Summing, summing-start, summing-more, summing-small, summing-few, summing-end}
-use Rattle.stepchecks.specs.Checks.{entryOf, noLooked, noFound, Surveyed}
+use Rattle.stepchecks.specs.Checks.{noLooked, noFound, Surveyed}
 use Rattle.stepchecks.specs.Weights.{Large, FreesAsk, RowReplaced, FreesAre, AddsAsk, AddsAre, WeighAsks, Weighed, LeftAsks}
 
 -- ---- what an entry adds

@@ -1,7 +1,7 @@
 -- What a pass over the entries of a one-step batch is given: a cursor on the batch, and what each entry's key met in the store.
 -- Assumes nothing.
 use Prim.Native.Nat.{ℕ, _+_, _≤_, _<_}
-use mathlib.Core.Bool.{Bool, true, false}
+use mathlib.Core.Bool.{Bool, false}
 use mathlib.Core.List.{List}
 use lib.ListN.{length, getD}
 use Rattle.forms.specs.Bytes.{Bytes}

@@ -1,7 +1,7 @@
 -- What the pass over applied entries counts.
 -- Assumes nothing.
 use mathlib.Core.Path.{_≡_}
-use mathlib.Core.Bool.{Bool, true, false, _&&_, _||_, not}
+use mathlib.Core.Bool.{true, false, _&&_, _||_, not}
 use mathlib.Core.List.{List}
 use Rattle.forms.specs.Batch.{Mutation}
 use Rattle.rules.specs.Box.{Box}

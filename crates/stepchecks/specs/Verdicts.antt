@@ -1,15 +1,14 @@
 -- What the checks of a one-step batch say of its entries, their arguments passed.
 -- Assumes nothing.
-use Prim.Native.Nat.{ℕ, _≤_, _<_}
+use Prim.Native.Nat.{_≤_, _<_}
 use mathlib.Core.Path.{_≡_}
-use mathlib.Core.Bool.{Bool, true, false}
+use mathlib.Core.Bool.{true, false}
 use mathlib.Core.List.{List}
 use lib.ListN.{length}
 use Rattle.forms.specs.Bytes.{Bytes}
 use Rattle.forms.specs.Batch.{Mutation, keyIn, mutation, ascend}
 use Rattle.forms.specs.Places.{ahead, Ahead}
 use Rattle.forms.specs.declared.batch.Cursor.{Cursor}
-use Rattle.rules.specs.declared.answers.Answer.{Answer}
 use Rattle.rules.specs.declared.answers.Answer.the-variants.{Accepted}
 use Rattle.rules.specs.Answers.{need}
 use Rattle.rules.specs.Box.{Box}

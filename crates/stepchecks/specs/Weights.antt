@@ -5,7 +5,7 @@ use mathlib.Core.Path.{_≡_}
 use mathlib.Core.Bool.{Bool}
 use mathlib.Core.List.{List}
 use lib.ListN.{length, getD}
-use Rattle.forms.specs.Bytes.{Bytes, bytesAt}
+use Rattle.forms.specs.Bytes.{Bytes}
 use Rattle.forms.specs.Key.{Key}
 use Rattle.forms.specs.Row.{Row}
 use Rattle.forms.specs.Readers.{when}

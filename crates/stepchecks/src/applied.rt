@@ -12,7 +12,7 @@ ghost use Rattle.lines.specs.declared.store.Store.{Store};
 ghost use Rattle.lines.specs.View.{boxOf};
 ghost use Rattle.lines.specs.Looks.{foundOf};
 ghost use Rattle.stepchecks.specs.Checks.{endingOf, PassAsks, Surveyed};
-ghost use Rattle.stepchecks.specs.Tallies.{appliedOf, withOne, noTally, Tallied};
+ghost use Rattle.stepchecks.specs.Tallies.{appliedOf, withOne, Tallied};
 use crate::terms::Terms;
 use forms::Cursor;
 use lines::Found;

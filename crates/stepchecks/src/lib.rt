@@ -1,5 +1,5 @@
-// "One-step batch": its checks. Each pass is one loop over the entries of a batch, and takes what the entries' keys met in the store, and not
-// the store: a function that takes the tables copies them.
+// "One-step batch": its checks. Each pass is one loop over the entries of a batch, and takes what the entries' keys met in the store, and
+// not the store: a function that indexes the tables copies them.
 pub mod applied;
 pub mod arguments;
 pub mod steps;

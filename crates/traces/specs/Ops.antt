@@ -11,7 +11,17 @@ use Rattle.traces.specs.declared.op.Op.{Op}
 abbrev pub knownOps : List ℕ
 knownOps =
     1 ∷  -- read
+    2 ∷  -- page
+    3 ∷  -- intent page
+    4 ∷  -- conflicting intents
     5 ∷  -- one intent at a point
+    6 ∷  -- prewrite
+    7 ∷  -- prewrite of a batch
+    8 ∷  -- commit
+    9 ∷  -- commit of a key batch
+    10 ∷  -- rollback
+    11 ∷  -- rollback of a key batch
+    12 ∷  -- one-step batch
     32 ∷  -- restore
     33 ∷  -- statistics
     34 ∷  -- high-water marks

@@ -41,7 +41,17 @@ pub fn known_op(byte: u8) -> bool
 {
     let known = [
         1u8, // read
+        2, // page
+        3, // intent page
+        4, // conflicting intents
         5, // one intent at a point
+        6, // prewrite
+        7, // prewrite of a batch
+        8, // commit
+        9, // commit of a key batch
+        10, // rollback
+        11, // rollback of a key batch
+        12, // one-step batch
         32, // restore
         33, // statistics
         34, // high-water marks
