@@ -3,5 +3,6 @@ pub mod OrderLaws
 pub mod FindLaws
 pub mod SeeLaws
 pub mod LookLaws
+pub mod WalkLaws
 pub mod FreshLaws
 pub mod MadeLaws

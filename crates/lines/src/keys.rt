@@ -5,12 +5,12 @@ ghost use mathlib.Core.List.{[]};
 ghost use Prim.Native.Nat.{ℕ};
 ghost use Rattle.lines.specs.Made.{Built};
 ghost use Rattle.lines.specs.Looks.{orFound, rollsBy, newerBy, moreHistory, historyOf, orLocked, either, seeLine, LookedAt, ofLines, LinesOf};
-use crate::places::slot_below;
-use crate::places::slot_has;
+use crate::places::slot_order;
 use crate::store::Intent;
 use crate::store::Line;
 use crate::store::Slot;
 use crate::store::Store;
+use forms::Order;
 use rules::Answer;
 use rules::Kind;
 use rules::Record;
@@ -218,34 +218,37 @@ pub fn see(seen: Looked, line: Line, start: u64, stamp: u64, next: usize) -> Loo
     }
 }
 
-// What stands at a key among the first n of these lines.
+// What stands at a key among the first n of these lines. One loop with one comparison a line: small enough for the compiler to set into each
+// of its callers, which so copies the lines once.
 fn look_in(lines: [Slot; 1024], n: usize, area: &[u8], key: &[u8], start: u64, stamp: u64) -> Looked
     requires { ⌜ LinesOf lines n (now area) ⌝ }
     ensures { λ r. ⌜ LookedAt (ofLines lines n) (now (area .entry)) (now (key .entry)) start stamp r ⌝ }
 {
-    let mut i: usize = 0;
-    while i < n {
-        let s = lines[i];
-        if !slot_below(s, area, key) {
-            break;
-        }
-        i += 1;
-    }
     let history = no_history();
     let mut seen = Looked {
-        first: i,
-        place: i,
+        first: 0,
+        place: 0,
         lock: Locked::Nobody,
         history: history,
     };
+    let mut i: usize = 0;
     while i < n {
         let s = lines[i];
-        if !slot_has(s, area, key) {
-            return seen;
-        }
+        let order = slot_order(s, area, key);
         i += 1;
-        let line = s.line;
-        seen = see(seen, line, start, stamp, i);
+        match order {
+            Order::Less => {
+                seen.first = i;
+                seen.place = i;
+            }
+            Order::Equal => {
+                let line = s.line;
+                seen = see(seen, line, start, stamp, i);
+            }
+            Order::Greater => {
+                return seen;
+            }
+        }
     }
     seen
 }

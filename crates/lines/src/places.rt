@@ -2,7 +2,7 @@
 ghost use mathlib.Core.Path.{_≡_};
 ghost use Prim.Native.Nat.{_+_, _≤_};
 ghost use lib.ListN.{length};
-ghost use Rattle.forms.specs.Bytes.{eqBytes, ltBytes};
+ghost use Rattle.forms.specs.Bytes.{cmp, eqBytes, ltBytes};
 ghost use Rattle.rules.specs.Box.{atPair, rowBefore};
 ghost use Rattle.laws.specs.Places.{linesBefore};
 ghost use Rattle.lines.specs.View.{keyOf, defaultOf, boxOf};
@@ -12,6 +12,16 @@ use crate::store::Held;
 use crate::store::Slot;
 use crate::store::Store;
 use forms::Order;
+
+// How the key of a slot stands to `key`.
+pub fn slot_order(s: Slot, area: &[u8], key: &[u8]) -> Order
+    requires { ⌜ s .at + s .len ≤ length (now area) ⌝ }
+    ensures { λ r. ⌜ r ≡ cmp (keyOf (now (area .entry)) s) (now (key .entry)) ⌝ }
+{
+    let at = s.at as usize;
+    let e = at + s.len as usize;
+    forms::compare(&area[at..e], key)
+}
 
 // Whether the key of a slot is below `key`.
 pub fn slot_below(s: Slot, area: &[u8], key: &[u8]) -> bool
