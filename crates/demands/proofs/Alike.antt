@@ -1,0 +1,171 @@
+-- "What the signatures must settle": for each public call, two outcomes that both keep its promise have the same number, holder, count, shown
+-- row, box and buffer; one law a call, and then all of them. docs/PROMISES.md lists what is left open, and why.
+-- Assumes nothing.
+use Prim.Native.Nat.{ℕ, _-_}
+use native.Mathlib.Nat.{sub-zero}
+use mathlib.Core.Path.{_≡_, refl, sym, ap, _∙_, subst}
+use mathlib.Core.List.{List}
+use lib.ListN.{drop, replicate}
+use Rattle.seqs.specs.Tables.{Table}
+use Rattle.forms.specs.Bytes.{Bytes}
+use Rattle.forms.specs.Key.{Key}
+use Rattle.forms.specs.Batch.{Mutation}
+use Rattle.rules.specs.declared.room.Load.{Load}
+use Rattle.rules.specs.Answers as answers
+use Rattle.rules.specs.Answers.{answerOf}
+use Rattle.rules.specs.Box.{fresh}
+use Rattle.rules.specs.Room.{loadOf, sumOf}
+use Rattle.rules.specs.Calls.{Done}
+use Rattle.rules.specs.Page.{Bounds, Limits}
+use Rattle.rules.specs.Prewrite.{Head}
+use Rattle.rules.specs.Commit.{Ending}
+use Rattle.rules.specs.Written.{Written}
+use Rattle.lines.specs.declared.store.Store.{Store}
+use Rattle.lines.specs.declared.store.Slot.{Slot}
+use Rattle.lines.specs.declared.store.Held.{Held}
+use Rattle.lines.specs.View.{boxOf, noSlot, noHeld}
+use Rattle.lines.specs.Made.{Made, FreshStore}
+use Rattle.calls.specs.declared.changed.Changed.{Changed}
+use Rattle.calls.specs.Settled.{Settled}
+use Rattle.reads.specs.declared.seen.Seen.{Seen}
+use Rattle.reads.specs.declared.seen.Pointed.{Pointed}
+use Rattle.reads.proofs.PartLaws.{one-reply, one-row, one-lock, one-primary}
+use Rattle.pages.specs.declared.calls.Paged.{Paged}
+use Rattle.pages.specs.Paged.{PagedAs}
+use Rattle.pages.proofs.PageLaws.{one-answer, one-count, one-buffer}
+use Rattle.demands.specs.Demands as demands
+use Rattle.demands.specs.Calls.{starting, reading, pointing, handingRow, handingPrimary, paging, pagingIntents, pagingConflicts, prewriting, prewritingBatch, committing, committingBatch, rollingBack, rollingBackBatch, oneStepping, restoring, counting, marking}
+use Rattle.demands.specs.Calls.{Lent, boxIn, Given, started, seen, pointed, handed, paged, changed, committed, stepped, counted, marked, rowIn, lockIn, chains, highest, answerIn, countIn, shownIn, partIn, after, Same, Once, OneOutcome, OneRefusal}
+use Rattle.demands.specs.Calls.{kept-fresh, kept-read, kept-intent, kept-row, kept-primary, kept-page, kept-intents, kept-conflicts, kept-prewrite, kept-prewrites, kept-commit, kept-commits, kept-rollback, kept-rollbacks, kept-step, kept-restore, kept-stats, kept-marks}
+use Rattle.demands.proofs.Carried.{settled-once}
+use Rattle.demands.proofs.Refusals.{refusals}
+
+-- the parts of `Same`; one answer has one number and one holder
+same : (w : Lent) (g q : Given) → answerIn w g ≡ answerIn w q → countIn g ≡ countIn q → shownIn w g ≡ shownIn w q → partIn g ≡ partIn q → boxIn (after w g) ≡ boxIn (after w q) → after w g .buffer ≡ after w q .buffer → Same w g q
+same w g q a n s p b o = record { answer = a; number = ap answers.number a; holder = ap answers.holder a; count = n; shown = s; part = p; box = b; buffer = o }
+
+-- ---- a fresh store: the very same value, with whatever area
+
+none-counts : {A : Type 0} {P : A → Type 0} {empty : A} {size n : ℕ} {l : List A} → Table P empty size n l → n ≡ 0 → l ≡ replicate size empty
+none-counts {empty = empty} {size = size} {l = l} t e = subst (λ (n : ℕ). drop n l ≡ replicate (size - n) empty) e (t .rest) ∙ ap (λ (n : ℕ). replicate n empty) (sub-zero size)
+
+module _ {s : Store} {area : Bytes} (f : FreshStore s area) where
+  load-fresh : s .load ≡ record { lines = 0; locks = 0; defaults = 0; bytes = 0 }
+  unfolding loadOf sumOf fresh
+  load-fresh = f .made .built .kept .load-is ∙ ap loadOf (f .shown)
+
+  pub store-fresh : s ≡ record { lines = replicate 1024 noSlot; defaults = replicate 1024 noHeld; load = record { lines = 0; locks = 0; defaults = 0; bytes = 0 }; top = 0 }
+  store-fresh =
+      let l = none-counts (f .made .built .lines) (ap (λ (x : Load). x .lines) load-fresh) in
+      let d = none-counts (f .made .built .defaults) (ap (λ (x : Load). x .defaults) load-fresh) in
+      ap (λ (x : List Slot). record { lines = x; defaults = s .defaults; load = s .load; top = s .top }) l
+      ∙ ap (λ (x : List Held). record { lines = replicate 1024 noSlot; defaults = x; load = s .load; top = s .top }) d
+      ∙ ap (λ (x : Load). record { lines = replicate 1024 noSlot; defaults = replicate 1024 noHeld; load = x; top = s .top }) load-fresh
+      ∙ ap (λ (x : ℕ). record { lines = replicate 1024 noSlot; defaults = replicate 1024 noHeld; load = record { lines = 0; locks = 0; defaults = 0; bytes = 0 }; top = x }) (f .top-is)
+
+-- ---- what several calls share
+
+module _ (w : Lent) where
+  page-same : {x : Written} {r q : Paged} {out out′ : Bytes} → PagedAs x r out → PagedAs x q out′ → Same w (paged r out) (paged q out′)
+  page-same {r = r} {q = q} {out = out} {out′ = out′} a b = same w (paged r out) (paged q out′) (one-answer a b) (one-count a b) refl refl refl (one-buffer a b)
+
+  changed-same : {r q : Changed} {area area′ : Bytes} → demands.Alike r area q area′ → Same w (changed r area) (changed q area′)
+  changed-same {r = r} {q = q} {area = area} {area′ = area′} a = same w (changed r area) (changed q area′) (a .answer) refl refl refl (a .box) refl
+
+  committed-same : {r q : Changed} → demands.Alike r (w .area) q (w .area) → Same w (committed r) (committed q)
+  committed-same {r = r} {q = q} a = same w (committed r) (committed q) (a .answer) refl refl refl (a .box) refl
+
+-- ---- one law a call
+
+module _ (w : Lent) where
+  pub fresh-once : Once w starting
+  fresh-once _ _ (kept-fresh s a) (kept-fresh t b) = same w (started s) (started t) refl refl refl refl (a .shown ∙ sym (b .shown)) refl
+
+  pub read-once : (k : Key) (m : ℕ) → Once w (reading k m)
+  read-once k m _ _ (kept-read _ _ s x a p) (kept-read _ _ t y b o) = same w (seen s x) (seen t y) (ap answerOf (one-reply a b)) refl (ap rowIn (one-reply a b)) (one-row a b p o) refl refl
+
+  pub intent-once : (k : Key) (m : ℕ) → Once w (pointing k m)
+  intent-once k m _ _ (kept-intent _ _ s x a p) (kept-intent _ _ t y b o) = same w (pointed s x) (pointed t y) (ap answerOf (one-lock a b)) refl (ap lockIn (one-lock a b)) (one-primary a b p o) refl refl
+
+  pub row-once : (s : Seen) → Once w (handingRow s)
+  row-once s _ _ (kept-row _ x a) (kept-row _ y b) = same w (handed x) (handed y) refl refl refl (a .is ∙ sym (b .is)) refl refl
+
+  pub primary-once : (p : Pointed) → Once w (handingPrimary p)
+  primary-once p _ _ (kept-primary _ x a) (kept-primary _ y b) = same w (handed x) (handed y) refl refl refl (a .is ∙ sym (b .is)) refl refl
+
+  pub page-once : (a : Bounds) (m : ℕ) (l : Limits) → Once w (paging a m l)
+  page-once a m l _ _ (kept-page _ _ _ r x p) (kept-page _ _ _ t y o) = page-same w p o
+
+  pub intents-once : (a : Bounds) (l : ℕ) → Once w (pagingIntents a l)
+  intents-once a l _ _ (kept-intents _ _ r x p) (kept-intents _ _ t y o) = page-same w p o
+
+  pub conflicts-once : (a : Bounds) (m : ℕ) (l : Limits) → Once w (pagingConflicts a m l)
+  conflicts-once a m l _ _ (kept-conflicts _ _ _ r x p) (kept-conflicts _ _ _ t y o) = page-same w p o
+
+  pub prewrite-once : (h : Head) (m : Mutation) → Once w (prewriting h m)
+  prewrite-once h m _ _ (kept-prewrite _ _ r x a) (kept-prewrite _ _ t y b) = changed-same w (settled-once a b)
+
+  pub prewrites-once : (h : Head) (s : Bytes) → Once w (prewritingBatch h s)
+  prewrites-once h s _ _ (kept-prewrites _ _ r x a) (kept-prewrites _ _ t y b) = changed-same w (settled-once a b)
+
+  pub commit-once : (h : Ending) (k : Key) → Once w (committing h k)
+  commit-once h k _ _ (kept-commit _ _ r a) (kept-commit _ _ t b) = committed-same w (settled-once a b)
+
+  pub commits-once : (h : Ending) (s : Bytes) → Once w (committingBatch h s)
+  commits-once h s _ _ (kept-commits _ _ r a) (kept-commits _ _ t b) = committed-same w (settled-once a b)
+
+  pub rollback-once : (txn start : ℕ) (k : Key) → Once w (rollingBack txn start k)
+  rollback-once txn start k _ _ (kept-rollback _ _ _ r x a) (kept-rollback _ _ _ t y b) = changed-same w (settled-once a b)
+
+  pub rollbacks-once : (txn start : ℕ) (s : Bytes) → Once w (rollingBackBatch txn start s)
+  rollbacks-once txn start s _ _ (kept-rollbacks _ _ _ r x a) (kept-rollbacks _ _ _ t y b) = changed-same w (settled-once a b)
+
+  pub step-once : (h : Ending) (s : Bytes) → Once w (oneStepping h s)
+  step-once h s _ _ (kept-step _ _ r x a) (kept-step _ _ t y b) =
+      let o = settled-once (a .settled) (b .settled) in
+      same w (stepped r x) (stepped t y) (o .answer) (a .count-is ∙ sym (b .count-is)) refl refl (o .box) refl
+
+  pub restore-once : (s : Bytes) → Once w (restoring s)
+  restore-once s _ _ (kept-restore _ r x a) (kept-restore _ t y b) = changed-same w (record { answer = a .answer-is ∙ sym (b .answer-is); box = a .shown ∙ sym (b .shown) })
+
+  pub stats-once : Once w counting
+  stats-once _ _ (kept-stats s a) (kept-stats t b) = same w (counted s) (counted t) refl refl (ap chains (a ∙ sym b)) refl refl refl
+
+  pub marks-once : Once w marking
+  marks-once _ _ (kept-marks s a) (kept-marks t b) = same w (marked s) (marked t) refl refl (ap highest (a ∙ sym b)) refl refl refl
+
+-- ---- all calls
+
+pub one-outcome : OneOutcome
+one-outcome w starting = fresh-once w
+one-outcome w (reading key m) = read-once w key m
+one-outcome w (pointing key m) = intent-once w key m
+one-outcome w (handingRow s) = row-once w s
+one-outcome w (handingPrimary p) = primary-once w p
+one-outcome w (paging a m n) = page-once w a m n
+one-outcome w (pagingIntents a n) = intents-once w a n
+one-outcome w (pagingConflicts a m n) = conflicts-once w a m n
+one-outcome w (prewriting h m) = prewrite-once w h m
+one-outcome w (prewritingBatch h s) = prewrites-once w h s
+one-outcome w (committing h key) = commit-once w h key
+one-outcome w (committingBatch h s) = commits-once w h s
+one-outcome w (rollingBack txn start key) = rollback-once w txn start key
+one-outcome w (rollingBackBatch txn start s) = rollbacks-once w txn start s
+one-outcome w (oneStepping h s) = step-once w h s
+one-outcome w (restoring s) = restore-once w s
+one-outcome w counting = stats-once w
+one-outcome w marking = marks-once w
+
+-- ---- what is open, and where
+
+-- refused, nothing is open: store, area and buffer are those that were lent
+pub one-refusal : OneRefusal
+one-refusal w c g q k l n = refusals w c g k n .left ∙ sym (refusals w c q l (λ e. n (one-outcome w c g q k l .answer ∙ e)) .left)
+
+-- "accepted and unchanged": of the seven changing calls nothing is open either, where the box is as it was
+pub still-once : {st : Store} {area : Bytes} {d : Done} {r q : Changed} {area₁ area₂ : Bytes} → Settled st area d r area₁ → Settled st area d q area₂ → d .box ≡ boxOf st area → (r .store ≡ q .store) × (area₁ ≡ area₂)
+still-once a b e = let u = a .unchanged e in let v = b .unchanged e in (u .store-is ∙ sym (v .store-is), u .area-is ∙ sym (v .area-is))
+
+-- and the tallies are never open: the box has them
+pub load-once : {s t : Store} {area area′ : Bytes} → Made s area → Made t area′ → boxOf s area ≡ boxOf t area′ → s .load ≡ t .load
+load-once m n e = m .built .kept .load-is ∙ ap loadOf e ∙ sym (n .built .kept .load-is)

@@ -1,0 +1,111 @@
+-- Demand 1, its second half: whatever the public call, a refusal leaves store, area and buffer as they were, counts nothing and shows nothing.
+-- Assumes nothing.
+use mathlib.Core.Path.{_≡_, refl, ap, _∙_}
+use mathlib.Core.Bool.{Bool, true, false}
+use lib.ListN.{length}
+use lib.Dec.{leb}
+use Rattle.forms.specs.Bytes.{Bytes}
+use Rattle.rules.specs.declared.answers.Answer.the-variants.{Accepted}
+use Rattle.rules.specs.Answers as answers
+use Rattle.rules.specs.Answers.{Reply}
+use Rattle.rules.specs.Page.{Page}
+use Rattle.rules.specs.Written.{Written, pageBytes, writeIf, written, keyRowBytes, keyLockBytes, scanPage, scanIntentPage, scanConflictingIntents}
+use Rattle.rules.specs.Page.{page, intentPage, conflictPage}
+use Rattle.laws.proofs.SettleLaws.{oneStep-refused}
+use Rattle.lines.specs.declared.store.Store.{Store}
+use Rattle.calls.specs.declared.changed.Changed.{Changed}
+use Rattle.calls.specs.Settled.{Untouched}
+use Rattle.reads.specs.declared.seen.Seen.{Seen}
+use Rattle.reads.specs.declared.seen.Seen.the-variants as reads
+use Rattle.reads.specs.declared.seen.Pointed.{Pointed}
+use Rattle.reads.specs.declared.seen.Pointed.the-variants as points
+use Rattle.reads.specs.Parts.{RowPart, PrimaryPart}
+use Rattle.pages.specs.declared.calls.Paged.{Paged}
+use Rattle.pages.specs.Paged.{PagedAs}
+use Rattle.demands.specs.Calls.{Lent, boxIn, seen, pointed, paged, changed, committed, nothing, answerIn, kept-fresh, kept-read, kept-intent, kept-row, kept-primary, kept-page, kept-intents, kept-conflicts, kept-prewrite, kept-prewrites, kept-commit, kept-commits, kept-rollback, kept-rollbacks, kept-step, kept-restore, kept-stats, kept-marks, Unchanged, Refusals}
+
+-- ---- a page
+
+-- the definition of a page that is not accepted: count 0, and the buffer as it was
+pub record Blank (buffer : Bytes) (x : Written) : Type 0 where
+  pub count : x .count ≡ 0
+  pub buffer-is : x .buffer ≡ buffer
+
+written-refused : {A : Type 0} (f : A → Bytes) (r : Reply (Page A)) (buffer : Bytes) → (written f r buffer .answer ≡ Accepted → ⊥) → Blank buffer (written f r buffer)
+unfolding written writeIf
+written-refused f answers.nothing buffer n = record { count = refl; buffer-is = refl }
+written-refused f (answers.refused v) buffer n = record { count = refl; buffer-is = refl }
+written-refused f (answers.shown p) buffer n = go (leb (length (pageBytes f p)) (length buffer)) n
+  where
+    go : (t : Bool) → (writeIf t (pageBytes f p) buffer .answer ≡ Accepted → ⊥) → Blank buffer (writeIf t (pageBytes f p) buffer)
+    go true n = absurd (n refl)
+    go false n = record { count = refl; buffer-is = refl }
+
+module _ (w : Lent) where
+  page-left : {A : Type 0} (f : A → Bytes) (reply : Reply (Page A)) (r : Paged) (out : Bytes) → PagedAs (written f reply (w .buffer)) r out → (r .answer ≡ Accepted → ⊥) → Unchanged w (paged r out)
+  page-left f reply r out p n =
+      let b = written-refused f reply (w .buffer) (λ e. n (p .answer-is ∙ e)) in
+      record {
+        left = ap (λ (x : Bytes). record { store = w .store; area = w .area; buffer = x }) (p .out-is ∙ b .buffer-is);
+        box = refl;
+        count = p .count-is ∙ b .count;
+        shown = refl;
+        part = refl;
+      }
+
+  -- ---- a changing call
+
+  both : (st : Store) (area : Bytes) → Untouched (w .store) (w .area) st area → record { store = st; area = area; buffer = w .buffer } ≡ w
+  both st area u =
+      ap (λ (s : Store). record { store = s; area = area; buffer = w .buffer }) (u .store-is)
+      ∙ ap (λ (a : Bytes). record { store = w .store; area = a; buffer = w .buffer }) (u .area-is)
+
+  changed-left : (r : Changed) (area : Bytes) → Untouched (w .store) (w .area) (r .store) area → Unchanged w (changed r area)
+  changed-left r area u = record { left = both (r .store) area u; box = ap boxIn (both (r .store) area u); count = refl; shown = refl; part = refl }
+
+  committed-left : (r : Changed) → Untouched (w .store) (w .area) (r .store) (w .area) → Unchanged w (committed r)
+  committed-left r u = record { left = both (r .store) (w .area) u; box = ap boxIn (both (r .store) (w .area) u); count = refl; shown = refl; part = refl }
+
+  -- ---- a read, and an intent at a point: the store is as it was by their types, and no row is shown
+
+  read-left : (s : Seen) (part : Bytes) → RowPart (w .area) s part → (answerIn w (seen s part) ≡ Accepted → ⊥) → Unchanged w (seen s part)
+  read-left reads.Nothing part p n = absurd (n refl)
+  read-left (reads.Row at len) part p n = absurd (n refl)
+  read-left (reads.Refused a) part p n = record { left = refl; box = refl; count = refl; shown = refl; part = p .is }
+
+  intent-left : (s : Pointed) (part : Bytes) → PrimaryPart (w .area) s part → (answerIn w (pointed s part) ≡ Accepted → ⊥) → Unchanged w (pointed s part)
+  intent-left points.Nothing part p n = absurd (n refl)
+  intent-left (points.Lock i) part p n = absurd (n refl)
+  intent-left (points.Refused a) part p n = record { left = refl; box = refl; count = refl; shown = refl; part = p .is }
+
+-- ---- the theorem
+
+-- `fresh`, `row_of`, `primary_of` and the figures refuse nothing
+pub refusals : Refusals
+unfolding scanPage scanIntentPage scanConflictingIntents
+refusals w _ _ (kept-fresh s p) n = absurd (n refl)
+refusals w _ _ (kept-read k m s part p q) n = read-left w s part q n
+refusals w _ _ (kept-intent k m s part p q) n = intent-left w s part q n
+refusals w _ _ (kept-row s part p) n = absurd (n refl)
+refusals w _ _ (kept-primary s part p) n = absurd (n refl)
+refusals w _ _ (kept-page a m l r out p) n = page-left w keyRowBytes (page a m l (boxIn w)) r out p n
+refusals w _ _ (kept-intents a l r out p) n = page-left w keyLockBytes (intentPage a l (boxIn w)) r out p n
+refusals w _ _ (kept-conflicts a m l r out p) n = page-left w keyLockBytes (conflictPage a m l (boxIn w)) r out p n
+refusals w _ _ (kept-prewrite h m r area p) n = changed-left w r area (p .refused n)
+refusals w _ _ (kept-prewrites h s r area p) n = changed-left w r area (p .refused n)
+refusals w _ _ (kept-commit h k r p) n = committed-left w r (p .refused n)
+refusals w _ _ (kept-commits h s r p) n = committed-left w r (p .refused n)
+refusals w _ _ (kept-rollback txn start k r area p) n = changed-left w r area (p .refused n)
+refusals w _ _ (kept-rollbacks txn start s r area p) n = changed-left w r area (p .refused n)
+refusals w _ _ (kept-step h s r area p) n =
+    let l = both w (r .store) area (p .settled .refused n) in
+    record {
+      left = l;
+      box = ap boxIn l;
+      count = p .count-is ∙ oneStep-refused h s (boxIn w) (λ e. n (p .settled .answer-is ∙ e));
+      shown = refl;
+      part = refl;
+    }
+refusals w _ _ (kept-restore s r area p) n = changed-left w r area (p .refused n)
+refusals w _ _ (kept-stats s p) n = absurd (n refl)
+refusals w _ _ (kept-marks m p) n = absurd (n refl)
