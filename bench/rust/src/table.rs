@@ -6,7 +6,7 @@ use std::path::Path;
 use crate::boxes::SIZES;
 use crate::cases::{Case, cases};
 use crate::clock::{copies, run};
-use crate::expected::{expected, program_agrees, rust_agrees};
+use crate::expected::{expected, program_agrees, rust_agrees, turns_agree};
 
 /// What to measure, and how.
 pub struct Plan {
@@ -17,8 +17,6 @@ pub struct Plan {
     /// This binary's own turns.
     pub rust: Vec<String>,
     pub runs: usize,
-    /// The ops that the driver has not yet.
-    pub undriven: Vec<u8>,
     /// The built bench/copies.c, where copies are to be counted and nothing timed.
     pub counter: Option<String>,
     /// Only cases whose name holds this.
@@ -92,8 +90,9 @@ fn one_row(plan: &Plan, case: &Case) -> Result<[Times; 2], String> {
     let expected = expected(case);
     rust_agrees(case, &expected)?;
     let (output, _) = once(plan, &plan.program, case, "check", 3, true)?;
-    let driven = !case.calls.iter().any(|call| plan.undriven.contains(&call.op()));
-    program_agrees(&expected, 3, &output, driven)?;
+    program_agrees(&expected, 3, &output)?;
+    let (output, _) = once(plan, &plan.rust, case, "check", 3, true)?;
+    turns_agree(&expected, 3, &output)?;
     let mut sides =
         [Side { words: &plan.program, name: "rattle", turns: 1 }, Side { words: &plan.rust, name: "rust", turns: 1 }];
     for side in &mut sides {

@@ -39,7 +39,8 @@ pub fn run(words: &[String], input: &str) -> Result<(Vec<u8>, u64), String> {
 pub fn copies(words: &[String], input: &str, counter: &str) -> Result<[u64; 2], String> {
     let output = output(words, input, &[("LD_PRELOAD", counter)])?;
     let said = String::from_utf8_lossy(&output.stderr).into_owned();
-    let numbers = said.lines().find_map(|line| line.strip_prefix("copies ")?.split_once(' '));
+    // the program is the last to say it: a script that starts it, and what that calls, have the counter too
+    let numbers = said.lines().rev().find_map(|line| line.strip_prefix("copies ")?.split_once(' '));
     let (copies, bytes) = numbers.ok_or("the copies were not counted")?;
     let number = |text: &str| text.parse().map_err(|_| format!("no number: {text}"));
     Ok([number(copies)?, number(bytes)?])

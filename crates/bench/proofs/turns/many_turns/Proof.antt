@@ -13,10 +13,10 @@ use Rattle.bench.proofs.turns.one_turn.Reads as one-turn-reads
 use Rattle.std.proofs.num.wrapping_add_u64.Reads as wrapping-add-u64-reads
 
 abbrev Inv-loop : tie.InvT-loop
-Inv-loop store area copy₀ trace turns made left₀ sum₀ copy left sum = Turning store area copy₀ copy
+Inv-loop store area copy₀ trace turns way left₀ sum₀ copy left sum = Turning store area copy₀ copy
 
 abbrev μ-loop : tie.MeasureT-loop
-μ-loop store area copy₀ trace turns made left₀ sum₀ copy left sum = left
+μ-loop store area copy₀ trace turns way left₀ sum₀ copy left sum = left
 
 loop-holds : tie.Need-loop-holds Inv-loop μ-loop
 loop-holds c = turning-start ((c .before .before .before .pre))

@@ -7,19 +7,19 @@ use paper::store::{Bytes, Store};
 use paper::trace::Call;
 use ragnor::shown::InMemoryMvcc;
 
-use crate::cases::Case;
+use crate::cases::{Case, made_for};
 
-/// The paper's answer to each call, each on the same box, and the sum of what they are worth.
+/// The paper's answers to what is made for each call, each from the same box, and the sum of what the last ones are worth.
 pub struct Expected {
-    pub answers: Vec<Answer>,
-    pub worth: u64,
+    answers: Vec<Vec<Answer>>,
+    worth: u64,
 }
 
 impl Expected {
-    /// The answers in the trace's form.
-    pub fn bytes(&self) -> Bytes {
+    /// The answers to the calls themselves, in the trace's form.
+    fn bytes(&self) -> Bytes {
         let mut bytes = Bytes::new();
-        self.answers.iter().for_each(|answer| answer.write(&mut bytes));
+        self.answers.iter().for_each(|answers| answers[0].write(&mut bytes));
         bytes
     }
 }
@@ -39,9 +39,9 @@ pub fn expected(case: &Case) -> Expected {
     let mut answers = Vec::new();
     for call in &case.calls {
         let mut store = restored.clone();
-        let answer = run_call(&mut store, call);
-        worth += worth_of(call, &answer, &store);
-        answers.push(answer);
+        let given: Vec<Answer> = made_for(case.way, call).iter().map(|call| run_call(&mut store, call)).collect();
+        worth += worth_of(call, &given[given.len() - 1], &store);
+        answers.push(given);
     }
     Expected { answers, worth }
 }
@@ -67,15 +67,24 @@ fn worth_of(call: &Call, answer: &Answer, store: &Store) -> u64 {
 
 /// Does mvcc.rs, as it stands, answer as the paper does?
 pub fn rust_agrees(case: &Case, expected: &Expected) -> Result<(), String> {
-    for (call, answer) in case.calls.iter().zip(&expected.answers) {
+    for (call, answers) in case.calls.iter().zip(&expected.answers) {
         let mut engine = InMemoryMvcc::default();
         run_rust(&mut engine, &Call::Restore { image: case.image.clone() });
-        match run_rust(&mut engine, call) {
-            Outcome::Accepted { count, payload } if answer.number == 0 && same(call, answer, count, &payload) => {}
-            other => return Err(format!("mvcc.rs answers {} where the paper answers {}", other.name(), answer.number)),
+        for (call, answer) in made_for(case.way, call).iter().zip(answers) {
+            match run_rust(&mut engine, call) {
+                Outcome::Accepted { count, payload } if answer.number == 0 && same(call, answer, count, &payload) => {}
+                other => return Err(format!("mvcc.rs: {} where the paper answers {}", other.name(), answer.number)),
+            }
         }
     }
     Ok(())
+}
+
+/// Were all calls of so many turns of mvcc.rs accepted, one after the other on a copy?
+pub fn turns_agree(expected: &Expected, turns: u64, output: &[u8]) -> Result<(), String> {
+    let calls: usize = expected.answers.iter().map(Vec::len).sum();
+    let all = output == (turns * calls as u64).to_be_bytes();
+    if all { Ok(()) } else { Err("mvcc.rs refuses a call in its turns".to_string()) }
 }
 
 /// A page's payload is the whole lent buffer; mvcc.rs gives the page alone.
@@ -84,15 +93,14 @@ fn same(call: &Call, answer: &Answer, count: u64, payload: &Bytes) -> bool {
     count == answer.count && payload == shown
 }
 
-/// Does the program's output hold the paper's answers, and the sum that so many turns of them are worth? The answers are
-/// written by the driver; of a call that it has not yet, the sum alone is checked.
-pub fn program_agrees(expected: &Expected, turns: u64, output: &[u8], driven: bool) -> Result<(), String> {
+/// Does the program's output hold the paper's answers, and the sum that so many turns of them are worth?
+pub fn program_agrees(expected: &Expected, turns: u64, output: &[u8]) -> Result<(), String> {
     let (answers, sum) = output.split_last_chunk::<8>().ok_or("the program wrote no sum")?;
     let wanted = expected.worth.wrapping_mul(turns);
     if u64::from_be_bytes(*sum) != wanted {
         return Err(format!("the turns are worth {}, not {wanted}", u64::from_be_bytes(*sum)));
     }
-    if driven && answers != expected.bytes() {
+    if answers != expected.bytes() {
         return Err("the program's answers are not the paper's".to_string());
     }
     Ok(())

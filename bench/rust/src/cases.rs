@@ -16,22 +16,38 @@ const PAGE: u64 = 50;
 const BUFFER: u16 = 65_535;
 const BYTES: u64 = 1_000_000;
 
+/// How a turn makes its calls: each alone, or each prewrite with its commit after it.
+pub const ALONE: u8 = 1;
+pub const PAIRS: u8 = 2;
+
 pub struct Case {
     pub name: &'static str,
     pub size: Size,
     pub image: Bytes,
     pub calls: Vec<Call>,
+    pub way: u8,
 }
 
 impl Case {
-    /// The input of the program: turns, whether the calls are made, the image, and the trace.
+    /// The input of the program: turns, how the calls are made (0: not at all), the image, and the trace.
     pub fn input(&self, turns: u64, made: bool) -> Bytes {
         let mut input = turns.to_be_bytes().to_vec();
-        input.push(u8::from(made));
+        input.push(if made { self.way } else { 0 });
         input.extend_from_slice(&(self.image.len() as u32).to_be_bytes());
         input.extend_from_slice(&self.image);
         input.extend_from_slice(&write_trace(&self.calls));
         input
+    }
+}
+
+/// What is made for a call, each on what the one before left: the call alone, or a prewrite and its commit.
+pub fn made_for(way: u8, call: &Call) -> Vec<Call> {
+    match call {
+        Call::Prewrite { transaction, start, key, .. } if way == PAIRS => {
+            let commit = Call::Commit { transaction: *transaction, start: *start, commit: start + 1, key: key.clone() };
+            vec![call.clone(), commit]
+        }
+        _ => vec![call.clone()],
     }
 }
 
@@ -41,25 +57,21 @@ pub fn cases(size: Size) -> Vec<Case> {
     let plain = image(size, &[]);
     let locked = image(size, &places);
     let at = |call: &dyn Fn(usize) -> Call| places.iter().map(|&place| call(place)).collect::<Vec<_>>();
-    let case = |name, image: &Bytes, calls| Case { name, size, image: image.clone(), calls };
-    let mut cases = vec![
+    let starts = (0..4).map(|part| part * size.keys.saturating_sub(PAGE as usize) / 4);
+    let case = |name, image: &Bytes, calls| Case { name, size, image: image.clone(), calls, way: ALONE };
+    vec![
         case("read, a row", &plain, at(&|place| Call::Read { moment: MOMENT, key: key(place) })),
         case("read, missing key", &plain, at(&|place| Call::Read { moment: MOMENT, key: missing(place) })),
-    ];
-    if size.keys > PAGE as usize {
-        let starts = (0..4).map(|part| part * (size.keys - PAGE as usize) / 4);
-        cases.push(case("page of 50 rows", &plain, starts.map(|start| page(PAGE, Some(key(start)))).collect()));
-    }
-    cases.extend([
+        case("page of 50 rows", &plain, starts.map(|start| page(PAGE, Some(key(start)))).collect()),
         case("page, everything", &plain, vec![page(u64::from(u32::MAX), None)]),
         case("prewrite", &plain, at(&|place| prewrite(place, &places))),
         case("commit", &locked, at(&|place| commit(place))),
+        Case { way: PAIRS, ..case("prewrite and commit", &plain, at(&|place| prewrite(place, &places))) },
         case("rollback", &locked, at(&|place| rollback(place))),
         case("one-step, 32 keys", &plain, (0..BATCHES).map(|number| one_step(size, 2 * number)).collect()),
         case("restore", &plain, vec![Call::Restore { image: plain.clone() }]),
         case("statistics", &plain, vec![Call::Statistics]),
-    ]);
-    cases
+    ]
 }
 
 fn page(row_limit: u64, start: Option<Bytes>) -> Call {

@@ -12,6 +12,8 @@ use ragnordb_common::ids::{TableId, Timestamp, TxnId};
 use ragnordb_common::proto::snapshot::{DefaultValueEntry, LockEntry, WriteEntry};
 use ragnordb_common::proto::snapshot::{LockRecord, Timestamp as Stamp, WriteRecord};
 
+use crate::cases::made_for;
+
 type Entries = (TableId, Vec<DefaultValueEntry>, Vec<LockEntry>, Vec<WriteEntry>);
 
 /// A call with mvcc.rs's own arguments.
@@ -144,19 +146,20 @@ fn entries(image: &[u8]) -> Option<Entries> {
 /// on one copy of the store, one after the other, since a copy takes far longer than a call.
 pub fn turns(input: &[u8]) -> Option<u64> {
     let (turns, rest) = input.split_first_chunk::<8>()?;
-    let (made, rest) = rest.split_first()?;
+    let (way, rest) = rest.split_first()?;
     let (length, rest) = rest.split_first_chunk::<4>()?;
     let (image, trace) = rest.split_at_checked(u32::from_be_bytes(*length) as usize)?;
     let (table, defaults, locks, writes) = entries(image)?;
     let mut store = InMemoryMvcc::restore_from_snapshot_entries(table, defaults, locks, writes).ok()?;
-    let calls = read_trace(trace)?.iter().map(Ready::from_call).collect::<Option<Vec<_>>>()?;
+    let calls = read_trace(trace)?.iter().flat_map(|call| made_for(*way, call)).collect::<Vec<_>>();
+    let calls = calls.iter().map(Ready::from_call).collect::<Option<Vec<_>>>()?;
     let changes = calls.iter().any(Ready::changes);
     let mut accepted = 0;
     for turn in 0..u64::from_be_bytes(*turns) {
         let mut copy = changes.then(|| store.clone());
         let on = copy.as_mut().unwrap_or(&mut store);
         for call in &calls {
-            accepted += if *made == 1 { call.run(on, turn) } else { call.beside() };
+            accepted += if *way == 0 { call.beside() } else { call.run(on, turn) };
         }
         black_box(&copy);
     }

@@ -1,5 +1,5 @@
 //! `bench turns < input`: mvcc.rs makes the turns of an input, as crates/bench does.
-//! `bench table FOLDER [--runs N] [--only WORD] [--aim MILLISECONDS] [--undriven OPS] --program WORDS..`: checks the
+//! `bench table FOLDER [--runs N] [--only WORD] [--aim MILLISECONDS] --program WORDS..`: checks the
 //! answers of both sides, times them in turn, and prints the table.
 //! With `--counter FILE`, the built bench/copies.c, copies are counted and nothing is timed.
 //! `bench sample FOLDER`: writes stdin and stdout of the gate's own run of crates/bench.
@@ -20,7 +20,7 @@ fn main() -> ExitCode {
         ["turns"] => turns(),
         ["table", folder, ref rest @ ..] => plan(folder, rest).and_then(|plan| table::table(&plan)),
         ["sample", folder] => sample(folder),
-        _ => Err("usage: bench turns, bench sample FOLDER, or bench table FOLDER [--runs N] [--only WORD] [--aim MS] [--undriven OPS] --program WORDS..".into()),
+        _ => Err("usage: bench turns, bench sample FOLDER, or bench table FOLDER [--runs N] [--only WORD] [--aim MS] --program WORDS..".into()),
     };
     match done {
         Ok(()) => ExitCode::SUCCESS,
@@ -52,7 +52,6 @@ fn plan(folder: &str, words: &[&str]) -> Result<table::Plan, String> {
         program: Vec::new(),
         rust: vec![own, "turns".to_string()],
         runs: 5,
-        undriven: Vec::new(),
         counter: None,
         only: String::new(),
         aim: 300_000_000,
@@ -62,10 +61,6 @@ fn plan(folder: &str, words: &[&str]) -> Result<table::Plan, String> {
         let mut next = || words.next().ok_or(format!("{word} wants a word after it"));
         match *word {
             "--runs" => plan.runs = next()?.parse().map_err(|_| "--runs wants a number")?,
-            "--undriven" => {
-                let ops: Result<_, _> = next()?.split(',').map(str::parse).collect();
-                plan.undriven = ops.map_err(|_| "--undriven wants ops such as 2,12")?;
-            }
             "--counter" => plan.counter = Some(next()?.to_string()),
             "--only" => plan.only = next()?.to_string(),
             "--aim" => plan.aim = next()?.parse::<u64>().map_err(|_| "--aim wants a number")? * 1_000_000,
@@ -73,5 +68,9 @@ fn plan(folder: &str, words: &[&str]) -> Result<table::Plan, String> {
             other => return Err(format!("no word {other}")),
         }
     }
-    if plan.program.is_empty() { Err("--program is wanted".to_string()) } else { Ok(plan) }
+    match plan {
+        _ if plan.runs < 5 => Err("--runs wants five or more".to_string()),
+        _ if plan.program.is_empty() => Err("--program is wanted".to_string()),
+        plan => Ok(plan),
+    }
 }

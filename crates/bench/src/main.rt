@@ -1,5 +1,5 @@
-// The benchmark program; bench/run times it. Standard input holds 8 bytes, the number of turns; a byte, 1 where the turns make their
-// calls and 0 where they leave them out; a 4-byte length and an image of that length; and a trace (docs/TRACE.md), to the end. The image is
+// The benchmark program; bench/run times it. Standard input holds 8 bytes, the number of turns; a byte, how a turn makes its calls
+// (turns.rt); a 4-byte length and an image of that length; and a trace (docs/TRACE.md), to the end. The image is
 // restored. Then every call of the trace is run once on that box, and its answer written in the trace's form; then so many turns are made,
 // and the sum of what their answers are worth is written, 8 bytes. An input that is not of this form gives nothing.
 ghost use mathlib.Core.Path.{_≡_};
@@ -11,6 +11,7 @@ mod committing;
 mod copies;
 mod counting;
 mod paging;
+mod pairing;
 mod prewriting;
 mod reading;
 mod restoring;
@@ -30,7 +31,7 @@ use turns::many_turns;
 struct Head {
     ok: bool,
     turns: u64,
-    made: bool,
+    way: u8,
     at: usize,
     len: usize,
 }
@@ -41,7 +42,7 @@ fn no_head() -> Head
     Head {
         ok: false,
         turns: 0,
-        made: false,
+        way: 0,
         at: 0,
         len: 0,
     }
@@ -62,7 +63,7 @@ fn head_of(input: &[u8]) -> Head
     Head {
         ok: true,
         turns: turns.value,
-        made: input[8] == 1,
+        way: input[8],
         at: 13,
         len: n,
     }
@@ -105,7 +106,7 @@ fn measure(input: &[u8], area: &mut [u8], copy: &mut [u8], out: &mut [u8])
     let done = restores::restore(store, area, &input[b..e]);
     let kept = done.store;
     answers(kept, area, copy, &input[e..], out);
-    let sum = many_turns(kept, area, copy, &input[e..], head.turns, head.made);
+    let sum = many_turns(kept, area, copy, &input[e..], head.turns, head.way);
     let mut bytes = [0u8; 8];
     forms::put_number(&mut bytes, Width::Eight, sum);
     io::write_all(STDOUT_FILENO, &bytes);

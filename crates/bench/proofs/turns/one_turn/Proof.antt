@@ -15,10 +15,10 @@ use Rattle.traces.proofs.call_at.Reads as call-at-reads
 use Rattle.traces.proofs.first_call.Reads as first-call-reads
 
 abbrev Inv-loop : tie.InvT-loop
-Inv-loop store area copy₀ trace turn made at₀ left₀ sum₀ copy at left sum = Turning store area copy₀ copy
+Inv-loop store area copy₀ trace turn way at₀ left₀ sum₀ copy at left sum = Turning store area copy₀ copy
 
 abbrev μ-loop : tie.MeasureT-loop
-μ-loop store area copy₀ trace turn made at₀ left₀ sum₀ copy at left sum = left
+μ-loop store area copy₀ trace turn way at₀ left₀ sum₀ copy at left sum = left
 
 first-call-requires : tie.Need-first-call-requires Inv-loop μ-loop
 first-call-requires c κs = search needs
