@@ -7,3 +7,4 @@ pub mod ApplyLaws
 pub mod PassLaws
 pub mod PastLaws
 pub mod BatchLaws
+pub mod SingleLaws

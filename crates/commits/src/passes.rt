@@ -55,7 +55,7 @@ pub fn check_all(
 }
 
 // The record stands on the key of the lock.
-fn ended_slot(lock: Slot, w: Record) -> Slot
+pub fn ended_slot(lock: Slot, w: Record) -> Slot
     ensures { λ r. ⌜ r ≡ record { at = lock .at; len = lock .len; used = true; line = Finished w } ⌝ }
 {
     Slot {
@@ -67,7 +67,7 @@ fn ended_slot(lock: Slot, w: Record) -> Slot
 }
 
 // A lock less, and the bytes of its primary.
-fn ended_load(old: Load, lock: Slot) -> Load
+pub fn ended_load(old: Load, lock: Slot) -> Load
     requires { ⌜ (1 ≤ old .locks) × (primarySize (lock .line) ≤ old .bytes) ⌝ }
     ensures { λ r. ⌜ r ≡ lockLess old (primarySize (lock .line)) ⌝ }
 {
