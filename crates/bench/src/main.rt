@@ -1,31 +1,18 @@
 // The benchmark program; bench/run times it. Standard input holds 8 bytes, the number of turns; a byte, how a turn makes its calls
-// (turns.rt); a 4-byte length and an image of that length; and a trace (docs/TRACE.md), to the end. The image is
+// (crates/timing/src/turns.rt); a 4-byte length and an image of that length; and a trace (docs/TRACE.md), to the end. The image is
 // restored. Then every call of the trace is run once on that box, and its answer written in the trace's form; then so many turns are made,
 // and the sum of what their answers are worth is written, 8 bytes. An input that is not of this form gives nothing.
 ghost use mathlib.Core.Path.{_≡_};
 ghost use lib.ListN.{length};
 ghost use Prim.Native.Nat.{_+_, _≤_};
-ghost use Rattle.bench.specs.Asks.{TurnAsks};
+ghost use Rattle.timing.specs.Asks.{TurnAsks};
 
-mod committing;
-mod copies;
-mod counting;
-mod paging;
-mod pairing;
-mod prewriting;
-mod reading;
-mod restoring;
-mod rolling;
-mod stepping;
-mod turns;
-mod worths;
-
-use copies::copy_area;
 use forms::Width;
 use libc::STDIN_FILENO;
 use libc::STDOUT_FILENO;
 use lines::Store;
-use turns::many_turns;
+use timing::copy_area;
+use timing::many_turns;
 
 // What stands before the trace: where the image lies.
 struct Head {

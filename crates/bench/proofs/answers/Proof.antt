@@ -1,5 +1,5 @@
 -- `bench::answers` meets its contract: each call is run on a copy of the same box. Assumes nothing.
-use Rattle.bench.proofs.TurnLaws.{Turning, turning-start, turning-more, made-copy}
+use Rattle.timing.proofs.TurnLaws.{Turning, turning-start, turning-more, made-copy}
 use Rattle.driving.proofs.RunLaws.{ran-within}
 use lib.Seq.{length-take-le}
 use borrow.Author.Needs.{needs}
@@ -11,7 +11,7 @@ use Rattle.bench.proofs.answers.Statement.{statement}
 use Rattle.bench.proofs.answers.Tie as tie
 use Rattle.bench.proofs.answers.Reads as reads
 use Rattle.bench.proofs.answers.Lts as lts
-use Rattle.bench.proofs.copies.copy_area.Reads as copy-area-reads
+use Rattle.timing.proofs.copy_area.Reads as copy-area-reads
 use Rattle.driving.proofs.run_call.Reads as run-call-reads
 use Rattle.io.proofs.write_all.Reads as write-all-reads
 use Rattle.traces.proofs.call_at.Reads as call-at-reads

@@ -11,7 +11,7 @@ use Rattle.bench.proofs.measure.Reads as reads
 use Rattle.bench.proofs.measure.Lts as lts
 use Rattle.bench.proofs.answers.Reads as answers-reads
 use Rattle.bench.proofs.head_of.Reads as head-of-reads
-use Rattle.bench.proofs.turns.many_turns.Reads as many-turns-reads
+use Rattle.timing.proofs.many_turns.Reads as many-turns-reads
 use Rattle.forms.proofs.put_number.Reads as put-number-reads
 use Rattle.io.proofs.write_all.Reads as write-all-reads
 use Rattle.lines.proofs.fresh.Reads as fresh-reads

@@ -1,6 +1,6 @@
 // The turns: each makes every call of the trace once, each call on the same box. Their way is a number: 0 leaves the calls out (what such a
 // turn takes, the walk over the trace and the copies of the area, is to be subtracted), 1 makes them, 2 makes each as a prewrite and its commit.
-ghost use Rattle.bench.specs.Asks.{Asks, TurnAsks};
+ghost use Rattle.timing.specs.Asks.{Asks, TurnAsks};
 use crate::committing::commit_once;
 use crate::copies::copy_area;
 use crate::counting::stats_once;

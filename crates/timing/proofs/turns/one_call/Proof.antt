@@ -1,19 +1,19 @@
 -- `bench::turns::one_call` meets its contract: what is made on the copy is made with the same store. Assumes nothing.
-use Rattle.bench.proofs.TurnLaws.{made-copy}
+use Rattle.timing.proofs.TurnLaws.{made-copy}
 use borrow.Author.Needs.{needs}
 use native.Mathlib.Omega.{arith}
 use Prim.Native.Nat.{ℕ, suc, _+_, _-_, _*_, _<_, _≤_}
 use mathlib.Core.Path.{_≡_, refl, sym, ap, _∙_}
 use lib.ListN.{length, getD, take, drop, set, length-set}
 use borrow.Author.Needs.{needs}
-use Rattle.bench.proofs.turns.one_call.Statement.{statement}
-use Rattle.bench.proofs.turns.one_call.Tie as tie
-use Rattle.bench.proofs.turns.one_call.Reads as reads
-use Rattle.bench.proofs.turns.one_call.Lts as lts
-use Rattle.bench.proofs.copies.copy_area.Reads as copy-area-reads
-use Rattle.bench.proofs.turns.change_call.Reads as change-call-reads
-use Rattle.bench.proofs.turns.on_copy.Reads as on-copy-reads
-use Rattle.bench.proofs.turns.show_call.Reads as show-call-reads
+use Rattle.timing.proofs.turns.one_call.Statement.{statement}
+use Rattle.timing.proofs.turns.one_call.Tie as tie
+use Rattle.timing.proofs.turns.one_call.Reads as reads
+use Rattle.timing.proofs.turns.one_call.Lts as lts
+use Rattle.timing.proofs.copies.copy_area.Reads as copy-area-reads
+use Rattle.timing.proofs.turns.change_call.Reads as change-call-reads
+use Rattle.timing.proofs.turns.on_copy.Reads as on-copy-reads
+use Rattle.timing.proofs.turns.show_call.Reads as show-call-reads
 use Rattle.traces.proofs.args_of.Reads as args-of-reads
 
 args-of-requires : tie.Need-args-of-requires

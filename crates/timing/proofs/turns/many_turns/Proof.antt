@@ -1,15 +1,15 @@
 -- `bench::turns::many_turns` meets its contract, as one turn does. Assumes nothing.
-use Rattle.bench.proofs.TurnLaws.{Turning, turning-start, turning-more}
+use Rattle.timing.proofs.TurnLaws.{Turning, turning-start, turning-more}
 use borrow.Author.Needs.{needs}
 use native.Mathlib.Omega.{arith}
 use Prim.Native.Nat.{ℕ, suc, _+_, _-_, _*_, _<_, _≤_}
 use mathlib.Core.Path.{_≡_, refl, sym, ap, _∙_}
 use lib.ListN.{length, getD, take, drop, set, length-set}
-use Rattle.bench.proofs.turns.many_turns.Statement.{statement}
-use Rattle.bench.proofs.turns.many_turns.Tie as tie
-use Rattle.bench.proofs.turns.many_turns.Reads as reads
-use Rattle.bench.proofs.turns.many_turns.Lts as lts
-use Rattle.bench.proofs.turns.one_turn.Reads as one-turn-reads
+use Rattle.timing.proofs.turns.many_turns.Statement.{statement}
+use Rattle.timing.proofs.turns.many_turns.Tie as tie
+use Rattle.timing.proofs.turns.many_turns.Reads as reads
+use Rattle.timing.proofs.turns.many_turns.Lts as lts
+use Rattle.timing.proofs.turns.one_turn.Reads as one-turn-reads
 use Rattle.std.proofs.num.wrapping_add_u64.Reads as wrapping-add-u64-reads
 
 abbrev Inv-loop : tie.InvT-loop

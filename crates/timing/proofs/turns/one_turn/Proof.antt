@@ -1,15 +1,15 @@
 -- `bench::turns::one_turn` meets its contract: store and area stay, the copy stays as long. Assumes nothing.
-use Rattle.bench.proofs.TurnLaws.{Turning, turning-start, turning-more}
+use Rattle.timing.proofs.TurnLaws.{Turning, turning-start, turning-more}
 use borrow.Author.Needs.{needs}
 use native.Mathlib.Omega.{arith}
 use Prim.Native.Nat.{ℕ, suc, _+_, _-_, _*_, _<_, _≤_}
 use mathlib.Core.Path.{_≡_, refl, sym, ap, _∙_}
 use lib.ListN.{length, getD, take, drop, set, length-set}
-use Rattle.bench.proofs.turns.one_turn.Statement.{statement}
-use Rattle.bench.proofs.turns.one_turn.Tie as tie
-use Rattle.bench.proofs.turns.one_turn.Reads as reads
-use Rattle.bench.proofs.turns.one_turn.Lts as lts
-use Rattle.bench.proofs.turns.one_call.Reads as one-call-reads
+use Rattle.timing.proofs.turns.one_turn.Statement.{statement}
+use Rattle.timing.proofs.turns.one_turn.Tie as tie
+use Rattle.timing.proofs.turns.one_turn.Reads as reads
+use Rattle.timing.proofs.turns.one_turn.Lts as lts
+use Rattle.timing.proofs.turns.one_call.Reads as one-call-reads
 use Rattle.std.proofs.num.wrapping_add_u64.Reads as wrapping-add-u64-reads
 use Rattle.traces.proofs.call_at.Reads as call-at-reads
 use Rattle.traces.proofs.first_call.Reads as first-call-reads

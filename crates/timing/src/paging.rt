@@ -1,5 +1,5 @@
 // Op 2, page.
-ghost use Rattle.bench.specs.Asks.{Asks};
+ghost use Rattle.timing.specs.Asks.{Asks};
 use crate::worths::of_answer;
 use lines::Store;
 use std::num::wrapping_add_u64;

@@ -9,7 +9,7 @@ use Rattle.forms.specs.Bytes.{Bytes}
 use Rattle.areas.specs.Areas.{Appended}
 use Rattle.lines.specs.declared.store.Store.{Store}
 use Rattle.lines.specs.Made.{Made}
-use Rattle.bench.specs.Asks.{Asks, TurnAsks}
+use Rattle.timing.specs.Asks.{Asks, TurnAsks}
 
 -- bytes that come from the front on and are as many as the area's are all of it
 pub copied : {area src area′ : Bytes} → Appended area 0 src area′ → length src ≡ length area → area′ ≡ src

@@ -4,11 +4,11 @@ use native.Mathlib.Omega.{arith}
 use Prim.Native.Nat.{ℕ, suc, _+_, _-_, _*_, _<_, _≤_}
 use mathlib.Core.Path.{_≡_, refl, sym, ap, _∙_}
 use lib.ListN.{length, getD, take, drop, set, length-set}
-use Rattle.bench.proofs.pairing.pair_once.Statement.{statement}
-use Rattle.bench.proofs.pairing.pair_once.Tie as tie
-use Rattle.bench.proofs.pairing.pair_once.Reads as reads
-use Rattle.bench.proofs.pairing.pair_once.Lts as lts
-use Rattle.bench.proofs.worths.of_changed.Reads as of-changed-reads
+use Rattle.timing.proofs.pairing.pair_once.Statement.{statement}
+use Rattle.timing.proofs.pairing.pair_once.Tie as tie
+use Rattle.timing.proofs.pairing.pair_once.Reads as reads
+use Rattle.timing.proofs.pairing.pair_once.Lts as lts
+use Rattle.timing.proofs.worths.of_changed.Reads as of-changed-reads
 use Rattle.commits.proofs.commit_intent.Reads as commit-intent-reads
 use Rattle.prewrites.proofs.prewrite.Reads as prewrite-reads
 use Rattle.std.proofs.num.wrapping_add_u64.Reads as wrapping-add-u64-reads

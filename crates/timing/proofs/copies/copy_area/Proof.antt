@@ -1,15 +1,15 @@
 -- `bench::copies::copy_area` meets its contract: all bytes of the area come from the other. Assumes nothing.
-use Rattle.bench.proofs.TurnLaws.{copied}
+use Rattle.timing.proofs.TurnLaws.{copied}
 use borrow.Author.Needs.{needs}
 use native.Mathlib.Omega.{arith}
 use Prim.Native.Nat.{ℕ, suc, _+_, _-_, _*_, _<_, _≤_}
 use mathlib.Core.Path.{_≡_, refl, sym, ap, _∙_}
 use lib.ListN.{length, getD, take, drop, set, length-set}
 use borrow.Author.Needs.{needs}
-use Rattle.bench.proofs.copies.copy_area.Statement.{statement}
-use Rattle.bench.proofs.copies.copy_area.Tie as tie
-use Rattle.bench.proofs.copies.copy_area.Reads as reads
-use Rattle.bench.proofs.copies.copy_area.Lts as lts
+use Rattle.timing.proofs.copies.copy_area.Statement.{statement}
+use Rattle.timing.proofs.copies.copy_area.Tie as tie
+use Rattle.timing.proofs.copies.copy_area.Reads as reads
+use Rattle.timing.proofs.copies.copy_area.Lts as lts
 use Rattle.areas.proofs.append.Reads as append-reads
 
 append-requires : tie.Need-append-requires
