@@ -1,0 +1,38 @@
+-- `session::withdrawn_label` meets its contract: each step hands a made store to the next. Assumes nothing.
+use borrow.Author.Needs.{needs}
+use native.Mathlib.Omega.{arith}
+use Rattle.session.proofs.withdrawn_label.Statement.{statement}
+use Rattle.session.proofs.withdrawn_label.Tie as tie
+
+prewrites-requires : tie.Need-prewrites-requires
+prewrites-requires c κs = search needs
+
+asks-key-requires : tie.Need-asks-key-requires
+asks-key-requires c κs = search needs
+
+withdraws-requires : tie.Need-withdraws-requires
+withdraws-requires c κs = search needs
+
+asks-key-requires-2 : tie.Need-asks-key-requires-2
+asks-key-requires-2 c κs = search needs
+
+commits-requires : tie.Need-commits-requires
+commits-requires c κs = search needs
+
+same-length : tie.Need-same-length
+same-length c = omega (arith, (c .before .before .before .before .before .before .before .before .withdraws) .ensures .built .area-long, (c .before .before .before .before .before .before .before .before .before .before .before .before .before .before .before .before .before .before .before .before .before .before .before .before .pre) .built .area-long)
+
+returns : tie.Need-returns
+returns c = search needs
+
+pub withdrawn-label-spec : {M : Type 1} → statement M
+withdrawn-label-spec =
+    tie.close
+    (tie.spec
+    prewrites-requires
+    asks-key-requires
+    withdraws-requires
+    asks-key-requires-2
+    commits-requires
+    same-length
+    returns)

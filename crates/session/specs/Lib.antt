@@ -1,0 +1,3 @@
+-- Where a row's label lies.
+-- Assumes nothing.
+pub mod Labels

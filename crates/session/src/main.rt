@@ -1,0 +1,60 @@
+// A worked session in one hall: a curator prewrites two labels, a visitor reads and is told who holds the key, the commit, a page, and an edit
+// that is withdrawn. Each line says who asks for what, and then what the box answered. The store and its area live here; every step hands on a
+// made store, whatever was answered.
+mod curators;
+mod telling;
+mod visitors;
+
+ghost use Rattle.lines.specs.Made.{Made};
+use curators::commits;
+use curators::prewrites;
+use curators::withdraws;
+use mvcc::Store;
+use visitors::asks_figures;
+use visitors::asks_key;
+use visitors::asks_page;
+
+// Two labels come. Keys, rows and batches are document 01's: a key is table 1 and a name; the jaw's row has one integer, its layer, the rib's
+// has none, and each has one text.
+fn two_labels(store: Store, area: &mut [u8], jaw: &[u8]) -> Store
+    requires { ⌜ Made store (now area) ⌝ }
+    ensures { λ r. ⌜ Made r (now (area .exit)) ⌝ }
+{
+    let labels =
+        b"\x00\x02\x07\x00\x00\x00\x01jaw\x01\x1f\x01\x00\x00\x00\x00\x00\x00\x00\x02\x01\x14lower jaw, left half\x07\x00\x00\x00\x01rib\x01\x13\x00\x01\x10third rib, right";
+    let keys = b"\x00\x02\x07\x00\x00\x00\x01jaw\x07\x00\x00\x00\x01rib";
+    let names = b"the jaw and the rib";
+    let written = prewrites(store, area, 7, 10, jaw, labels, names);
+    asks_key(written, area, jaw, 12);
+    asks_key(written, area, jaw, 9);
+    let committed = commits(written, area, 7, 10, 15, keys, names);
+    asks_key(committed, area, jaw, 12);
+    asks_key(committed, area, jaw, 16);
+    committed
+}
+
+// A new label for the jaw is withdrawn: the old one is seen again, and the new one can no longer be committed.
+fn withdrawn_label(store: Store, area: &mut [u8], jaw: &[u8]) -> Store
+    requires { ⌜ Made store (now area) ⌝ }
+    ensures { λ r. ⌜ Made r (now (area .exit)) ⌝ }
+{
+    let label = b"\x00\x01\x07\x00\x00\x00\x01jaw\x01\x12\x00\x01\x0fupper jaw, left";
+    let keys = b"\x00\x01\x07\x00\x00\x00\x01jaw";
+    let names = b"the new label of the jaw";
+    let written = prewrites(store, area, 8, 20, jaw, label, names);
+    asks_key(written, area, jaw, 25);
+    let withdrawn = withdraws(written, area, 8, 20, jaw, names);
+    asks_key(withdrawn, area, jaw, 25);
+    commits(withdrawn, area, 8, 20, 30, keys, names)
+}
+
+fn main() {
+    let mut area = [0u8; 65536];
+    let jaw = b"\x00\x00\x00\x01jaw";
+    let store = mvcc::fresh();
+    asks_figures(store, &area, b"the hall opens: ");
+    let labelled = two_labels(store, &mut area, jaw);
+    asks_page(labelled, &area, 16);
+    let kept = withdrawn_label(labelled, &mut area, jaw);
+    asks_figures(kept, &area, b"in the end: ");
+}

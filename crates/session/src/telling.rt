@@ -1,0 +1,81 @@
+// Words for standard output: what a call answered, a key's name, a row's label. Any answer and any bytes can be told.
+ghost use Rattle.forms.specs.Places.{PartAt};
+ghost use Rattle.session.specs.Labels.{textPlace};
+use forms::Part;
+use libc::STDOUT_FILENO;
+use rules::Answer;
+
+pub fn say(words: &[u8]) {
+    io::write_all(STDOUT_FILENO, words);
+}
+
+// A number with the words before and after it.
+pub fn tell(before: &[u8], number: u64, after: &[u8]) {
+    say(before);
+    io::print_decimal(STDOUT_FILENO, number);
+    say(after);
+}
+
+// "What a call answers": the paper's words for a number.
+fn meaning(number: u8) {
+    match number {
+        0 => say(b"accepted"),
+        1 => say(b"key not in form"),
+        2 => say(b"row argument not in form"),
+        3 => say(b"a zero, or a commit not above its start"),
+        4 => say(b"scan start not below scan end"),
+        5 => say(b"empty batch"),
+        6 => say(b"batch not in form"),
+        7 => say(b"key locked"),
+        8 => say(b"history forbids it"),
+        9 => say(b"stored state contradicts the call or itself"),
+        10 => say(b"byte limit below the first entry"),
+        11 => say(b"no room"),
+        12 => say(b"lent buffer shorter than the page"),
+        13 => say(b"image refused"),
+        _ => say(b"no number of the paper"),
+    }
+}
+
+// The number of a refusal and what it means; "Answer 7 carries the holder's transaction and start".
+pub fn say_answer(answer: Answer) {
+    let number = replies::number_of(answer);
+    if number != 0 {
+        tell(b"refused, ", number as u64, b": ");
+    }
+    meaning(number);
+    let holder = replies::holder_of(answer);
+    if holder.txn != 0 {
+        tell(b" by curator ", holder.txn, b" since ");
+        tell(b"", holder.start, b"");
+    }
+    say(b"\n");
+}
+
+// A key is its table's number in 4 bytes, and then a name.
+pub fn say_name(key: &[u8]) {
+    if 4 <= key.len() {
+        say(&key[4..]);
+    }
+}
+
+// Where a row's first text lies: past both counts and the integers.
+fn first_text(row: &[u8]) -> Part
+    ensures { λ r. ⌜ PartAt (now (row .entry)) (textPlace (now (row .entry))) r ⌝ }
+{
+    if row.len() == 0 {
+        return forms::part_at(row, 2);
+    }
+    let integers = row[0] as usize;
+    forms::part_at(row, 2 + 8 * integers)
+}
+
+// The label of a row is its first text.
+pub fn say_label(row: &[u8]) {
+    let text = first_text(row);
+    let at = text.at;
+    let end = at + text.len;
+    say(b"\"");
+    say(&row[at..end]);
+    say(b"\"\n");
+}

@@ -1,0 +1,114 @@
+// What a visitor asks of the box, and what is shown. Nothing here changes the store.
+ghost use Rattle.lines.specs.Made.{Made};
+use crate::telling::say;
+use crate::telling::say_answer;
+use crate::telling::say_label;
+use crate::telling::say_name;
+use crate::telling::tell;
+use forms::Width;
+use mvcc::Seen;
+use mvcc::Store;
+
+// A read's answer; a row that is shown is taken from the store's own bytes.
+fn say_seen(area: &[u8], seen: Seen) {
+    match seen {
+        Seen::Nothing => say(b"nothing to see\n"),
+        Seen::Row { at: _, len: _ } => say_label(mvcc::row_of(area, seen)),
+        Seen::Refused(answer) => say_answer(answer),
+    }
+}
+
+fn say_read(key: &[u8], moment: u64) {
+    say(b"a visitor reads the ");
+    say_name(key);
+    tell(b" at moment ", moment, b": ");
+}
+
+pub fn asks_key(store: Store, area: &[u8], key: &[u8], moment: u64)
+    requires { ⌜ Made store (now area) ⌝ }
+{
+    say_read(key, moment);
+    let seen = mvcc::read(store, area, key, moment);
+    say_seen(area, seen);
+}
+
+// One row of a page, "key length byte, key, row length byte, row", and the place after it.
+fn say_row(page: &[u8], at: usize) -> usize {
+    let key = forms::part_at(page, at);
+    let k = key.at;
+    let ke = k + key.len;
+    let row = forms::part_at(page, ke);
+    let r = row.at;
+    let re = r + row.len;
+    say(b"    ");
+    say_name(&page[k..ke]);
+    say(b": ");
+    say_label(&page[r..re]);
+    re
+}
+
+// "then a byte, 1 if more, else 0"
+fn say_more(page: &[u8], at: usize) {
+    if page.len() <= at {
+        return;
+    }
+    if page[at] == 0 {
+        say(b"    and no more behind them\n");
+    } else {
+        say(b"    and more behind them\n");
+    }
+}
+
+// "2-byte count; rows .."
+fn say_page(page: &[u8]) {
+    let count = forms::number_at(page, 0, Width::Two);
+    tell(b"", count.value, b" rows\n");
+    let mut at: usize = 2;
+    let mut left = count.value;
+    while 0 < left {
+        at = say_row(page, at);
+        left -= 1;
+    }
+    say_more(page, at);
+}
+
+// A page of the whole hall, of at most 8 rows and 1,000 bytes.
+pub fn asks_page(store: Store, area: &[u8], moment: u64)
+    requires { ⌜ Made store (now area) ⌝ }
+{
+    tell(b"a visitor asks for a page at moment ", moment, b": ");
+    let none = b"";
+    let mut out = [0u8; 2048];
+    let paged = mvcc::scan_page(
+        store,
+        area,
+        moment,
+        8,
+        1000,
+        false,
+        none,
+        false,
+        none,
+        false,
+        none,
+        &mut out,
+    );
+    let answer = paged.answer;
+    if !calls::accepted(answer) {
+        return say_answer(answer);
+    }
+    let n = paged.count;
+    say_page(&out[..n]);
+}
+
+// What the box holds, from its statistics.
+pub fn asks_figures(store: Store, area: &[u8], when: &[u8])
+    requires { ⌜ Made store (now area) ⌝ }
+{
+    let stats = mvcc::stats(store, area);
+    let records = stats.records;
+    let rows = stats.defaults;
+    tell(when, records.all as u64, b" records, ");
+    tell(b"", stats.locks as u64, b" locks, ");
+    tell(b"", rows.all as u64, b" rows\n");
+}
