@@ -6,7 +6,6 @@ ghost use mathlib.Core.Path.{_≡_};
 ghost use lib.ListN.{length};
 ghost use Prim.Native.Nat.{_+_, _≤_};
 ghost use Rattle.timing.specs.Asks.{TurnAsks};
-
 use forms::Width;
 use libc::STDIN_FILENO;
 use libc::STDOUT_FILENO;

@@ -7,7 +7,7 @@ ghost use Rattle.lines.specs.View.{boxOf};
 ghost use Rattle.lines.specs.Made.{Built};
 ghost use Rattle.bounds.specs.Bounds.{boundsOf};
 ghost use Rattle.walks.specs.Walked.{rowAt, WalkedAs};
-ghost use Rattle.walks.specs.Rows.{rowsFrom, RowAsks, SeenSmall, RowJudged, rowTurn};
+ghost use Rattle.walks.specs.Rows.{rowsFrom, SeenSmall, rowTurn};
 use crate::turns::room_turn;
 use crate::walked::Spot;
 use crate::walked::Turn;
@@ -17,23 +17,8 @@ use crate::walked::no_spot;
 use crate::walked::refused;
 use bounds::slot_inside;
 use bounds::slots_share;
-use lines::Slot;
 use lines::Store;
 use reads::Seen;
-use rules::Answer;
-
-// "Each key is read first"; one that is not asked for shows nothing.
-fn judge_row(store: Store, area: &[u8], s: Slot, inside: bool, moment: u64) -> Seen
-    requires { ⌜ RowAsks store (now area) s ⌝ }
-    ensures { λ r. ⌜ RowJudged (boxOf store (now (area .entry))) (now (area .entry)) s inside moment r ⌝ }
-{
-    if !inside {
-        return Seen::Nothing;
-    }
-    let at = s.at as usize;
-    let e = at + s.len as usize;
-    reads::read_key(store, area, &area[at..e], moment)
-}
 
 // "With no row, go on."
 fn row_turn(seen: Seen, len: u8, rows: u64, bytes: u64, count: usize, sum: usize) -> Turn
@@ -50,7 +35,8 @@ fn row_turn(seen: Seen, len: u8, rows: u64, bytes: u64, count: usize, sum: usize
     }
 }
 
-// The page's keys in turn, each at its last line; the loop alone holds the table.
+// The page's keys in turn, each at its last line: "Each key is read first". The loop alone holds the table, and calls `read_key` itself, since a
+// function between the two would copy the store for each key.
 pub fn walk_rows(
     store: Store,
     area: &[u8],
@@ -85,8 +71,12 @@ pub fn walk_rows(
                 continue;
             }
         }
-        let inside = slot_inside(s, area, starts, start, ends, end, resumes, resume);
-        let seen = judge_row(store, area, s, inside, moment);
+        if !slot_inside(s, area, starts, start, ends, end, resumes, resume) {
+            continue;
+        }
+        let at = s.at as usize;
+        let e = at + s.len as usize;
+        let seen = reads::read_key(store, area, &area[at..e], moment);
         let turn = row_turn(seen, s.len, rows, bytes, count, sum);
         match turn {
             Turn::On => {
