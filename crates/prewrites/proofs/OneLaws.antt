@@ -1,26 +1,25 @@
 -- "Single forms take the steps without 6 and 5": the ways out of the single form, from those of a list of one entry.
 -- Assumes nothing.
-use Prim.Native.Nat.{_≤_}
-use native.Mathlib.Omega.{arith}
-use mathlib.Core.Path.{_≡_, refl, sym, ap, _∙_, subst}
-use mathlib.Core.Bool.{Bool, true, false, not}
+use mathlib.Core.Path.{_≡_, refl, sym, ap, ap₂, _∙_, subst}
+use mathlib.Core.Bool.{Bool, true, false, not, _&&_}
 use mathlib.Core.List.{[], _∷_}
 use mathlib.Core.Option.{Option, none, some}
 use lib.Dec.{eqb}
+use borrow.Author.Tests.{eqb-true, eqb-false, not-true, not-false}
 use Rattle.forms.specs.Bytes.{Bytes}
 use Rattle.forms.specs.Key.{keyForm}
 use Rattle.forms.specs.Batch.{Mutation, keyIn}
 use Rattle.rules.specs.declared.answers.Answer.{Answer}
-use Rattle.rules.specs.declared.answers.Answer.the-variants.{Accepted, No}
+use Rattle.rules.specs.declared.answers.Answer.the-variants.{Accepted, No, Held}
 use Rattle.rules.specs.declared.room.Load.{Load}
 use Rattle.rules.specs.Answers.{_▸_, need}
-use Rattle.rules.specs.Box.{Box, Lock, lockOf, rowOf}
-use Rattle.rules.specs.Room.{loadOf, fits, Fits}
+use Rattle.rules.specs.Box.{Box, Lock, lockOf}
+use Rattle.rules.specs.Room.{fits}
 use Rattle.rules.specs.Calls.{Done, settle}
 use Rattle.rules.specs.Prewrite.{Head, headStep, prewriteEntries, prewriteRoom, prewriteSteps, unlessLocked, applyPrewrite, applyPrewrites, prewrite}
 use Rattle.laws.specs.Adds.{noLoad, plus, lockLoad, ofRow, prewriteAdds}
-use Rattle.laws.specs.Places.{linesBefore, pairsBefore}
-use Rattle.laws.proofs.StepLaws.{then-left, then-right, need-true}
+use Rattle.laws.proofs.StepLaws.{then-left, then-right, need-true, need-is, and-left, and-right}
+use Rattle.laws.proofs.ChainLaws.{denied, granted}
 use Rattle.laws.proofs.FrameLaws.{one-ascends}
 use Rattle.laws.proofs.LoadLaws.{load-fields}
 use Rattle.laws.proofs.PrewriteLaws.{prewrite-passed, free-row}
@@ -32,14 +31,29 @@ use Rattle.lines.specs.Made.{Made}
 use Rattle.lines.specs.Looks.{LookedAt, RowFound}
 use Rattle.calls.specs.declared.changed.Changed.{Changed}
 use Rattle.calls.specs.Loads.{Summable}
-use Rattle.calls.specs.Settled.{Settled}
-use Rattle.calls.proofs.SettledLaws.{settled-same}
+use Rattle.calls.specs.Settled.{isAccepted, Settled}
+use Rattle.calls.proofs.SettledLaws.{is-accepted, is-refusal, settled-same}
 use Rattle.calls.proofs.AnswerLaws.{head-out}
-use Rattle.areas.specs.Packs.{Placed}
 use Rattle.prewrites.specs.declared.checks.Seen.{Seen}
 use Rattle.prewrites.specs.Checks.{EntryChecked, EntrySeen}
-use Rattle.prewrites.specs.Applies.{NewAsks, EntryApplied, allDone, OneAsks}
-use Rattle.prewrites.proofs.PassLaws.{one-checked, pass-refused, pass-small, pass-place, pass-full, pass-replay, pass-fit, pass-new}
+use Rattle.prewrites.specs.Applies.{NewAsks, EntryApplied, allDone}
+use Rattle.prewrites.proofs.PassLaws.{one-checked, pass-refused, pass-small, pass-full, pass-replay, pass-fit, pass-new}
+
+-- ---- "Then 11": the answer to an entry that was checked
+
+module _ {a : Answer} (p : a ≡ Accepted) {after x : Load} (e : after ≡ x) {f : Bool} (g : f ≡ fits after) where
+  answer-is : a ▸ need (fits x) 11 ≡ need f 11
+  unfolding _▸_
+  answer-is = ap₂ (λ (y : Answer) (t : Bool). y ▸ need t 11) p (sym (g ∙ ap fits e))
+
+  pub answer-full : not f ≡ true → No 11 ≡ a ▸ need (fits x) 11
+  unfolding need
+  answer-full n = sym (answer-is ∙ ap (λ (t : Bool). need t 11) (not-true f n))
+
+  pub answer-passes : not f ≡ false → Accepted ≡ a ▸ need (fits x) 11
+  answer-passes n = sym (answer-is ∙ need-is f 11 (not-false f n))
+
+-- ---- the head
 
 -- "primary 1"
 pub head-primary : (h : Head) → headStep h ≡ Accepted → keyForm (h .primary) ≡ true
@@ -61,60 +75,94 @@ one-is : (h : Head) (m : Mutation) (b : Box) → headStep h ≡ Accepted → all
 unfolding prewrite prewriteSteps allDone applyPrewrites _▸_
 one-is h m b e = ap (λ (x : Answer). settle (x ▸ (prewriteEntries h b (m ∷ []) ▸ prewriteRoom h (m ∷ []) b)) (applyPrewrite h m b) b) (sym e)
 
-module _ {st : Store} {area : Bytes} {h : Head} (a : OneAsks st area h) (m : Mutation) {found : Looked} {stored : FoundRow}
+module _ {st : Store} {area : Bytes} {h : Head} (made : Made st area) (head-ok : headStep h ≡ Accepted) (m : Mutation) {found : Looked} {stored : FoundRow}
     (looked : LookedAt st area (m .key) (h .start) 0 found) (row : RowFound st area (m .key) (h .start) stored) {r : Seen} (seen : EntrySeen h area m found stored r) where
   k : EntryChecked h (boxOf st area) m r
   k = seen st (record { looked = looked; row = row })
 
   to-one : {x : Changed} {area′ : Bytes} → Settled st area (allDone h (m ∷ []) (boxOf st area)) x area′ → Settled st area (prewrite h m (boxOf st area)) x area′
-  to-one {x} {area′} v = subst (λ (d : Done). Settled st area d x area′) (one-is h m (boxOf st area) (a .head-ok)) v
+  to-one {x} {area′} v = subst (λ (d : Done). Settled st area d x area′) (one-is h m (boxOf st area) head-ok) v
 
-  pub one-refused : (r .answer ≡ Accepted → ⊥) → Settled st area (prewrite h m (boxOf st area)) (record { store = st; answer = r .answer }) area
-  one-refused n = to-one (pass-refused (a .made) (one-ascends keyIn m) (one-checked k) n)
+  refused : (r .answer ≡ Accepted → ⊥) → Settled st area (prewrite h m (boxOf st area)) (record { store = st; answer = r .answer }) area
+  refused n = to-one (pass-refused made (one-ascends keyIn m) (one-checked k) n)
 
   pub one-small : Summable (st .load) (r .added)
-  one-small = pass-small (a .made) (one-ascends keyIn m) (one-checked k)
+  one-small = pass-small made (one-ascends keyIn m) (one-checked k)
 
-  pub one-place : r .added .bytes ≤ 16384
-  one-place = pass-place (a .made) (one-ascends keyIn m) (one-checked k)
+  -- whether there is room
+  abbrev room : Bool
+  room = fits (plus (st .load) (r .added))
 
-  module _ (p : r .answer ≡ Accepted) {after : Load} (e : after ≡ plus (st .load) (r .added)) {f : Bool} (g : f ≡ fits after) where
-    pub one-full : not f ≡ true → Settled st area (prewrite h m (boxOf st area)) (record { store = st; answer = No 11 }) area
-    one-full n = to-one (pass-full (a .made) (one-ascends keyIn m) (one-checked k) p e g n)
+  full : r .answer ≡ Accepted → room ≡ false → Settled st area (prewrite h m (boxOf st area)) (record { store = st; answer = No 11 }) area
+  full p n = to-one (pass-full made (one-ascends keyIn m) (one-checked k) p refl refl (ap not n))
 
-    module _ (ok : not f ≡ false) where
-      pub one-replay : r .added .lines ≡ 0 → Settled st area (prewrite h m (boxOf st area)) (record { store = st; answer = Accepted }) area
-      one-replay z = to-one (pass-replay (a .made) (one-ascends keyIn m) (one-checked k) p e g ok z)
+  replay : r .answer ≡ Accepted → room ≡ true → r .added .lines ≡ 0 → Settled st area (prewrite h m (boxOf st area)) (record { store = st; answer = Accepted }) area
+  replay p ok z = to-one (pass-replay made (one-ascends keyIn m) (one-checked k) p refl refl (ap not ok) z)
 
-      module _ (n : r .added .lines ≡ 0 → ⊥) {s : Store} {area′ : Bytes} (v : Placed st area (r .added .bytes) s area′) where
-        free : (o : Option Lock) → (unlessLocked o (plus (lockLoad (m .key) (h .primary)) (ofRow (m .key) (m .row))) noLoad .lines ≡ 0 → ⊥) → o ≡ none
-        unfolding unlessLocked
-        free none q = refl
-        free (some l) q = absurd (q refl)
+  module _ {answer : Answer} (e : answer ≡ r .answer ▸ need (fits (plus (st .load) (r .added))) 11) {f : Bool} (g : f ≡ isAccepted answer && not (eqb (r .added .lines) 0)) where
+    -- a refusal, or no line to add: nothing changes
+    pub one-stays : not f ≡ true → Settled st area (prewrite h m (boxOf st area)) (record { store = st; answer = answer }) area
+    unfolding _▸_ need
+    one-stays n = go (r .answer) refl room refl
+      where
+        with-answer : {x : Answer} → answer ≡ x → Settled st area (prewrite h m (boxOf st area)) (record { store = st; answer = x }) area → Settled st area (prewrite h m (boxOf st area)) (record { store = st; answer = answer }) area
+        with-answer q v = subst (λ (x : Answer). Settled st area (prewrite h m (boxOf st area)) (record { store = st; answer = x }) area) (sym q) v
 
-        no-lock : lockOf (m .key) (boxOf st area .lines) ≡ none
-        unfolding prewriteAdds
-        no-lock = free (lockOf (m .key) (boxOf st area .lines)) (λ z. n (load-fields (k .added-is p) .lines ∙ z))
+        is : {x : Answer} {t : Bool} → r .answer ≡ x → room ≡ t → answer ≡ x ▸ need t 11
+        is p q = e ∙ ap₂ (λ (x : Answer) (t : Bool). x ▸ need t 11) p q
 
-        pub one-asks : NewAsks s area′ h m (found .first) (stored .place)
-        unfolding applyPrewrites
-        one-asks =
-            let q = prewrite-passed h (boxOf st area) m (sym (k .answer-is) ∙ p) in
-            let x = load-fields (k .added-is p) in
-            let y = load-fields (ap (λ (c : Box). prewriteAdds h c m) (v .shown)) in
-            record {
-              built = v .made .built;
-              key-ok = q .key;
-              primary-ok = head-primary h (a .head-ok);
-              row-ok = q .row;
-              no-lock = ap (λ (c : Box). lockOf (m .key) (c .lines)) (v .shown) ∙ no-lock;
-              no-row = ap (λ (c : Box). rowOf (m .key) (h .start) (c .defaults)) (v .shown) ∙ free-row h (m .row) _ _ (q .lock) no-lock;
-              first-is = looked .first-is ∙ ap (λ (c : Box). linesBefore (m .key) (c .lines)) (sym (v .shown));
-              place-is = row .place-is ∙ ap (λ (c : Box). pairsBefore (m .key) (h .start) (c .defaults)) (sym (v .shown));
-              fit = subst (λ (c : Box). Fits (loadOf (applyPrewrite h m c))) (sym (v .shown)) (pass-fit (a .made) (one-ascends keyIn m) (one-checked k) p e g ok);
-              area-room = omega (arith, v .room, x .bytes, y .bytes);
-            }
+        none : answer ≡ Accepted → r .added .lines ≡ 0
+        none q = eqb-true _ _ (not-false _ (ap (λ (x : Answer). isAccepted x && not (eqb (r .added .lines) 0)) (sym q) ∙ denied _ _ g n))
 
-        pub one-new : {t : Store} {area″ : Bytes} → EntryApplied s area′ h m t area″ → Settled st area (prewrite h m (boxOf st area)) (record { store = t; answer = Accepted }) area″
-        unfolding applyPrewrites
-        one-new w = to-one (pass-new (a .made) (one-ascends keyIn m) (one-checked k) p e g ok n (w .built) (w .shown ∙ ap (applyPrewrite h m) (v .shown)))
+        go : (x : Answer) → r .answer ≡ x → (t : Bool) → room ≡ t → Settled st area (prewrite h m (boxOf st area)) (record { store = st; answer = answer }) area
+        go Accepted p true q = with-answer (is p q) (replay p q (none (is p q)))
+        go Accepted p false q = with-answer (is p q) (full p q)
+        go (No c) p t q = with-answer (is p q ∙ sym p) (refused (λ z. is-refusal (No c) refl refl (sym p ∙ z)))
+        go (Held o) p t q = with-answer (is p q ∙ sym p) (refused (λ z. is-refusal (Held o) refl refl (sym p ∙ z)))
+
+    -- a line comes
+    module _ (n : not f ≡ false) where
+      accepted : answer ≡ Accepted
+      accepted = is-accepted answer {t = isAccepted answer} refl (ap not (and-left (isAccepted answer) (not (eqb (r .added .lines) 0)) (granted _ _ g n)))
+
+      passed : r .answer ≡ Accepted
+      passed = then-left _ _ (sym e ∙ accepted)
+
+      fitting : not (fits (plus (st .load) (r .added))) ≡ false
+      fitting = ap not (need-true _ 11 (then-right (r .answer) _ (sym e ∙ accepted)))
+
+      comes : r .added .lines ≡ 0 → ⊥
+      comes = eqb-false _ _ (not-true _ (and-right (isAccepted answer) _ (granted _ _ g n)))
+
+      free : (o : Option Lock) → (unlessLocked o (plus (lockLoad (m .key) (h .primary)) (ofRow (m .key) (m .row))) noLoad .lines ≡ 0 → ⊥) → o ≡ none
+      unfolding unlessLocked
+      free none q = refl
+      free (some l) q = absurd (q refl)
+
+      no-lock : lockOf (m .key) (boxOf st area .lines) ≡ none
+      unfolding prewriteAdds
+      no-lock = free (lockOf (m .key) (boxOf st area .lines)) (λ z. comes (load-fields (k .added-is passed) .lines ∙ z))
+
+      pub one-asks : NewAsks st area h m (found .first) (stored .place) (r .added)
+      unfolding applyPrewrites
+      one-asks =
+          let q = prewrite-passed h (boxOf st area) m (sym (k .answer-is) ∙ passed) in
+          record {
+            made = made;
+            key-ok = q .key;
+            primary-ok = head-primary h head-ok;
+            row-ok = q .row;
+            no-lock = no-lock;
+            no-row = free-row h (m .row) _ _ (q .lock) no-lock;
+            first-is = looked .first-is;
+            place-is = row .place-is;
+            added-is = k .added-is passed;
+            small = k .small;
+            fit = pass-fit made (one-ascends keyIn m) (one-checked k) passed refl refl fitting;
+          }
+
+      pub one-new : {t : Store} {area′ : Bytes} → EntryApplied st area h m t area′ → Settled st area (prewrite h m (boxOf st area)) (record { store = t; answer = answer }) area′
+      unfolding applyPrewrites
+      one-new {t} {area′} w =
+          subst (λ (x : Answer). Settled st area (prewrite h m (boxOf st area)) (record { store = t; answer = x }) area′) (sym accepted)
+          (to-one (pass-new made (one-ascends keyIn m) (one-checked k) passed refl refl fitting comes (w .built) (w .shown)))

@@ -15,7 +15,7 @@ use Rattle.rules.specs.Answers.{_▸_}
 use Rattle.rules.specs.Box.{Box, lockOf, rowOf}
 use Rattle.rules.specs.Room.{loadOf, Fits}
 use Rattle.rules.specs.Calls.{Done, settle, rowArgument}
-use Rattle.rules.specs.Prewrite.{Head, headStep, prewriteEntries, prewriteRoom, applyPrewrite, applyPrewrites}
+use Rattle.rules.specs.Prewrite.{Head, prewriteEntries, prewriteRoom, applyPrewrite, applyPrewrites}
 use Rattle.laws.specs.Adds.{sumLoads, prewriteAdds}
 use Rattle.laws.specs.Places.{linesBefore, pairsBefore}
 use Rattle.rules.specs.declared.room.Load.{Load}
@@ -24,13 +24,14 @@ use Rattle.lines.specs.declared.places.FoundRow.{FoundRow}
 use Rattle.lines.specs.declared.store.Store.{Store}
 use Rattle.lines.specs.View.{boxOf}
 use Rattle.lines.specs.Made.{Built, Made}
+use Rattle.calls.specs.Loads.{AddedBy}
 use Rattle.prewrites.specs.Checks.{FoundAll}
 
 -- ---- one entry
 
--- an entry in form whose key has no lock, and no row at this start; there is room for it, and the area has place
-pub record NewAsks (st : Store) (area : Bytes) (h : Head) (m : Mutation) (first place : ℕ) : Type 0 where
-  pub built : Built st area
+-- an entry in form whose key has no lock, and no row at this start; there is room for it
+pub record NewAsks (st : Store) (area : Bytes) (h : Head) (m : Mutation) (first place : ℕ) (added : Load) : Type 0 where
+  pub made : Made st area
   pub key-ok : keyForm (m .key) ≡ true
   pub primary-ok : keyForm (h .primary) ≡ true
   pub row-ok : rowArgument (m .row) ≡ true
@@ -38,13 +39,13 @@ pub record NewAsks (st : Store) (area : Bytes) (h : Head) (m : Mutation) (first 
   pub no-row : rowOf (m .key) (h .start) (boxOf st area .defaults) ≡ none
   pub first-is : first ≡ linesBefore (m .key) (boxOf st area .lines)
   pub place-is : place ≡ pairsBefore (m .key) (h .start) (boxOf st area .defaults)
+  pub added-is : added ≡ prewriteAdds h (boxOf st area) m
+  pub small : AddedBy 1 399 added
   pub fit : Fits (loadOf (applyPrewrite h m (boxOf st area)))
-  pub area-room : st .top + prewriteAdds h (boxOf st area) m .bytes ≤ 65536
 
 pub record EntryApplied (st : Store) (area : Bytes) (h : Head) (m : Mutation) (r : Store) (area′ : Bytes) : Type 0 where
   pub built : Built r area′
   pub shown : boxOf r area′ ≡ applyPrewrite h m (boxOf st area)
-  pub top-low : r .top ≤ st .top + prewriteAdds h (boxOf st area) m .bytes
 
 -- ---- all entries
 
@@ -74,10 +75,6 @@ pub record Applied (st : Store) (area : Bytes) (h : Head) (ms : List Mutation) (
 -- "then per entry ascending ..; Then 11"
 unfoldable pub allDone : Head → List Mutation → Box → Done
 allDone h ms b = settle (prewriteEntries h b ms ▸ prewriteRoom h ms b) (applyPrewrites h ms b) b
-
-pub record OneAsks (st : Store) (area : Bytes) (h : Head) : Type 0 where
-  pub made : Made st area
-  pub head-ok : headStep h ≡ Accepted
 
 pub record AllAsks (st : Store) (area : Bytes) (h : Head) (batch : Bytes) (first : Cursor) : Type 0 where
   pub made : Made st area

@@ -16,7 +16,7 @@ use lines::store::no_held;
 use lines::store::no_slot;
 
 // "a lock with the call's fields and the entry's kind": its key and its primary from `top` on, and its slot.
-fn write_lock(
+pub fn write_lock(
     area: &mut [u8],
     top: usize,
     terms: Terms,
@@ -49,7 +49,7 @@ fn write_lock(
 }
 
 // "a Put's row is stored at this start": its key and its row from `top` on, and its slot.
-fn write_row(area: &mut [u8], top: usize, start: u64, key: &[u8], row: &[u8]) -> Held
+pub fn write_row(area: &mut [u8], top: usize, start: u64, key: &[u8], row: &[u8]) -> Held
     requires { ⌜ RowWrite (now area) top (now key) (now row) ⌝ }
     ensures { λ r. ⌜ RowWritten (now (area .entry)) top start (now (key .entry)) (now (row .entry)) r (now (area .exit)) ⌝ }
 {
