@@ -1,5 +1,2 @@
-pub mod TellLaws
-pub mod ReplyLaws
-pub mod PagingLaws
 pub mod RunLaws
 pub mod KeepLaws

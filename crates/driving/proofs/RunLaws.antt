@@ -4,10 +4,12 @@ use Prim.Native.Nat.{ℕ, _≤_, _<_}
 use native.Mathlib.Omega.{arith}
 use mathlib.Core.Path.{_≡_, refl, sym, _∙_, ap, subst}
 use mathlib.Core.Bool.{Bool, true, false, not}
-use mathlib.Core.List.{[]}
+use mathlib.Core.List.{[], _∷_}
 use mathlib.Core.Option.{Option, none, some}
 use lib.ListN.{length}
 use lib.Dec.{ltb}
+use denote.Enum.Declared.{tagOf}
+use types.Run.{OneOf, miss}
 use borrow.Author.Tests.{not-true, not-false, ltb-true, ltb-false}
 use Rattle.forms.specs.Bytes.{Bytes}
 use Rattle.forms.specs.Readers.{when}
@@ -26,23 +28,17 @@ use Rattle.traces.specs.declared.args.Args.{Args}
 use Rattle.traces.specs.declared.op.Op.{Op}
 use Rattle.traces.specs.Calls.{Call, call}
 use Rattle.traces.specs.Places.{kindOf}
-use Rattle.traces.specs.Args.{callOf, callAs, ArgsOf}
+use Rattle.traces.specs.Args.{callOf, ArgsOf}
+use Rattle.traces.proofs.op.Op.{the-type}
 use Rattle.replies.specs.Answers.{answerBytes}
 use Rattle.replies.proofs.FormLaws.{length-answer}
 use Rattle.lines.specs.declared.store.Store.{Store}
 use Rattle.lines.specs.View.{boxOf}
 use Rattle.lines.specs.Made.{Made}
-use Rattle.driving.specs.Told.{Told, told, toldOf, toldBytes, notRun, changing, counting, rowFor, Writes}
-use Rattle.driving.specs.Ran.{RunAsks, RanAs, DoneAs, TellsChange, Unrun, RunCall, longest}
-use Rattle.driving.specs.declared.ran.Ran.{Ran}
-use Rattle.driving.proofs.TellLaws.{written, written-count}
-
--- what a call that leaves the store as it was promises, once its answer is written; its payload has at most k bytes
-pub showed : (t : Told) (k : ℕ) {st : Store} {area out out′ : Bytes} {n : ℕ} → Made st area → boxOf st area ≡ t .box → length (t .payload) ≤ k → k ≤ 65535 → longest ≤ length out → Writes (toldBytes t) out n out′
-    → RanAs t out (record { store = st; len = n }) area out′
-showed t k {out = out} m e short few long w =
-    let h : length (toldBytes t) ≤ length out = omega (arith, length-answer (number (t .answer)) (holder (t .answer) .txn) (holder (t .answer) .start) (t .count) (t .payload)) in
-    record { made = m; shown = e; put = written h w; within = omega (arith, written-count h w) }
+use Rattle.showing.specs.Told.{told, toldOf, toldBytes, notRun, changing, counting, rowFor, Writes}
+use Rattle.showing.specs.Ran.{RanAs, DoneAs, TellsChange, Unrun, RunCall, shows, longest}
+use Rattle.showing.specs.declared.ran.Ran.{Ran}
+use Rattle.showing.proofs.TellLaws.{written, written-count}
 
 -- what a call that changes the store promises, once its answer is written
 changed : (d : Done) {m : Changed} {area′ out out′ : Bytes} {n : ℕ} → DoneAs d m area′ → longest ≤ length out → Writes (answerBytes (m .answer) 0 []) out n out′
@@ -79,10 +75,23 @@ counted {d = d} {m = m} {out = out} {out′ = out′} {n = n} v long w =
 
 -- ---- by the op
 
-module _ {st : Store} {area s : Bytes} {a : Args} {out : Bytes} (asks : RunAsks st area s a out) {r : Ran} {area′ out′ : Bytes} where
-  -- a call of this op, run, is the call that the arguments say
-  pub by-op : (op : Op) → a .op ≡ op → RanAs (told (callAs op s a) (boxOf st area)) out r area′ out′ → RanAs (told (callOf s a) (boxOf st area)) out r area′ out′
-  by-op op e v = subst (λ (o : Op). RanAs (told (callAs o s a) (boxOf st area)) out r area′ out′) (sym e) v
+-- an op that is none of those that change the store, by its place among the ops
+pub others-show : (op : Op) → OneOf (0 ∷ 1 ∷ 2 ∷ 3 ∷ 4 ∷ 13 ∷ 14 ∷ []) (tagOf the-type op) → shows op ≡ true
+others-show Op.Read k = refl
+others-show Op.Page k = refl
+others-show Op.IntentPage k = refl
+others-show Op.ConflictingIntents k = refl
+others-show Op.OneIntent k = refl
+others-show Op.Prewrite k = absurd (miss (0 ∷ 1 ∷ 2 ∷ 3 ∷ 4 ∷ 13 ∷ 14 ∷ []) 5 tt k)
+others-show Op.PrewriteBatch k = absurd (miss (0 ∷ 1 ∷ 2 ∷ 3 ∷ 4 ∷ 13 ∷ 14 ∷ []) 6 tt k)
+others-show Op.Commit k = absurd (miss (0 ∷ 1 ∷ 2 ∷ 3 ∷ 4 ∷ 13 ∷ 14 ∷ []) 7 tt k)
+others-show Op.CommitBatch k = absurd (miss (0 ∷ 1 ∷ 2 ∷ 3 ∷ 4 ∷ 13 ∷ 14 ∷ []) 8 tt k)
+others-show Op.Rollback k = absurd (miss (0 ∷ 1 ∷ 2 ∷ 3 ∷ 4 ∷ 13 ∷ 14 ∷ []) 9 tt k)
+others-show Op.RollbackBatch k = absurd (miss (0 ∷ 1 ∷ 2 ∷ 3 ∷ 4 ∷ 13 ∷ 14 ∷ []) 10 tt k)
+others-show Op.OneStep k = absurd (miss (0 ∷ 1 ∷ 2 ∷ 3 ∷ 4 ∷ 13 ∷ 14 ∷ []) 11 tt k)
+others-show Op.Restore k = absurd (miss (0 ∷ 1 ∷ 2 ∷ 3 ∷ 4 ∷ 13 ∷ 14 ∷ []) 12 tt k)
+others-show Op.Statistics k = refl
+others-show Op.Marks k = refl
 
 -- ---- the call's bytes
 

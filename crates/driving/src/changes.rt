@@ -6,13 +6,11 @@ ghost use Rattle.forms.specs.Bytes.{bytesAt};
 ghost use Rattle.traces.specs.Calls.{Call};
 ghost use Rattle.traces.specs.Places.{kindOf};
 ghost use Rattle.lines.specs.View.{boxOf};
-ghost use Rattle.driving.specs.Told.{told};
-ghost use Rattle.driving.specs.Ran.{RunAsks, RanAs, TellsChange, longest};
-use crate::ran::Ran;
-use crate::telling::tell_count;
-use crate::telling::tell_plain;
+ghost use Rattle.showing.specs.Told.{told};
+ghost use Rattle.showing.specs.Ran.{RunAsks, RanAs, TellsChange, longest};
 use calls::Changed;
 use lines::Store;
+use showing::Ran;
 use traces::Args;
 
 // What a changing call gave back: its answer is told, without count and payload, and its store goes on.
@@ -22,7 +20,7 @@ fn tell_change(done: Changed, out: &mut [u8]) -> Ran
 {
     let answer = done.answer;
     let after = done.store;
-    let len = tell_plain(out, answer);
+    let len = showing::tell_plain(out, answer);
     Ran {
         store: after,
         len: len,
@@ -166,7 +164,7 @@ pub(crate) fn run_step(
     let done = onesteps::commit_batch(store, area, args.one, args.two, args.three, &call[at..end]);
     let answer = done.answer;
     let after = done.store;
-    let len = tell_count(out, answer, done.count as u64);
+    let len = showing::tell_count(out, answer, done.count as u64);
     Ran {
         store: after,
         len: len,

@@ -1,15 +1,10 @@
 // Driving the store from outside, one call of docs/TRACE.md at a time: a call's bytes are run on a store, and its answer is written into a
-// lent buffer. specs/Told.antt says what each call tells; the program that reads traces and writes answers is thin above this.
-// telling and replying write answers; shows, paging and changes have a function for each op; run chooses among them.
+// lent buffer. What each call tells is said in showing; the program that reads traces and writes answers is thin above this.
+// changes has a function for each op that changes the store; run chooses among these and the ops that show something.
 pub mod changes;
-pub mod paging;
-pub mod ran;
-pub mod replying;
 pub mod run;
-pub mod shows;
-pub mod telling;
 
-pub use ran::Ran;
 pub use run::run_call;
-pub use telling::tell;
-pub use telling::tell_plain;
+pub use showing::Ran;
+pub use showing::tell;
+pub use showing::tell_plain;

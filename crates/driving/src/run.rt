@@ -4,8 +4,8 @@ ghost use lib.ListN.{length};
 ghost use Rattle.traces.specs.Args.{callOf};
 ghost use Rattle.lines.specs.View.{boxOf};
 ghost use Rattle.lines.specs.Made.{Made};
-ghost use Rattle.driving.specs.Told.{told, notRun};
-ghost use Rattle.driving.specs.Ran.{RunAsks, RanAs, RunCall, longest};
+ghost use Rattle.showing.specs.Told.{told, notRun};
+ghost use Rattle.showing.specs.Ran.{RunAsks, RanAs, RunCall, longest};
 use crate::changes::run_commit;
 use crate::changes::run_commits;
 use crate::changes::run_prewrite;
@@ -14,17 +14,9 @@ use crate::changes::run_restore;
 use crate::changes::run_rollback;
 use crate::changes::run_rollbacks;
 use crate::changes::run_step;
-use crate::paging::run_conflicts;
-use crate::paging::run_intents;
-use crate::paging::run_page;
-use crate::ran::Ran;
-use crate::shows::run_intent;
-use crate::shows::run_marks;
-use crate::shows::run_read;
-use crate::shows::run_stats;
-use crate::telling::tell_plain;
 use lines::Store;
 use rules::Answer;
+use showing::Ran;
 use traces::Args;
 use traces::Op;
 
@@ -33,25 +25,20 @@ fn not_run(store: Store, area: &[u8], out: &mut [u8]) -> Ran
     requires { ⌜ (Made store (now area)) × (longest ≤ length (now out)) ⌝ }
     ensures { λ r. ⌜ RanAs (notRun (boxOf store (now (area .entry)))) (now (out .entry)) r (now (area .entry)) (now (out .exit)) ⌝ }
 {
-    let len = tell_plain(out, Answer::No(6));
+    let len = showing::tell_plain(out, Answer::No(6));
     Ran {
         store: store,
         len: len,
     }
 }
 
-// The call that the arguments say, by its op.
+// The call that the arguments say, by its op: a function for each op that changes the store, and one for all that show something.
 fn run_args(store: Store, area: &mut [u8], call: &[u8], args: Args, out: &mut [u8]) -> Ran
     requires { ⌜ RunAsks store (now area) (now call) args (now out) ⌝ }
     ensures { λ r. ⌜ RanAs (told (callOf (now (call .entry)) args) (boxOf store (now (area .entry)))) (now (out .entry)) r (now (area .exit)) (now (out .exit)) ⌝ }
 {
     let op = args.op;
     match op {
-        Op::Read => run_read(store, area, call, args, out),
-        Op::Page => run_page(store, area, call, args, out),
-        Op::IntentPage => run_intents(store, area, call, args, out),
-        Op::ConflictingIntents => run_conflicts(store, area, call, args, out),
-        Op::OneIntent => run_intent(store, area, call, args, out),
         Op::Prewrite => run_prewrite(store, area, call, args, out),
         Op::PrewriteBatch => run_prewrites(store, area, call, args, out),
         Op::Commit => run_commit(store, area, call, args, out),
@@ -60,8 +47,7 @@ fn run_args(store: Store, area: &mut [u8], call: &[u8], args: Args, out: &mut [u
         Op::RollbackBatch => run_rollbacks(store, area, call, args, out),
         Op::OneStep => run_step(store, area, call, args, out),
         Op::Restore => run_restore(store, area, call, args, out),
-        Op::Statistics => run_stats(store, area, out),
-        Op::Marks => run_marks(store, area, out),
+        _ => showing::run_shown(store, area, call, args, out),
     }
 }
 

@@ -1,6 +1,6 @@
 -- `driving::changes::run_restore` meets its contract: the image of the arguments is restored, and its answer told as every changing call's is. Assumes nothing.
 use native.Mathlib.Nat.{add-sub-cancel-left}
-use Rattle.driving.specs.Told.{told}
+use Rattle.showing.specs.Told.{told}
 use Rattle.driving.proofs.RunLaws.{replaced}
 use borrow.Author.Needs.{needs}
 use Rattle.driving.proofs.changes.run_restore.Statement.{statement}

@@ -1,6 +1,6 @@
 -- `driving::changes::run_step` meets its contract: the one-step batch of the arguments is run, and its answer told with its count. Assumes nothing.
 use native.Mathlib.Nat.{add-sub-cancel-left}
-use Rattle.driving.specs.Told.{told}
+use Rattle.showing.specs.Told.{told}
 use Rattle.driving.proofs.RunLaws.{counted}
 use borrow.Author.Needs.{needs}
 use Rattle.driving.proofs.changes.run_step.Statement.{statement}

@@ -1,5 +1,5 @@
 -- `driving::run::not_run` meets its contract: 6 is told, and the store is as it was. Assumes nothing.
-use Rattle.driving.proofs.RunLaws.{showed}
+use Rattle.showing.proofs.ShowLaws.{showed}
 use borrow.Author.Needs.{needs}
 use native.Mathlib.Omega.{arith}
 use mathlib.Core.Path.{refl}

@@ -1,0 +1,4 @@
+pub mod TellLaws
+pub mod ReplyLaws
+pub mod PagingLaws
+pub mod ShowLaws

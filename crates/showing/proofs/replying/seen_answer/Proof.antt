@@ -1,0 +1,31 @@
+-- `showing::replying::seen_answer` meets its contract: the answer of each case of what a read answers. Assumes nothing.
+use Rattle.forms.specs.Bytes.{Bytes}
+use Rattle.rules.specs.Answers.{answerOf}
+use Rattle.reads.specs.declared.seen.Seen.{Seen}
+use Rattle.reads.specs.Seen.{seenIn}
+use borrow.Author.Needs.{needs}
+use mathlib.Core.Path.{sym, ap}
+use Rattle.showing.proofs.replying.seen_answer.Statement.{statement}
+use Rattle.showing.proofs.replying.seen_answer.Tie as tie
+
+enum-told : tie.Need-enum-told
+enum-told c = search needs
+
+enum-told-2 : tie.Need-enum-told-2
+enum-told-2 c = search needs
+
+enum-known-seen : tie.Need-enum-known-seen
+enum-known-seen c = search needs
+
+returns : tie.Need-returns
+returns c = λ (area : Bytes). ap (λ (s : Seen). answerOf (seenIn area s)) (sym ((c .enum-told) .given .1))
+
+returns-2 : tie.Need-returns-2
+returns-2 c = λ (area : Bytes). ap (λ (s : Seen). answerOf (seenIn area s)) (sym ((c .enum-told2) .given .1))
+
+returns-3 : tie.Need-returns-3
+returns-3 c = λ (area : Bytes). ap (λ (s : Seen). answerOf (seenIn area s)) (sym ((c .before .seen) .given .1))
+
+pub seen-answer-spec : {M : Type 1} → statement M
+seen-answer-spec =
+    tie.close (tie.spec enum-told enum-told-2 enum-known-seen returns returns-2 returns-3)

@@ -1,0 +1,92 @@
+-- What a call, run on a store, leaves: the store, the area, and the buffer with the answer.
+-- Assumes nothing.
+use Prim.Native.Nat.{ℕ, _≤_, _<_}
+use mathlib.Core.Path.{_≡_}
+use mathlib.Core.Bool.{Bool, true, false}
+use lib.ListN.{length}
+use Rattle.forms.specs.Bytes.{Bytes}
+use Rattle.rules.specs.Calls.{Done}
+use Rattle.calls.specs.declared.changed.Changed.{Changed}
+use Rattle.traces.specs.declared.args.Args.{Args}
+use Rattle.traces.specs.declared.op.Op.{Op}
+use Rattle.traces.specs.Calls.{call}
+use Rattle.rules.specs.Page.{Bounds}
+use Rattle.traces.specs.Args.{ArgsIn, boundOf}
+use Rattle.replies.specs.Put.{Put}
+use Rattle.lines.specs.declared.store.Store.{Store}
+use Rattle.lines.specs.View.{boxOf}
+use Rattle.lines.specs.Made.{Made}
+use Rattle.showing.specs.Told.{Told, toldOf, toldBytes, changing}
+use Rattle.showing.specs.declared.ran.Ran.{Ran}
+
+-- the store shows the box that the call leaves; the answer's bytes stand over the front of the buffer, all of them and nothing beyond, and
+-- the length is theirs
+pub record RanAs (t : Told) (out : Bytes) (r : Ran) (area′ out′ : Bytes) : Type 0 where
+  pub made : Made (r .store) area′
+  pub shown : boxOf (r .store) area′ ≡ t .box
+  pub put : Put true (toldBytes t) out (r .len) out′
+  pub within : r .len ≤ length out
+
+-- what the promise of every changing call holds, restore's and the others': the answer is the definition's, the store is made and shows the
+-- definition's box
+pub record DoneAs (d : Done) (m : Changed) (area′ : Bytes) : Type 0 where
+  pub answer-is : m .answer ≡ d .answer
+  pub made : Made (m .store) area′
+  pub shown : boxOf (m .store) area′ ≡ d .box
+
+-- whatever the definition, what it tells is told
+pub record TellsChange (m : Changed) (out : Bytes) (r : Ran) (out′ : Bytes) : Type 0 where
+  pub tells : (d : Done) (area′ : Bytes) → DoneAs d m area′ → RanAs (changing d) out r area′ out′
+
+-- nothing is run or written
+pub record Unrun (st : Store) (area out : Bytes) (r : Ran) (area′ out′ : Bytes) : Type 0 where
+  pub store-is : r .store ≡ st
+  pub area-is : area′ ≡ area
+  pub out-is : out′ ≡ out
+  pub len-is : r .len ≡ 0
+
+-- the longest answer: 29 bytes, and a lent buffer of 65,535
+abbrev pub longest : ℕ
+longest = 65564
+
+pub record RunCall (st : Store) (area s out : Bytes) (r : Ran) (area′ out′ : Bytes) : Type 0 where
+  pub ran : longest ≤ length out → RanAs (toldOf (call s) (boxOf st area)) out r area′ out′
+  pub short : length out < longest → Unrun st area out r area′ out′
+
+-- what running the arguments of a call asks
+pub record RunAsks (st : Store) (area s : Bytes) (a : Args) (out : Bytes) : Type 0 where
+  pub made : Made st area
+  pub places : ArgsIn s a
+  pub long : longest ≤ length out
+
+-- the ops that show something and leave the store as it was; the others change it
+abbrev pub shows : Op → Bool
+shows Op.Read = true
+shows Op.Page = true
+shows Op.IntentPage = true
+shows Op.ConflictingIntents = true
+shows Op.OneIntent = true
+shows Op.Prewrite = false
+shows Op.PrewriteBatch = false
+shows Op.Commit = false
+shows Op.CommitBatch = false
+shows Op.Rollback = false
+shows Op.RollbackBatch = false
+shows Op.OneStep = false
+shows Op.Restore = false
+shows Op.Statistics = true
+shows Op.Marks = true
+
+-- the bounds that the arguments of a page say
+abbrev pub boundsIn : Bytes → Args → Bounds
+boundsIn s a =
+    record {
+      from = boundOf s (a .from) (a .fromat) (a .fromlen);
+      to = boundOf s (a .to) (a .toat) (a .tolen);
+      resume = boundOf s (a .resume) (a .resumeat) (a .resumelen);
+    }
+
+-- what telling of a page asks
+pub record TellAsks (st : Store) (area s : Bytes) (a : Args) : Type 0 where
+  pub made : Made st area
+  pub places : ArgsIn s a
