@@ -1,5 +1,4 @@
--- docs/TRACE.md, the table of calls: its op bytes, and which of the calls exist. A call that does not exist yet has no line in `knownOps`,
--- here and in src/op.rt: its op is unknown.
+-- docs/TRACE.md, the table of calls: its op bytes. An op byte without a line in `knownOps`, here and in src/op.rt, is unknown.
 -- Assumes nothing.
 use Prim.Native.Nat.{ℕ}
 use mathlib.Core.Bool.{Bool, true, false, _||_}

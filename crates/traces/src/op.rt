@@ -1,5 +1,5 @@
-// The op bytes of the table of calls, and which of the calls exist. A call that does not exist yet has no line in known_op, here and in
-// specs/Ops.antt: its op is unknown, and a trace that holds it is out of form.
+// The op bytes of the table of calls. An op byte without a line in known_op, here and in specs/Ops.antt, is unknown, and a trace that holds it is
+// out of form.
 ghost use mathlib.Core.Path.{_≡_};
 ghost use Rattle.traces.specs.Ops.{knownOp, isIn};
 
