@@ -11,3 +11,4 @@ pub mod EditLaws
 pub mod DraftingLaws
 pub mod AllLaws
 pub mod BatchLaws
+pub mod SingleLaws

@@ -1,3 +1,4 @@
 pub mod Checks
 pub mod Applies
 pub mod Drafts
+pub mod Singles

@@ -8,6 +8,7 @@ pub mod heads;
 pub mod locks;
 pub mod passes;
 pub mod single;
+pub mod verdicts;
 
 pub use batch::prewrite_batch;
 pub use single::prewrite;

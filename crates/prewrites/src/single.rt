@@ -11,11 +11,14 @@ ghost use Rattle.lines.specs.Made.{Made};
 ghost use Rattle.calls.specs.Loads.{Summable};
 ghost use Rattle.calls.specs.Settled.{isAccepted, Settled};
 ghost use Rattle.prewrites.specs.Checks.{headOf, entryOf};
+ghost use Rattle.prewrites.specs.Singles.{Judged};
 use crate::checks::Seen;
 use crate::checks::check_entry;
 use crate::heads::Terms;
 use crate::heads::head_step;
-use crate::locks::lock_entry;
+use crate::locks::lock_if;
+use crate::verdicts::Verdict;
+use crate::verdicts::stays;
 use calls::Changed;
 use lines::Store;
 use rules::Answer;
@@ -48,6 +51,41 @@ fn goes(answer: Answer, added: Load) -> bool
     added.lines != 0
 }
 
+// The steps of a single entry: "transaction, start 3; primary 1; time to live 3; then per entry ..; Then 11".
+fn judge(
+    store: Store,
+    area: &[u8],
+    terms: Terms,
+    primary: &[u8],
+    key: &[u8],
+    put: bool,
+    row: &[u8],
+) -> Verdict
+    requires { ⌜ Made store (now area) ⌝ }
+    ensures { λ r. ⌜ Judged store (now (area .entry)) (headOf terms (now (primary .entry))) (entryOf (now (key .entry)) put (now (row .entry))) r ⌝ }
+{
+    let head = head_step(terms, primary);
+    if !calls::accepted(head) {
+        return stays(head);
+    }
+    let found = lines::look(store, area, key, terms.start, 0);
+    let stored = lines::find_row(store, area, key, terms.start);
+    let seen = check_entry(found, stored, area, terms, primary, key, put, row);
+    let added = seen.added;
+    let load = store.load;
+    let answer = answer_at(load, seen);
+    if !goes(answer, added) {
+        return stays(answer);
+    }
+    Verdict {
+        answer: answer,
+        goes: true,
+        first: found.first,
+        place: stored.place,
+        added: added,
+    }
+}
+
 // "Single forms .. take the steps without 6 and 5; the kind is Put or Delete, and a Delete's row argument is ignored."
 pub fn prewrite(
     store: Store,
@@ -68,37 +106,9 @@ pub fn prewrite(
         start: start,
         ttl: ttl,
     };
-    let head = head_step(terms, primary);
-    if !calls::accepted(head) {
-        return Changed {
-            store: store,
-            answer: head,
-        };
-    }
-    let found = lines::look(store, area, key, start, 0);
-    let stored = lines::find_row(store, area, key, start);
-    let seen = check_entry(found, stored, area, terms, primary, key, put, row);
-    let added = seen.added;
-    let load = store.load;
-    let answer = answer_at(load, seen);
-    if !goes(answer, added) {
-        return Changed {
-            store: store,
-            answer: answer,
-        };
-    }
-    let locked = lock_entry(
-        store,
-        area,
-        found.first,
-        stored.place,
-        terms,
-        primary,
-        key,
-        put,
-        row,
-        added,
-    );
+    let v = judge(store, area, terms, primary, key, put, row);
+    let locked = lock_if(store, area, v, terms, primary, key, put, row);
+    let answer = v.answer;
     Changed {
         store: locked,
         answer: answer,
