@@ -29,15 +29,74 @@ pub struct Case {
 }
 
 impl Case {
-    /// The input of the program: turns, how the calls are made (0: not at all), the image, and the trace.
-    pub fn input(&self, turns: u64, made: bool) -> Bytes {
+    /// What the Rust's turns read: turns, how the calls are made (0: not at all), the image, and the trace.
+    pub fn rust_input(&self, turns: u64, made: bool) -> Bytes {
+        self.input(turns, if made { self.way } else { 0 }, &write_trace(&self.calls))
+    }
+
+    /// What crates/bench reads: turns, the kind of call, the image, and the calls in the program's own form.
+    pub fn program_input(&self, turns: u64, made: bool) -> Bytes {
+        let kind = kind_of(self.way, &self.calls[0]);
+        let none = if kind < COPIED { 0 } else { COPIED };
+        let calls: Vec<Bytes> = self.calls.iter().map(asked).collect();
+        self.input(turns, if made { kind } else { none }, &calls.concat())
+    }
+
+    fn input(&self, turns: u64, kind: u8, calls: &[u8]) -> Bytes {
         let mut input = turns.to_be_bytes().to_vec();
-        input.push(if made { self.way } else { 0 });
+        input.push(kind);
         input.extend_from_slice(&(self.image.len() as u32).to_be_bytes());
         input.extend_from_slice(&self.image);
-        input.extend_from_slice(&write_trace(&self.calls));
+        input.extend_from_slice(calls);
         input
     }
+}
+
+/// From this kind on a call of crates/bench is made on a copy of the area; this one is the copy alone.
+const COPIED: u8 = 4;
+
+/// The kind of call, as crates/bench numbers it (its turns.rt).
+fn kind_of(way: u8, call: &Call) -> u8 {
+    match call {
+        Call::Read { .. } => 1,
+        Call::Page { .. } => 2,
+        Call::Statistics => 3,
+        Call::Prewrite { .. } if way == PAIRS => 7,
+        Call::Prewrite { .. } => 5,
+        Call::Commit { .. } => 6,
+        Call::Rollback { .. } => 8,
+        Call::OneStep { .. } => 9,
+        Call::Restore { .. } => 10,
+        _ => panic!("crates/bench has no such call"),
+    }
+}
+
+/// A call's arguments in the form of crates/bench (its asked.rt). A commit is one above its start, a restore takes the
+/// image of the input.
+fn asked(call: &Call) -> Bytes {
+    let none: &[u8] = &[];
+    let (numbers, parts) = match call {
+        Call::Read { moment, key } => ([*moment, 0, 0], [none, key, none]),
+        Call::Page { moment, row_limit, bounds, .. } => {
+            ([*moment, *row_limit, 0], [none, bounds.start.as_deref().unwrap_or(none), none])
+        }
+        Call::Prewrite { transaction, start, time_to_live, primary, key, row, .. } => {
+            ([*transaction, *start, *time_to_live], [&primary[..], key, row])
+        }
+        Call::Commit { transaction, start, commit, key } if *commit == start + 1 => {
+            ([*transaction, *start, 0], [none, key, none])
+        }
+        Call::Rollback { transaction, start, key } => ([*transaction, *start, 0], [none, key, none]),
+        Call::OneStep { transaction, start, commit, batch } if *commit == start + 1 => {
+            ([*transaction, *start, 0], [none, none, batch])
+        }
+        Call::Restore { .. } | Call::Statistics => ([0; 3], [none; 3]),
+        _ => panic!("crates/bench has no such call"),
+    };
+    let mut bytes = numbers.map(u64::to_be_bytes).concat();
+    parts.iter().for_each(|part| bytes.extend_from_slice(&(part.len() as u16).to_be_bytes()));
+    parts.iter().for_each(|part| bytes.extend_from_slice(part));
+    bytes
 }
 
 /// What is made for a call, each on what the one before left: the call alone, or a prewrite and its commit.

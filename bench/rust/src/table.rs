@@ -35,7 +35,6 @@ struct Times {
 /// A side, and how many turns make a run of about the time aimed at.
 struct Side<'a> {
     words: &'a [String],
-    name: &'static str,
     turns: u64,
 }
 
@@ -76,7 +75,7 @@ fn copies_table(plan: &Plan, counter: &str) -> Result<(), String> {
     println!("|---|---|---|---|");
     for case in SIZES.into_iter().flat_map(cases).filter(|case| case.name.contains(&plan.only)) {
         let count = |made| {
-            let path = written(plan, &case, "copies", 10, made)?;
+            let path = written(plan, &plan.program, &case, 10, made)?;
             copies(&plan.program, &path, counter)
         };
         let ([copies, bytes], [other, more]) = (count(true)?, count(false)?);
@@ -89,12 +88,12 @@ fn copies_table(plan: &Plan, counter: &str) -> Result<(), String> {
 fn one_row(plan: &Plan, case: &Case) -> Result<[Times; 2], String> {
     let expected = expected(case);
     rust_agrees(case, &expected)?;
-    let (output, _) = once(plan, &plan.program, case, "check", 3, true)?;
+    let (output, _) = once(plan, &plan.program, case, 3, true)?;
     program_agrees(&expected, 3, &output)?;
-    let (output, _) = once(plan, &plan.rust, case, "check", 3, true)?;
+    let (output, _) = once(plan, &plan.rust, case, 3, true)?;
     turns_agree(&expected, 3, &output)?;
     let mut sides =
-        [Side { words: &plan.program, name: "rattle", turns: 1 }, Side { words: &plan.rust, name: "rust", turns: 1 }];
+        [Side { words: &plan.program, turns: 1 }, Side { words: &plan.rust, turns: 1 }];
     for side in &mut sides {
         side.turns = enough(plan, side, case)?;
     }
@@ -112,26 +111,30 @@ fn once(
     plan: &Plan,
     words: &[String],
     case: &Case,
-    name: &str,
     turns: u64,
     made: bool,
 ) -> Result<(Vec<u8>, u64), String> {
-    run(words, &written(plan, case, name, turns, made)?)
+    run(words, &written(plan, words, case, turns, made)?)
 }
 
 /// The input, written to a file.
-fn written(plan: &Plan, case: &Case, name: &str, turns: u64, made: bool) -> Result<String, String> {
+fn written(plan: &Plan, words: &[String], case: &Case, turns: u64, made: bool) -> Result<String, String> {
+    let (name, input) = if words == plan.program {
+        ("rattle", case.program_input(turns, made))
+    } else {
+        ("rust", case.rust_input(turns, made))
+    };
     let path = Path::new(&plan.folder).join(name);
-    fs::write(&path, case.input(turns, made)).map_err(|error| format!("{}: {error}", path.display()))?;
+    fs::write(&path, input).map_err(|error| format!("{}: {error}", path.display()))?;
     Ok(path.to_string_lossy().into_owned())
 }
 
 /// The turns that take about the time aimed at.
 fn enough(plan: &Plan, side: &Side, case: &Case) -> Result<u64, String> {
-    let (_, start) = once(plan, side.words, case, side.name, 0, true)?;
+    let (_, start) = once(plan, side.words, case, 0, true)?;
     let mut turns = 1;
     loop {
-        let (_, time) = once(plan, side.words, case, side.name, turns, true)?;
+        let (_, time) = once(plan, side.words, case, turns, true)?;
         let time = time.saturating_sub(start);
         if time * 8 > plan.aim {
             return Ok((turns * plan.aim / time).max(1));
@@ -142,8 +145,8 @@ fn enough(plan: &Plan, side: &Side, case: &Case) -> Result<u64, String> {
 
 /// Nanoseconds a call: the turns with their calls, less the same turns without.
 fn one_run(plan: &Plan, side: &Side, case: &Case) -> Result<f64, String> {
-    let (_, with) = once(plan, side.words, case, side.name, side.turns, true)?;
-    let (_, without) = once(plan, side.words, case, side.name, side.turns, false)?;
+    let (_, with) = once(plan, side.words, case, side.turns, true)?;
+    let (_, without) = once(plan, side.words, case, side.turns, false)?;
     Ok((with as f64 - without as f64) / (side.turns * case.calls.len() as u64) as f64)
 }
 

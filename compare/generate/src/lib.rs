@@ -11,6 +11,7 @@ mod looks;
 mod maker;
 pub mod named;
 pub mod random;
+pub mod repacks;
 mod room;
 mod stock;
 mod writes;
@@ -66,6 +67,8 @@ pub enum Kind {
     Room,
     /// All four rooms full, or an image far beyond, of more than 65,535 bytes.
     Large,
+    /// A box filled by calls alone until its area is packed anew.
+    Repacks,
     /// A fault in the trace's own form.
     Damaged,
     /// A trace at an edge of its form.
@@ -89,10 +92,12 @@ pub fn kind_of(seed: u64) -> Kind {
 }
 
 /// The trace of a seed. A full box costs a driver as much time as thousands of reads and shows restore alone, so where
-/// images are what is read, most of these give way to small ones.
+/// images are what is read, most of these give way to small ones. One large box in four is made by calls alone and packs
+/// its area anew.
 pub fn trace(seed: u64, ops: Ops) -> Bytes {
     let kind = match kind_of(seed) {
         Kind::Room | Kind::Large if ops.reads_images() && !seed.is_multiple_of(8) => Kind::Odd,
+        Kind::Large if ops == Ops::all() && seed.is_multiple_of(4) => Kind::Repacks,
         kind => kind,
     };
     trace_of(kind, seed, ops)
@@ -123,6 +128,7 @@ pub fn trace_of(kind: Kind, seed: u64, ops: Ops) -> Bytes {
         }
         Kind::Room => room(&mut maker),
         Kind::Large => large(&mut maker),
+        Kind::Repacks => return repacks::trace(&mut maker.random),
         Kind::Damaged => {
             if maker.random.percent(50) {
                 let restore = maker.sound_restore();

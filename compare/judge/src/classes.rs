@@ -1,19 +1,23 @@
 //! The named classes into which every difference between the paper and mvcc.rs falls. docs/DIFFERENCES.md has the same
 //! names, with the paper's sentence and which side says what.
 //!
-//! A class is given only where the store before the call holds what the class is about; a difference without such a
-//! store has no name and fails the comparison.
+//! A class is one rule of the Rust, given as a bend of the paper's. A difference falls into it only if the paper with that
+//! rule, from the same store, says just what the Rust said and leaves just the store that the Rust left, without it does
+//! not, and itself says what the class says. So the store before the call holds what the class is about, and both sides
+//! answer as the class says; any other difference has no name and fails the comparison.
 
-use paper::answer::{Answer, HISTORY, IMAGE, NO_ROOM};
-use paper::form::{Entry, key_batch, key_in_form, mutation_batch, row_in_form};
-use paper::restore::Image;
-use paper::store::{Bytes, Kind, Store};
+use paper::answer::Answer;
+use paper::bend::{Bend, with_bends};
+use paper::run::run_call;
+use paper::store::Store;
 use paper::trace::Call;
+use ragnor::engine::Engine;
 
-use crate::rust_side::Outcome;
+use crate::one::agrees;
+use crate::rust_side::{Outcome, beyond_room, same_state};
 
 macro_rules! classes {
-    ($($name:ident $word:literal $text:literal;)*) => {
+    ($($name:ident $word:literal $bend:ident [$($number:literal)*] $text:literal;)*) => {
         #[derive(Clone, Copy, Debug, PartialEq, Eq, PartialOrd, Ord)]
         pub enum Class { $($name,)* }
 
@@ -29,33 +33,45 @@ macro_rules! classes {
             pub fn text(self) -> &'static str {
                 match self { $(Class::$name => $text,)* }
             }
+
+            /// The Rust's rule.
+            fn bend(self) -> Bend {
+                match self { $(Class::$name => Bend::$bend,)* }
+            }
+
+            /// What the paper says to an entry of this class, 0 also where it goes on.
+            fn numbers(self) -> &'static [u8] {
+                match self { $(Class::$name => &[$($number),*],)* }
+            }
         }
     };
 }
 
 classes! {
-    Room "room" "paper 11, Rust Ok: the Rust has no rooms";
-    StampAtStart "stamp-at-start"
+    Room "room" RoomUnjudged [11]
+        "paper 11, Rust Ok: the Rust has no rooms";
+    StampAtStart "stamp-at-start" RustStampAtStart [8]
         "paper 8, Rust goes on: a Put or Delete record stamped with the start itself is no conflict to it";
-    RollbackAbove "rollback-above-start"
+    RollbackAbove "rollback-above-start" RustRollbackAbove [8]
         "paper 8, Rust goes on: a Rollback record stamped above the start is no conflict to it";
-    DefaultFirst "default-judged-first"
+    DefaultFirst "default-judged-first" RustDefaultFirst [0 7 8 11]
         "Rust CorruptData, paper goes on: validate_mutation as shown judges a default at the start before all else";
-    CommitTaken "commit-stamp-taken"
+    CommitTaken "commit-stamp-taken" RustCommitTaken [7 8]
         "Rust CorruptData, paper 7 or 8: another start's record stands at the commit (commit of intents)";
-    TwoRecords "two-records-of-one-start"
+    TwoRecords "two-records-of-one-start" RustCommitTwoRecords [0 8]
         "Rust CorruptData, paper 0 or 8: a second record of this start stands beside the one at the commit";
-    DeleteReplay "replayed-delete-with-default"
+    DeleteReplay "replayed-delete-with-default" ReplayDeleteDefaultRefused [0]
         "Rust CorruptData, paper 0: a committed Delete is replayed while a default stands at its start";
-    DefaultBeforeHistory "default-before-history"
+    DefaultBeforeHistory "default-before-history" RustCommitRowFirst [8]
         "Rust CorruptData, paper 8: the lock's default is judged before the records";
-    RecordBetween "record-between-start-and-commit"
+    RecordBetween "record-between-start-and-commit" RustCommitBetween [0]
         "Rust WriteConflict, paper 0: a Put or Delete stamped above the start and below the commit";
-    HolderForHistory "lock-named-for-history"
+    HolderForHistory "lock-named-for-history" RustCommitHolderFirst [8]
         "both WriteConflict; the Rust's text names another's lock (7) where the paper says 8";
-    OneStepTaken "one-step-stamp-taken"
+    OneStepTaken "one-step-stamp-taken" OneStepOccupied9 [7 8]
         "Rust CorruptData, paper 7 or 8: another start's record stands at the commit (one-step batch)";
-    EmptyTableZero "empty-table-zero" "paper 13, Rust Ok: an image of table 0 without entries";
+    EmptyTableZero "empty-table-zero" ImageTableZero [13]
+        "paper 13, Rust Ok: an image of table 0 without entries";
 }
 
 /// Which of the two Rusts: with validate_mutation as shown, or written from document 01.
@@ -65,145 +81,42 @@ pub enum Rust {
     FromPaper,
 }
 
-/// What a changing call is about, taken out of its arguments.
-struct Changing {
-    transaction: u64,
-    start: u64,
-    commit: u64,
-    keys: Vec<Bytes>,
-    entries: Vec<Entry>,
-}
-
-/// The class of a difference, if it has one: the store before the call, the call, and what each side said.
-pub fn class_of(rust: Rust, before: &Store, call: &Call, paper: &Answer, said: &Outcome) -> Option<Class> {
-    let accepted = matches!(said, Outcome::Accepted { .. });
-    let corrupt = *said == Outcome::CorruptData;
-    if let Call::Restore { image } = call {
-        let image = Image::read(image)?;
-        let empty = image.defaults.is_empty() && image.locks.is_empty() && image.writes.is_empty();
-        return match paper.number {
-            NO_ROOM if accepted => Some(Class::Room),
-            IMAGE if accepted && image.table == 0 && empty => Some(Class::EmptyTableZero),
-            _ => None,
-        };
-    }
-    let about = changing(call)?;
-    let any = |holds: &dyn Fn(&Bytes) -> bool| about.keys.iter().any(holds);
-    if rust == Rust::Shown && corrupt && default_at_fault(before, &about) {
-        return Some(Class::DefaultFirst);
-    }
-    let class = match call.op() {
-        6 | 7 | 12 => {
-            let taken = any(&|key| before.record_at(key, about.commit).is_some_and(|at| at.start != about.start));
-            if call.op() == 12 && corrupt && taken {
-                Some(Class::OneStepTaken)
-            } else if paper.number == HISTORY && any(&|key| stamp_at_start(before, &about, key)) {
-                Some(Class::StampAtStart)
-            } else if paper.number == HISTORY && any(&|key| rollback_above(before, &about, key)) {
-                Some(Class::RollbackAbove)
-            } else {
-                None
-            }
-        }
-        8 | 9 => commit_class(before, &about, paper, said),
-        _ => None,
+/// The class of a difference, if it has one: the store before the call, the call, what each side said, and the Rust as the
+/// call left it.
+pub fn class_of<E: Engine>(
+    rust: Rust,
+    before: &Store,
+    call: &Call,
+    paper: &Answer,
+    said: &Outcome,
+    engine: &E,
+) -> Option<Class> {
+    let explains = |rules: &[Bend]| {
+        let mut store = before.clone();
+        let answer = with_bends(rules, || run_call(&mut store, call));
+        agrees(call, &answer, said) && same_state(engine, &store)
     };
-    class.or((paper.number == NO_ROOM && accepted).then_some(Class::Room))
-}
-
-fn commit_class(before: &Store, about: &Changing, paper: &Answer, said: &Outcome) -> Option<Class> {
-    let Changing { transaction, start, commit, .. } = *about;
-    let corrupt = *said == Outcome::CorruptData;
-    let any = |holds: &dyn Fn(&Bytes) -> bool| about.keys.iter().any(holds);
-    let records_of_start = |key: &Bytes| before.records_of(key).filter(|(_, record)| record.start == start).count();
-    if corrupt && any(&|key| before.record_at(key, commit).is_some_and(|at| at.start != start)) {
-        return Some(Class::CommitTaken);
-    }
-    let replayed = |key: &Bytes| before.record_at(key, commit).filter(|at| at.start == start).map(|at| at.kind);
-    if corrupt && any(&|key| replayed(key).is_some() && records_of_start(key) > 1) {
-        return Some(Class::TwoRecords);
-    }
-    let stored = |key: &Bytes| before.default_at(key, start);
-    if corrupt && any(&|key| replayed(key) == Some(Kind::Delete) && stored(key).is_some()) {
-        return Some(Class::DeleteReplay);
-    }
-    let own = |key: &Bytes| before.lock_of(key).filter(|lock| lock.own(transaction, start));
-    let row_at_fault = |key: &Bytes| match own(key).map(|lock| lock.kind) {
-        Some(Kind::Put) => !stored(key).is_some_and(|row| row_in_form(row)),
-        Some(Kind::Delete) => stored(key).is_some(),
-        _ => false,
+    // Where the paper goes on, a later entry of the batch may be refused for what the Rust never came to.
+    let fits = |class: &Class| {
+        let numbers = class.numbers();
+        numbers.contains(&paper.number) || numbers.contains(&0) && matches!(call.op(), 7 | 9 | 12)
     };
-    if corrupt && paper.number == HISTORY && any(&|key| row_at_fault(key)) {
-        return Some(Class::DefaultBeforeHistory);
+    // The Rust has no rooms in any call: where that alone explains it, its own state must be beyond one of them.
+    let mut rules = vec![Class::Room.bend()];
+    if explains(&rules) {
+        return (fits(&Class::Room) && beyond_room(engine)).then_some(Class::Room);
     }
-    let between = |key: &Bytes| {
-        own(key).is_some()
-            && before.records_of(key).any(|(stamp, record)| stamp > start && record.kind != Kind::Rollback)
-    };
-    if *said == Outcome::Conflict && paper.number != HISTORY && any(&|key| between(key)) {
-        return Some(Class::RecordBetween);
+    // As shown, it judges a default first in any call.
+    if rust == Rust::Shown {
+        rules.push(Class::DefaultFirst.bend());
+        if explains(&rules) {
+            return Some(Class::DefaultFirst).filter(fits);
+        }
     }
-    let others = |key: &Bytes| before.lock_of(key).is_some_and(|lock| !lock.own(transaction, start));
-    let held = matches!(said, Outcome::Held { .. });
-    if held && paper.number == HISTORY && any(&|key| others(key) && records_of_start(key) > 0) {
-        return Some(Class::HolderForHistory);
-    }
-    None
-}
-
-/// A Put or Delete record stamped with the start itself.
-fn stamp_at_start(before: &Store, about: &Changing, key: &[u8]) -> bool {
-    before.record_at(key, about.start).is_some_and(|at| at.kind != Kind::Rollback)
-}
-
-/// A Rollback record stamped above the start.
-fn rollback_above(before: &Store, about: &Changing, key: &[u8]) -> bool {
-    before.records_of(key).any(|(stamp, record)| stamp > about.start && record.kind == Kind::Rollback)
-}
-
-/// An entry in form with a default at the start: of another row for a Put, of any for a Delete.
-fn default_at_fault(before: &Store, about: &Changing) -> bool {
-    about.entries.iter().filter(|entry| key_in_form(&entry.key)).any(|entry| {
-        let stored = before.default_at(&entry.key, about.start);
-        match entry.kind {
-            Kind::Put => stored.is_some_and(|row| *row != entry.row),
-            _ => stored.is_some(),
-        }
-    })
-}
-
-fn changing(call: &Call) -> Option<Changing> {
-    let of_entries = |transaction: &u64, start: &u64, commit: &u64, entries: Vec<Entry>| Changing {
-        transaction: *transaction,
-        start: *start,
-        commit: *commit,
-        keys: entries.iter().map(|entry| entry.key.clone()).collect(),
-        entries,
-    };
-    let of_keys = |transaction: &u64, start: &u64, commit: &u64, keys: Vec<Bytes>| Changing {
-        transaction: *transaction,
-        start: *start,
-        commit: *commit,
-        keys,
-        entries: Vec::new(),
-    };
-    Some(match call {
-        Call::Prewrite { transaction, start, kind, key, row, .. } => {
-            let entry = Entry { key: key.clone(), kind: *kind, row: row.clone() };
-            of_entries(transaction, start, &0, vec![entry])
-        }
-        Call::PrewriteBatch { transaction, start, batch, .. } => {
-            of_entries(transaction, start, &0, mutation_batch(batch)?)
-        }
-        Call::OneStep { transaction, start, commit, batch } => {
-            of_entries(transaction, start, commit, mutation_batch(batch)?)
-        }
-        Call::Commit { transaction, start, commit, key } => of_keys(transaction, start, commit, vec![key.clone()]),
-        Call::CommitBatch { transaction, start, commit, batch } => {
-            of_keys(transaction, start, commit, key_batch(batch)?)
-        }
-        Call::Rollback { transaction, start, key } => of_keys(transaction, start, &0, vec![key.clone()]),
-        Call::RollbackBatch { transaction, start, batch } => of_keys(transaction, start, &0, key_batch(batch)?),
-        _ => return None,
-    })
+    let with = |classes: &[Class]| [&rules[..], &classes.iter().map(|class| class.bend()).collect::<Vec<_>>()].concat();
+    let mut others = Class::ALL.iter().copied().filter(|class| !matches!(class, Class::Room | Class::DefaultFirst));
+    let one = others.find(|class| fits(class) && explains(&with(&[*class])));
+    // Both may stand in the way of one call: a record stamped with the start, and a Rollback above it.
+    let two = [Class::StampAtStart, Class::RollbackAbove];
+    one.or_else(|| two.iter().copied().find(|class| fits(class) && explains(&with(&two))))
 }

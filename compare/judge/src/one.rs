@@ -5,16 +5,14 @@ use std::collections::BTreeMap;
 use std::time::{Duration, Instant};
 
 use generate::Ops;
-use generate::batch::{key_bytes, mutation_bytes};
-use paper::answer::{Answer, BATCH, CONTRADICTION, HISTORY, IMAGE, LOCKED, NO_ROOM, SHORT_BUFFER};
-use paper::form::{key_batch, mutation_batch};
+use paper::answer::{Answer, BATCH, CONTRADICTION, HISTORY, IMAGE, LOCKED, SHORT_BUFFER};
 use paper::run::run_call;
 use paper::store::{Bytes, Store};
 use paper::trace::{Call, read_trace};
 use ragnor::engine::Engine;
 
 use crate::classes::{Class, Rust, class_of};
-use crate::rust_side::{Outcome, run_rust, same_state, set_state};
+use crate::rust_side::{Outcome, beyond_room, run_rust, same_state, set_state};
 use crate::{shrink, words};
 
 /// One difference: at which call, what each side said, and its class if it has one.
@@ -32,7 +30,7 @@ pub struct Difference {
 /// names the holder exactly for 7. Of ours, a row out of form (2) is InvalidArgument, a batch not in form (6) makes no
 /// call, a short buffer (12) has the Rust give a page longer than the buffer; where there is no room (11) the Rust
 /// says Ok, which is a difference of the class `room`.
-fn agrees(call: &Call, paper: &Answer, said: &Outcome) -> bool {
+pub fn agrees(call: &Call, paper: &Answer, said: &Outcome) -> bool {
     let buffer = match call {
         Call::Page { buffer, .. } | Call::IntentPage { buffer, .. } | Call::Conflicting { buffer, .. } => Some(*buffer),
         _ => None,
@@ -62,51 +60,15 @@ fn differences_with<E: Engine>(rust: Rust, calls: &[Call], found: &mut Vec<Diffe
         let said = run_rust(&mut engine, call);
         let agreed = agrees(call, &paper, &said);
         let same = same_state(&engine, &store);
-        if agreed && same {
+        // The Rust has no rooms; where its state is the paper's, the paper's is judged by it.
+        if agreed && same && !beyond_room(&engine) {
             continue;
         }
-        // A state that differs although the answers agree has no class.
-        let class = if agreed { None } else { class_by_entry::<E>(rust, &before, call, &paper, &said) };
+        // A state that differs although the answers agree has no class, and none that is beyond a room.
+        let class = if agreed { None } else { class_of(rust, &before, call, &paper, &said, &engine) };
         found.push(Difference { rust, at, paper, said, class });
         set_state(&mut engine, &store);
     }
-}
-
-/// The class of a difference. Prewrite and commit take a batch entry by entry, so there the class is that of the first
-/// entry that differs alone, from the same state; otherwise an entry that a class is about could hide a fault in
-/// another. Only room is a matter of the whole batch. A one-step batch is judged in passes over all entries, where a
-/// step that one side leaves out or adds at an entry can let another entry answer first: it is classed as a whole.
-fn class_by_entry<E: Engine>(rust: Rust, before: &Store, call: &Call, paper: &Answer, said: &Outcome) -> Option<Class> {
-    let whole = class_of(rust, before, call, paper, said);
-    let alone = entries_alone(call);
-    if alone.len() < 2 || call.op() == 12 {
-        return whole;
-    }
-    let first = alone.iter().find_map(|call| {
-        let mut store = before.clone();
-        let mut engine = E::default();
-        set_state(&mut engine, before);
-        let paper = run_call(&mut store, call);
-        let said = run_rust(&mut engine, call);
-        let differs = !agrees(call, &paper, &said) && paper.number != NO_ROOM;
-        differs.then(|| class_of(rust, before, call, &paper, &said))
-    });
-    first.unwrap_or(whole.filter(|class| *class == Class::Room))
-}
-
-/// The call once for each entry of its batch, with that entry alone; none if it has no batch in form.
-fn entries_alone(call: &Call) -> Vec<Call> {
-    let batches: Vec<Bytes> = match call {
-        Call::PrewriteBatch { batch, .. } | Call::OneStep { batch, .. } => {
-            let entries = mutation_batch(batch).unwrap_or_default();
-            entries.into_iter().map(|entry| mutation_bytes(&[entry])).collect()
-        }
-        Call::CommitBatch { batch, .. } | Call::RollbackBatch { batch, .. } => {
-            key_batch(batch).unwrap_or_default().into_iter().map(|key| key_bytes(&[key])).collect()
-        }
-        _ => Vec::new(),
-    };
-    batches.into_iter().map(|batch| shrink::with_batch(call, batch)).collect()
 }
 
 pub fn differences(calls: &[Call]) -> Vec<Difference> {

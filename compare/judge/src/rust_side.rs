@@ -6,6 +6,7 @@ use std::collections::BTreeMap;
 use paper::form::{key_batch, mutation_batch};
 use paper::page::Bounds;
 use paper::restore::Image;
+use paper::room::{DEFAULTS, LINES, LIVE_BYTES, LOCKS};
 use paper::store::{Bytes, Kind, Lock, Store};
 use paper::trace::Call;
 use ragnor::engine::{Batch, Engine, Entries, Intent, Page, Range};
@@ -238,6 +239,21 @@ pub fn same_state<E: Engine>(engine: &E, store: &Store) -> bool {
                     .zip(records)
                     .all(|((at, write), (stamp, record))| at.0 == *stamp && *write == rust_record(record))
         })
+}
+
+/// Does the Rust's own state exceed one of the four rooms? Counted here, by document 01's "Room": "At most 1,024 lines
+/// (locks plus records), 256 locks, 1,024 defaults, 49,152 live bytes. Live bytes: for a default, key plus row; a lock, key
+/// plus primary; a record, key."
+pub fn beyond_room<E: Engine>(engine: &E) -> bool {
+    let (defaults, locks, writes) = engine.maps();
+    let rows = || defaults.iter().flat_map(|(key, chain)| chain.values().map(move |row| key.len() + row.len()));
+    let locked = locks.iter().map(|(key, lock)| key.len() + lock.primary_key.len());
+    let records = || writes.iter().flat_map(|(key, chain)| chain.values().map(move |_| key.len()));
+    let live_bytes: usize = rows().chain(locked).chain(records()).sum();
+    locks.len() + records().count() > LINES
+        || locks.len() > LOCKS
+        || rows().count() > DEFAULTS
+        || live_bytes > LIVE_BYTES
 }
 
 /// Sets the Rust to the paper's state.

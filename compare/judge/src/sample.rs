@@ -1,9 +1,11 @@
-//! The fixed sample: traces and the paper's answers, to be replayed where no Rust is at hand.
+//! The fixed sample: traces and the paper's answers, in the files that a program of the repository is tested by, so that
+//! the driver run on its `stdin` with the argument `many` must write its `stdout`.
 
 use std::collections::BTreeMap;
 use std::path::Path;
 
-use generate::{Ops, named};
+use generate::{Ops, named, repacks};
+use paper::area;
 use paper::bend::{Bend, Reach};
 use paper::run::run_trace;
 use paper::store::Bytes;
@@ -19,7 +21,7 @@ const TRIED: u64 = 3_000;
 const WANTED: u64 = 2;
 /// Short traces are tried first, so that long ones are taken only for what needs them.
 const SIZES: [usize; 3] = [3_000, 20_000, 70_000];
-/// The whole sample stays below this.
+/// What is drawn for the sample stays below this.
 const MOST_OF_ALL: usize = 1_400_000;
 
 /// What the sample has so far.
@@ -33,12 +35,12 @@ struct Sample {
 }
 
 impl Sample {
-    /// Takes the trace if it shows something of which the sample has too little, or if it must be in; none longer with
-    /// its answers than this.
-    fn offer(&mut self, trace: Bytes, must: bool, longest: usize) {
+    /// Takes the trace if it shows something of which the sample has too little and is no longer with its answers than
+    /// this; or if it must be in, for which no length is given.
+    fn offer(&mut self, trace: Bytes, longest: Option<usize>) {
         let straight = answers_of(&trace);
         let size = trace.len() + straight.len() + 4;
-        if size > longest || self.bytes + size > MOST_OF_ALL {
+        if longest.is_some_and(|longest| size > longest || self.bytes + size > MOST_OF_ALL) {
             return;
         }
         let pairs = pairs(&trace);
@@ -51,7 +53,7 @@ impl Sample {
             .filter(|(_, bend)| notices(**bend, &trace, &straight))
             .map(|(at, _)| at)
             .collect();
-        if !must && !new_answer && noticed.is_empty() {
+        if longest.is_some() && !new_answer && noticed.is_empty() {
             return;
         }
         self.calls += pairs.len() as u64;
@@ -68,28 +70,34 @@ fn pairs(trace: &[u8]) -> Vec<(u8, u8)> {
     ops.into_iter().zip(run_trace(trace)).map(|(op, answer)| (op, answer.number)).collect()
 }
 
-/// Writes traces.bin, answers.bin and contents.txt into the folder; false if that fails or something is not covered.
+/// Writes the traces to `stdin` and the answers to `stdout` of the folder, and says what is in them; false if that fails
+/// or something is not covered.
 pub fn write(folder: &str, ops: Ops) -> bool {
     let mut sample = Sample::default();
     for (_, calls) in named::cases() {
         if calls.iter().all(|call| ops.has(call.op())) {
-            sample.offer(write_trace(&calls), true, MOST_OF_ALL);
+            sample.offer(write_trace(&calls), None);
         }
     }
     for longest in SIZES {
         for number in 0..TRIED {
             // With every full box: a sample may take its time.
             let seed = SEED + number;
-            sample.offer(generate::trace_of(generate::kind_of(seed), seed, ops), false, longest);
+            sample.offer(generate::trace_of(generate::kind_of(seed), seed, ops), Some(longest));
+        }
+    }
+    // Last, so that what the drawn traces are taken for does not hang on them.
+    for (_, calls) in repacks::cases() {
+        if calls.iter().all(|call| ops.has(call.op())) {
+            sample.offer(write_trace(&calls), None);
         }
     }
     let answers: Bytes = sample.traces.iter().flat_map(|trace| answers_of(trace)).collect();
     let contents = contents(&sample, answers.len());
     let folder = Path::new(folder);
     let written = std::fs::create_dir_all(folder)
-        .and_then(|()| std::fs::write(folder.join("traces.bin"), many_form(&sample.traces)))
-        .and_then(|()| std::fs::write(folder.join("answers.bin"), &answers))
-        .and_then(|()| std::fs::write(folder.join("contents.txt"), &contents));
+        .and_then(|()| std::fs::write(folder.join("stdin"), many_form(&sample.traces)))
+        .and_then(|()| std::fs::write(folder.join("stdout"), &answers));
     print!("{contents}");
     match written {
         Ok(()) => ops != Ops::all() || uncovered(&sample).is_empty(),
@@ -109,7 +117,7 @@ fn uncovered(sample: &Sample) -> Vec<Bend> {
 
 fn contents(sample: &Sample, answers: usize) -> String {
     let mut text = format!(
-        "{} traces, {} calls, {} bytes of traces.bin, {answers} bytes of answers.bin\n",
+        "{} traces, {} calls, {} bytes of stdin, {answers} bytes of stdout\n",
         sample.traces.len(),
         sample.calls,
         many_form(&sample.traces).len(),
@@ -122,6 +130,12 @@ fn contents(sample: &Sample, answers: usize) -> String {
     for (op, numbers) in of_op {
         text += &format!("  op {op}: {}\n", numbers.join(", "));
     }
+    let mut packed: BTreeMap<u8, u64> = BTreeMap::new();
+    for op in sample.traces.iter().flat_map(|trace| area::repacks(trace)) {
+        *packed.entry(op).or_default() += 1;
+    }
+    let packed: Vec<String> = packed.iter().map(|(op, count)| format!("op {op} x{count}")).collect();
+    text += &format!("calls that pack the area anew: {}\n", packed.join(", "));
     let missing = uncovered(sample);
     text += &format!("bent rules noticed: {} of {}", sample.bends.len(), sample.bends.len() + missing.len());
     if !missing.is_empty() {
@@ -133,8 +147,8 @@ fn contents(sample: &Sample, answers: usize) -> String {
 /// Replays a sample with a driver; false if a byte differs.
 pub fn check(folder: &str, driver: &Driver) -> bool {
     let folder = Path::new(folder);
-    let files = std::fs::read(folder.join("traces.bin"))
-        .and_then(|traces| Ok((traces, std::fs::read(folder.join("answers.bin"))?)));
+    let files =
+        std::fs::read(folder.join("stdin")).and_then(|traces| Ok((traces, std::fs::read(folder.join("stdout"))?)));
     let (traces, answers) = match files {
         Ok(files) => files,
         Err(error) => {

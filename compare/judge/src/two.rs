@@ -8,6 +8,7 @@ use std::time::{Duration, Instant};
 
 use generate::Ops;
 use paper::answer::Answer;
+use paper::form::Reader;
 use paper::run::run_trace;
 use paper::store::Bytes;
 use paper::trace::read_trace;
@@ -141,6 +142,17 @@ pub fn many_form(traces: &[Bytes]) -> Bytes {
         out.extend_from_slice(trace);
     }
     out
+}
+
+/// The traces that `many` would take, or none if the lengths do not read.
+pub fn traces_of(input: &[u8]) -> Option<Vec<&[u8]>> {
+    let mut reader = Reader::new(input);
+    let mut traces = Vec::new();
+    while reader.ended().is_none() {
+        let length = reader.four()? as usize;
+        traces.push(reader.take(length)?);
+    }
+    Some(traces)
 }
 
 /// Which traces are run, and where the smallest that differs is kept.

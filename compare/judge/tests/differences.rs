@@ -1,13 +1,14 @@
-//! The smallest input of each class in docs/DIFFERENCES.md: exactly one call differs, in that class, and each side says
-//! what the document says. Table 1, key a, row 00 00, transaction 7, primary a, time to live 1 where unsaid.
+//! The inputs of each class in docs/DIFFERENCES.md: exactly one call differs, in that class, and each side says what the
+//! document says. Table 1, key a, row 00 00, transaction 7, primary a, time to live 1 where unsaid.
 
 use generate::batch::mutation_bytes;
 use judge::classes::{Class, Rust};
 use judge::one::differences;
-use judge::rust_side::Outcome;
+use judge::rust_side::{Outcome, run_rust, set_state};
 use paper::form::Entry;
 use paper::restore::{Image, RawLock, RawRecord};
-use paper::store::Kind;
+use paper::run::run_call;
+use paper::store::{Kind, Lock, Record, Store};
 use paper::trace::Call;
 
 fn a() -> Vec<u8> {
@@ -94,12 +95,44 @@ fn rollback_above_start() {
     both_differ(&[rollback(11), one_step(7, 12, Kind::Delete, &[])], Class::RollbackAbove, 8, "Ok");
 }
 
+/// The Rust goes on past the Rollback, and then its later steps answer.
+#[test]
+fn rollback_above_start_goes_on_to_another_refusal() {
+    let locked = "WriteConflict (row is locked)";
+    let held = [rollback(5), prewrite(9, 6, Kind::Delete, &[]), prewrite(2, 4, Kind::Delete, &[])];
+    both_differ(&held, Class::RollbackAbove, 8, locked);
+    assert!(differences(&held).iter().all(|found| found.said == Outcome::Held { transaction: 9, start: 6 }));
+
+    let b = [&a()[..4], b"b"].concat();
+    let delete = |key| Entry { key, kind: Kind::Delete, row: vec![] };
+    let (primary, key) = (a(), b.clone());
+    let other =
+        Call::Prewrite { transaction: 1, start: 3, time_to_live: 1, kind: Kind::Delete, primary, key, row: vec![] };
+    let batch = mutation_bytes(&[delete(a()), delete(b)]);
+    let one_step = Call::OneStep { transaction: 2, start: 4, commit: 6, batch };
+    let later_entry = [rollback(9), other, one_step];
+    both_differ(&later_entry, Class::RollbackAbove, 8, locked);
+    assert!(differences(&later_entry).iter().all(|found| found.said == Outcome::Held { transaction: 1, start: 3 }));
+}
+
+/// The same past a Put or Delete stamped with the start, and past both.
+#[test]
+fn stamp_at_start_goes_on_to_another_refusal() {
+    let locked = "WriteConflict (row is locked)";
+    let at_start = [one_step(10, 12, Kind::Delete, &[]), prewrite(9, 13, Kind::Delete, &[])];
+    let held = [&at_start[..], &[prewrite(2, 12, Kind::Delete, &[])]].concat();
+    both_differ(&held, Class::StampAtStart, 8, locked);
+    let both = [one_step(10, 12, Kind::Delete, &[]), rollback(14), prewrite(7, 12, Kind::Delete, &[])];
+    both_differ(&both, Class::StampAtStart, 8, "Ok");
+}
+
 #[test]
 fn default_judged_first() {
     let corrupt = Some("CorruptData");
     let held = || prewrite(7, 10, Kind::Put, &[0, 0]);
     let other_row = &[0, 1, 0];
     differs(&[held(), prewrite(8, 10, Kind::Put, other_row)], Class::DefaultFirst, 7, corrupt, None);
+    differs(&[held(), prewrite(8, 10, Kind::Delete, &[])], Class::DefaultFirst, 7, corrupt, None);
     differs(&[held(), one_step(10, 12, Kind::Put, other_row)], Class::DefaultFirst, 0, corrupt, None);
     let committed = [held(), commit(10, 12), prewrite(7, 10, Kind::Put, other_row)];
     differs(&committed, Class::DefaultFirst, 8, corrupt, None);
@@ -119,6 +152,8 @@ fn commit_stamp_taken() {
     both_differ(&[rollback(12), commit(8, 12)], Class::CommitTaken, 8, "CorruptData");
     let held = prewrite(8, 13, Kind::Delete, &[]);
     both_differ(&[rollback(12), held, commit(8, 12)], Class::CommitTaken, 7, "CorruptData");
+    // The Rust's text here is that of "multiple durable outcomes": this start has its Rollback too.
+    both_differ(&[rollback(4), rollback(5), commit(4, 5)], Class::CommitTaken, 8, "CorruptData");
 }
 
 #[test]
@@ -138,6 +173,25 @@ fn replayed_delete_with_default() {
 fn default_before_history() {
     let image = restore(&[], vec![lock(4, 1)], vec![write(12, 12, 3)]);
     both_differ(&[image, commit(4, 7)], Class::DefaultBeforeHistory, 8, "CorruptData");
+    // 8 by the start's own record.
+    let rolled_back = restore(&[4], vec![lock(4, 2)], vec![write(4, 4, 3)]);
+    both_differ(&[rolled_back, commit(4, 5)], Class::DefaultBeforeHistory, 8, "CorruptData");
+}
+
+/// No store holds a lock of kind Rollback; set by hand, under a history that forbids the commit.
+#[test]
+fn a_lock_of_kind_rollback_under_a_history_that_forbids() {
+    let mut store = Store::default();
+    let lock = Lock { transaction: 7, primary: a(), start: 4, time_to_live: 1, kind: Kind::Rollback };
+    store.locks.insert(a(), lock);
+    store.put_record(&a(), 12, Record { start: 12, commit: 12, kind: Kind::Rollback });
+    let mut engine = ragnor::shown::InMemoryMvcc::default();
+    set_state(&mut engine, &store);
+    assert_eq!(run_call(&mut store, &commit(4, 7)).number, 8);
+    assert_eq!(run_rust(&mut engine, &commit(4, 7)), Outcome::CorruptData);
+    // Above all records both say the same.
+    assert_eq!(run_call(&mut store, &commit(4, 13)).number, 9);
+    assert_eq!(run_rust(&mut engine, &commit(4, 13)), Outcome::CorruptData);
 }
 
 #[test]

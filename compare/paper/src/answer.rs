@@ -40,6 +40,9 @@ pub fn refuse_held<T>(lock: &Lock) -> Result<T, Refusal> {
     if bent(Bend::HolderMissing) {
         (transaction, start) = (0, 0);
     }
+    if bent(Bend::HeldIsHistory) {
+        return refuse(HISTORY);
+    }
     Err(Refusal { number: LOCKED, transaction, start })
 }
 

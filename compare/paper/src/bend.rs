@@ -1,25 +1,40 @@
-//! Bent rules: each bend breaks one sentence of the paper, to show that the generator's traces notice.
+//! Bent rules: each bend breaks one sentence of the paper, to show that the generator's traces notice; some put a rule of
+//! mvcc.rs in its place, to say where and how the two differ.
 //!
-//! The rule in force is kept for the thread; with none, a rule costs one comparison. Nothing outside the sharpness
-//! count ever bends a rule.
+//! The rules in force are kept for the thread; with none, a rule costs one comparison of a few bytes. Nothing but the
+//! sharpness count, the classes of differences and tests ever bends a rule.
 
 use std::cell::Cell;
 
 pub use crate::bend_list::Bend;
 
+/// So many rules may be bent at once.
+const MOST: usize = 6;
+
 thread_local! {
-    static IN_FORCE: Cell<Option<Bend>> = const { Cell::new(None) };
+    static IN_FORCE: Cell<[Option<Bend>; MOST]> = const { Cell::new([None; MOST]) };
 }
 
 /// Is this rule bent now?
 #[inline]
 pub fn bent(bend: Bend) -> bool {
-    IN_FORCE.get() == Some(bend)
+    IN_FORCE.get().contains(&Some(bend))
 }
 
-/// Runs the work with one rule bent.
+/// Runs the work with one rule bent, besides those that are.
 pub fn with_bend<T>(bend: Bend, work: impl FnOnce() -> T) -> T {
-    let before = IN_FORCE.replace(Some(bend));
+    with_bends(&[bend], work)
+}
+
+/// Runs the work with these rules bent, besides those that are.
+pub fn with_bends<T>(bends: &[Bend], work: impl FnOnce() -> T) -> T {
+    let before = IN_FORCE.get();
+    let mut all = before;
+    for bend in bends {
+        let free = all.iter_mut().find(|place| place.is_none()).expect("a place for one more bend");
+        *free = Some(*bend);
+    }
+    IN_FORCE.set(all);
     let result = work();
     IN_FORCE.set(before);
     result

@@ -65,6 +65,7 @@ bends! {
     // Answers
     HolderSwapped "answer 7 gives start and transaction the wrong way round";
     HolderMissing "answer 7 gives zeros";
+    HeldIsHistory "answer 7 is 8";
     // Room
     PrimaryTakesNoRoom "a lock's primary takes no live bytes";
     LockKeepsASecondLine "a lock keeps a second line free for its record";
@@ -268,6 +269,21 @@ bends! {
         never "a sound record's start is never above its stamp";
     MarksWithoutLocks "the marks leave lock starts out";
     MarksWithoutDefaults "the marks leave default starts out";
+    // Rules of mvcc.rs in the place of the paper's (as_rust.rs)
+    RustStampAtStart "a Put or Delete stamped with the start itself is no 8, as in mvcc.rs";
+    RustRollbackAbove "a Rollback stamped above the start is no 8, as in mvcc.rs";
+    RustDefaultFirst "a default at the start is judged before records and locks, as in mvcc.rs";
+    RustCommitTaken "a commit onto another start's record is 9, as in mvcc.rs";
+    RustCommitTwoRecords "a commit onto a record beside one of this start is 9, as in mvcc.rs";
+    RustCommitRowFirst "a commit judges its lock's row before the records, as in mvcc.rs";
+    RustCommitBetween "a Put or Delete above the start is 8 in a commit, as in mvcc.rs";
+    RustCommitHolderFirst "another's lock is 7 in a commit before the records of this start, as in mvcc.rs";
+    // The area, which the paper does not have (area.rs)
+    RepackInPrewriteLosesARow "an area packed anew in a prewrite loses a row";
+    RepackInPrewriteBatchLosesARow "an area packed anew in a prewrite of a batch loses a row";
+    RepackInRollbackLosesARow "an area packed anew in a rollback loses a row";
+    RepackInRollbackBatchLosesARow "an area packed anew in a rollback of a batch loses a row";
+    RepackInOneStepLosesARow "an area packed anew in a one-step batch loses a row";
     // Trace
     CallTrailing "bytes may follow a call's arguments";
     CallKindRollback "kind 3 in a prewrite call is in form";

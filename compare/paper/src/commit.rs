@@ -81,6 +81,7 @@ impl Store {
         }
         // "records sound, 9"
         self.records_judged(key)?;
+        self.commit_first(call, key)?;
         // "the lowest-stamped record with this start, if any"
         let mut with_start = self.records_of(key).filter(|(_, record)| record.start == start);
         let found = if bent(Bend::CommitHighestRecord) { with_start.next_back() } else { with_start.next() };
@@ -140,6 +141,7 @@ impl Store {
         let limit = if bent(Bend::CommitOverNoNewer) { start + 1 } else { commit };
         if newest.is_some_and(|newest| newest > limit || newest == limit && !bent(Bend::CommitNewestAbove))
             && !bent(Bend::CommitNewestIgnored)
+            || self.committed_above(start, key)
         {
             return refuse(HISTORY);
         }

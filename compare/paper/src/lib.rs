@@ -8,6 +8,8 @@
 //! whole, or refuses and leaves the old one.
 
 pub mod answer;
+pub mod area;
+mod as_rust;
 pub mod bend;
 mod bend_list;
 pub mod commit;

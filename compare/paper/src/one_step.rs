@@ -1,6 +1,7 @@
 //! **One-step batch**: prewrite and commit of a batch in one call.
 
 use crate::answer::{BATCH, CONTRADICTION, HISTORY, Refusal, refuse, refuse_held};
+use crate::as_rust::no_conflict;
 use crate::bend::{Bend, bent};
 use crate::commit::Commit;
 use crate::form::{Entry, mutation_batch};
@@ -21,7 +22,10 @@ impl Store {
         call.judged()?;
         // "each entry in turn 1, 2"
         if !bent(Bend::OneStepContentsLater) {
-            entries.iter().try_for_each(contents)?;
+            entries.iter().try_for_each(|entry| {
+                contents(entry)?;
+                self.default_first(call.start, entry)
+            })?;
         }
         // "empty, accepted with count 0."
         let count = entries.len() as u64;
@@ -115,7 +119,8 @@ impl Store {
         self.records_judged(&entry.key)?;
         for (stamp, record) in self.records_of(&entry.key) {
             let counts = stamp > call.start || stamp == call.start && !bent(Bend::OneStepStampAbove);
-            if counts && !(record.kind == Kind::Rollback && bent(Bend::OneStepIgnoresRollbacks)) {
+            let ignored = record.kind == Kind::Rollback && bent(Bend::OneStepIgnoresRollbacks);
+            if counts && !ignored && !no_conflict(stamp, record, call.start) {
                 return refuse(HISTORY);
             }
         }

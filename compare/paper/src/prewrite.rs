@@ -1,6 +1,7 @@
 //! **Prewrite** of a batch and of one entry.
 
 use crate::answer::{BATCH, CONTRADICTION, EMPTY, HISTORY, KEY, NO_ROOM, ROW, Refusal, ZERO, refuse, refuse_held};
+use crate::as_rust::no_conflict;
 use crate::bend::{Bend, bent};
 use crate::form::{Entry, key_in_form, mutation_batch, row_in_form, table_of};
 use crate::store::{Bytes, Kind, Lock, Store};
@@ -86,6 +87,7 @@ impl Store {
             self.prewrite_history(call, key)?;
         }
         contents(entry)?;
+        self.default_first(call.start, entry)?;
         if bent(Bend::PrewritePrimaryOfTable) && table_of(call.primary) != table_of(key) {
             return refuse(KEY);
         }
@@ -140,7 +142,8 @@ impl Store {
         // "any record stamp at or above start, 8 (the public Percolator paper's rule)"
         for (stamp, record) in self.records_of(key) {
             let counts = stamp > call.start || stamp == call.start && !bent(Bend::PrewriteStampAbove);
-            if counts && !(record.kind == Kind::Rollback && bent(Bend::PrewriteIgnoresRollbacks)) {
+            let ignored = record.kind == Kind::Rollback && bent(Bend::PrewriteIgnoresRollbacks);
+            if counts && !ignored && !no_conflict(stamp, record, call.start) {
                 return refuse(HISTORY);
             }
         }

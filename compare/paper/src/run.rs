@@ -1,6 +1,7 @@
 //! The paper as a driver: calls of a trace run in turn on one store, and their answers in TRACE.md's form.
 
 use crate::answer::{Answer, Refusal};
+use crate::area::{self, Area};
 use crate::bend::{Bend, bent};
 use crate::commit::Commit;
 use crate::form::Reader;
@@ -69,8 +70,26 @@ pub fn run_trace(trace: &[u8]) -> Vec<Answer> {
     let Some(calls) = read_trace(trace) else {
         return if bent(Bend::DamagedTraceSilent) { Vec::new() } else { vec![Answer::damaged()] };
     };
+    if let Some(op) = area::losing() {
+        return run_losing(op, &calls);
+    }
     let mut store = Store::default();
     calls.iter().map(|call| run_call(&mut store, call)).collect()
+}
+
+/// The calls under a bend of the area: where a call of this op makes the store pack its area anew, a row is lost.
+fn run_losing(op: u8, calls: &[Call]) -> Vec<Answer> {
+    let mut store = Store::default();
+    let mut area = Area::default();
+    let mut answers = Vec::new();
+    for call in calls {
+        let before = store.clone();
+        answers.push(run_call(&mut store, call));
+        if area.packs(&before, call, &store) && call.op() == op {
+            store.lose_a_row();
+        }
+    }
+    answers
 }
 
 /// The answers of one trace, in bytes.

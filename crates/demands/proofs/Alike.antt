@@ -33,15 +33,12 @@ use Rattle.reads.proofs.PartLaws.{one-reply, one-row, one-lock, one-primary}
 use Rattle.pages.specs.declared.calls.Paged.{Paged}
 use Rattle.pages.specs.Paged.{PagedAs}
 use Rattle.pages.proofs.PageLaws.{one-answer, one-count, one-buffer}
-use Rattle.demands.specs.Demands as demands
 use Rattle.demands.specs.Calls.{starting, reading, pointing, handingRow, handingPrimary, paging, pagingIntents, pagingConflicts, prewriting, prewritingBatch, committing, committingBatch, rollingBack, rollingBackBatch, oneStepping, restoring, counting, marking}
-use Rattle.demands.specs.Calls.{Lent, boxIn, Given, started, seen, pointed, handed, paged, changed, committed, stepped, counted, marked, rowIn, lockIn, chains, highest, answerIn, countIn, shownIn, partIn, after, Same, Once, OneOutcome, OneRefusal}
-use Rattle.demands.specs.Calls.{kept-fresh, kept-read, kept-intent, kept-row, kept-primary, kept-page, kept-intents, kept-conflicts, kept-prewrite, kept-prewrites, kept-commit, kept-commits, kept-rollback, kept-rollbacks, kept-step, kept-restore, kept-stats, kept-marks}
-use Rattle.demands.proofs.Carried.{settled-once}
+use Rattle.demands.specs.Calls.{Sort, Lent, boxIn, Given, started, seen, pointed, handed, paged, changed, committed, stepped, counted, marked, rowIn, lockIn, chains, highest, answerIn, countIn, shownIn, partIn, after, Same, Once, OneOutcome, OneRefusal}
 use Rattle.demands.proofs.Refusals.{refusals}
 
 -- the parts of `Same`; one answer has one number and one holder
-same : (w : Lent) (g q : Given) → answerIn w g ≡ answerIn w q → countIn g ≡ countIn q → shownIn w g ≡ shownIn w q → partIn g ≡ partIn q → boxIn (after w g) ≡ boxIn (after w q) → after w g .buffer ≡ after w q .buffer → Same w g q
+same : {o : Sort} (w : Lent) (g q : Given o) → answerIn w g ≡ answerIn w q → countIn g ≡ countIn q → shownIn w g ≡ shownIn w q → partIn g ≡ partIn q → boxIn (after w g) ≡ boxIn (after w q) → after w g .buffer ≡ after w q .buffer → Same w g q
 same w g q a n s p b o = record { answer = a; number = ap answers.number a; holder = ap answers.holder a; count = n; shown = s; part = p; box = b; buffer = o }
 
 -- ---- a fresh store: the very same value, with whatever area
@@ -65,102 +62,110 @@ module _ {s : Store} {area : Bytes} (f : FreshStore s area) where
 
 -- ---- what several calls share
 
+-- two outcomes that keep the one promise of a changing call: the same number and holder, and the same box
+pub record Alike (r : Changed) (area : Bytes) (q : Changed) (area′ : Bytes) : Type 0 where
+  pub answer : r .answer ≡ q .answer
+  pub box : boxOf (r .store) area ≡ boxOf (q .store) area′
+
+pub settled-once : {st : Store} {area : Bytes} {d : Done} {r q : Changed} {area₁ area₂ : Bytes} → Settled st area d r area₁ → Settled st area d q area₂ → Alike r area₁ q area₂
+settled-once s t = record { answer = s .answer-is ∙ sym (t .answer-is); box = s .shown ∙ sym (t .shown) }
+
 module _ (w : Lent) where
   page-same : {x : Written} {r q : Paged} {out out′ : Bytes} → PagedAs x r out → PagedAs x q out′ → Same w (paged r out) (paged q out′)
   page-same {r = r} {q = q} {out = out} {out′ = out′} a b = same w (paged r out) (paged q out′) (one-answer a b) (one-count a b) refl refl refl (one-buffer a b)
 
-  changed-same : {r q : Changed} {area area′ : Bytes} → demands.Alike r area q area′ → Same w (changed r area) (changed q area′)
+  changed-same : {r q : Changed} {area area′ : Bytes} → Alike r area q area′ → Same w (changed r area) (changed q area′)
   changed-same {r = r} {q = q} {area = area} {area′ = area′} a = same w (changed r area) (changed q area′) (a .answer) refl refl refl (a .box) refl
 
-  committed-same : {r q : Changed} → demands.Alike r (w .area) q (w .area) → Same w (committed r) (committed q)
+  committed-same : {r q : Changed} → Alike r (w .area) q (w .area) → Same w (committed r) (committed q)
   committed-same {r = r} {q = q} a = same w (committed r) (committed q) (a .answer) refl refl refl (a .box) refl
 
 -- ---- one law a call
 
 module _ (w : Lent) where
   pub fresh-once : Once w starting
-  fresh-once _ _ (kept-fresh s a) (kept-fresh t b) = same w (started s) (started t) refl refl refl refl (a .shown ∙ sym (b .shown)) refl
+  fresh-once (started s) (started t) a b = same w (started s) (started t) refl refl refl refl (a .shown ∙ sym (b .shown)) refl
 
   pub read-once : (k : Key) (m : ℕ) → Once w (reading k m)
-  read-once k m _ _ (kept-read _ _ s x a p) (kept-read _ _ t y b o) = same w (seen s x) (seen t y) (ap answerOf (one-reply a b)) refl (ap rowIn (one-reply a b)) (one-row a b p o) refl refl
+  read-once k m (seen s x) (seen t y) a b = let e = one-reply (a .0) (b .0) in same w (seen s x) (seen t y) (ap answerOf e) refl (ap rowIn e) (one-row (a .0) (b .0) (a .1) (b .1)) refl refl
 
   pub intent-once : (k : Key) (m : ℕ) → Once w (pointing k m)
-  intent-once k m _ _ (kept-intent _ _ s x a p) (kept-intent _ _ t y b o) = same w (pointed s x) (pointed t y) (ap answerOf (one-lock a b)) refl (ap lockIn (one-lock a b)) (one-primary a b p o) refl refl
+  intent-once k m (pointed s x) (pointed t y) a b = let e = one-lock (a .0) (b .0) in same w (pointed s x) (pointed t y) (ap answerOf e) refl (ap lockIn e) (one-primary (a .0) (b .0) (a .1) (b .1)) refl refl
 
   pub row-once : (s : Seen) → Once w (handingRow s)
-  row-once s _ _ (kept-row _ x a) (kept-row _ y b) = same w (handed x) (handed y) refl refl refl (a .is ∙ sym (b .is)) refl refl
+  row-once s (handed x) (handed y) a b = same w (handed x) (handed y) refl refl refl (a .is ∙ sym (b .is)) refl refl
 
   pub primary-once : (p : Pointed) → Once w (handingPrimary p)
-  primary-once p _ _ (kept-primary _ x a) (kept-primary _ y b) = same w (handed x) (handed y) refl refl refl (a .is ∙ sym (b .is)) refl refl
+  primary-once p (handed x) (handed y) a b = same w (handed x) (handed y) refl refl refl (a .is ∙ sym (b .is)) refl refl
 
   pub page-once : (a : Bounds) (m : ℕ) (l : Limits) → Once w (paging a m l)
-  page-once a m l _ _ (kept-page _ _ _ r x p) (kept-page _ _ _ t y o) = page-same w p o
+  page-once a m l (paged r x) (paged t y) p o = page-same w p o
 
   pub intents-once : (a : Bounds) (l : ℕ) → Once w (pagingIntents a l)
-  intents-once a l _ _ (kept-intents _ _ r x p) (kept-intents _ _ t y o) = page-same w p o
+  intents-once a l (paged r x) (paged t y) p o = page-same w p o
 
   pub conflicts-once : (a : Bounds) (m : ℕ) (l : Limits) → Once w (pagingConflicts a m l)
-  conflicts-once a m l _ _ (kept-conflicts _ _ _ r x p) (kept-conflicts _ _ _ t y o) = page-same w p o
+  conflicts-once a m l (paged r x) (paged t y) p o = page-same w p o
 
   pub prewrite-once : (h : Head) (m : Mutation) → Once w (prewriting h m)
-  prewrite-once h m _ _ (kept-prewrite _ _ r x a) (kept-prewrite _ _ t y b) = changed-same w (settled-once a b)
+  prewrite-once h m (changed r x) (changed t y) a b = changed-same w (settled-once a b)
 
   pub prewrites-once : (h : Head) (s : Bytes) → Once w (prewritingBatch h s)
-  prewrites-once h s _ _ (kept-prewrites _ _ r x a) (kept-prewrites _ _ t y b) = changed-same w (settled-once a b)
+  prewrites-once h s (changed r x) (changed t y) a b = changed-same w (settled-once a b)
 
   pub commit-once : (h : Ending) (k : Key) → Once w (committing h k)
-  commit-once h k _ _ (kept-commit _ _ r a) (kept-commit _ _ t b) = committed-same w (settled-once a b)
+  commit-once h k (committed r) (committed t) a b = committed-same w (settled-once a b)
 
   pub commits-once : (h : Ending) (s : Bytes) → Once w (committingBatch h s)
-  commits-once h s _ _ (kept-commits _ _ r a) (kept-commits _ _ t b) = committed-same w (settled-once a b)
+  commits-once h s (committed r) (committed t) a b = committed-same w (settled-once a b)
 
   pub rollback-once : (txn start : ℕ) (k : Key) → Once w (rollingBack txn start k)
-  rollback-once txn start k _ _ (kept-rollback _ _ _ r x a) (kept-rollback _ _ _ t y b) = changed-same w (settled-once a b)
+  rollback-once txn start k (changed r x) (changed t y) a b = changed-same w (settled-once a b)
 
   pub rollbacks-once : (txn start : ℕ) (s : Bytes) → Once w (rollingBackBatch txn start s)
-  rollbacks-once txn start s _ _ (kept-rollbacks _ _ _ r x a) (kept-rollbacks _ _ _ t y b) = changed-same w (settled-once a b)
+  rollbacks-once txn start s (changed r x) (changed t y) a b = changed-same w (settled-once a b)
 
   pub step-once : (h : Ending) (s : Bytes) → Once w (oneStepping h s)
-  step-once h s _ _ (kept-step _ _ r x a) (kept-step _ _ t y b) =
+  step-once h s (stepped r x) (stepped t y) a b =
       let o = settled-once (a .settled) (b .settled) in
       same w (stepped r x) (stepped t y) (o .answer) (a .count-is ∙ sym (b .count-is)) refl refl (o .box) refl
 
   pub restore-once : (s : Bytes) → Once w (restoring s)
-  restore-once s _ _ (kept-restore _ r x a) (kept-restore _ t y b) = changed-same w (record { answer = a .answer-is ∙ sym (b .answer-is); box = a .shown ∙ sym (b .shown) })
+  restore-once s (changed r x) (changed t y) a b = changed-same w (record { answer = a .answer-is ∙ sym (b .answer-is); box = a .shown ∙ sym (b .shown) })
 
   pub stats-once : Once w counting
-  stats-once _ _ (kept-stats s a) (kept-stats t b) = same w (counted s) (counted t) refl refl (ap chains (a ∙ sym b)) refl refl refl
+  stats-once (counted s) (counted t) a b = same w (counted s) (counted t) refl refl (ap chains (a ∙ sym b)) refl refl refl
 
   pub marks-once : Once w marking
-  marks-once _ _ (kept-marks s a) (kept-marks t b) = same w (marked s) (marked t) refl refl (ap highest (a ∙ sym b)) refl refl refl
+  marks-once (marked s) (marked t) a b = same w (marked s) (marked t) refl refl (ap highest (a ∙ sym b)) refl refl refl
 
 -- ---- all calls
 
 pub one-outcome : OneOutcome
-one-outcome w starting = fresh-once w
-one-outcome w (reading key m) = read-once w key m
-one-outcome w (pointing key m) = intent-once w key m
-one-outcome w (handingRow s) = row-once w s
-one-outcome w (handingPrimary p) = primary-once w p
-one-outcome w (paging a m n) = page-once w a m n
-one-outcome w (pagingIntents a n) = intents-once w a n
-one-outcome w (pagingConflicts a m n) = conflicts-once w a m n
-one-outcome w (prewriting h m) = prewrite-once w h m
-one-outcome w (prewritingBatch h s) = prewrites-once w h s
-one-outcome w (committing h key) = commit-once w h key
-one-outcome w (committingBatch h s) = commits-once w h s
-one-outcome w (rollingBack txn start key) = rollback-once w txn start key
-one-outcome w (rollingBackBatch txn start s) = rollbacks-once w txn start s
-one-outcome w (oneStepping h s) = step-once w h s
-one-outcome w (restoring s) = restore-once w s
-one-outcome w counting = stats-once w
-one-outcome w marking = marks-once w
+one-outcome _ w starting = fresh-once w
+one-outcome _ w (reading key m) = read-once w key m
+one-outcome _ w (pointing key m) = intent-once w key m
+one-outcome _ w (handingRow s) = row-once w s
+one-outcome _ w (handingPrimary p) = primary-once w p
+one-outcome _ w (paging a m n) = page-once w a m n
+one-outcome _ w (pagingIntents a n) = intents-once w a n
+one-outcome _ w (pagingConflicts a m n) = conflicts-once w a m n
+one-outcome _ w (prewriting h m) = prewrite-once w h m
+one-outcome _ w (prewritingBatch h s) = prewrites-once w h s
+one-outcome _ w (committing h key) = commit-once w h key
+one-outcome _ w (committingBatch h s) = commits-once w h s
+one-outcome _ w (rollingBack txn start key) = rollback-once w txn start key
+one-outcome _ w (rollingBackBatch txn start s) = rollbacks-once w txn start s
+one-outcome _ w (oneStepping h s) = step-once w h s
+one-outcome _ w (restoring s) = restore-once w s
+one-outcome _ w counting = stats-once w
+one-outcome _ w marking = marks-once w
 
 -- ---- what is open, and where
 
 -- refused, nothing is open: store, area and buffer are those that were lent
 pub one-refusal : OneRefusal
-one-refusal w c g q k l n = refusals w c g k n .left ∙ sym (refusals w c q l (λ e. n (one-outcome w c g q k l .answer ∙ e)) .left)
+one-refusal o w c g q k l n = refusals o w c g k n .left ∙ sym (refusals o w c q l (λ e. n (one-outcome o w c g q k l .answer ∙ e)) .left)
 
 -- "accepted and unchanged": of the seven changing calls nothing is open either, where the box is as it was
 pub still-once : {st : Store} {area : Bytes} {d : Done} {r q : Changed} {area₁ area₂ : Bytes} → Settled st area d r area₁ → Settled st area d q area₂ → d .box ≡ boxOf st area → (r .store ≡ q .store) × (area₁ ≡ area₂)

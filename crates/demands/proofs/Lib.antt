@@ -1,4 +1,5 @@
 -- The demands carried to the code. Assumes nothing.
+pub mod Stays
 pub mod Carried
 pub mod Refusals
 pub mod Alike

@@ -22,7 +22,8 @@ use Rattle.reads.specs.declared.seen.Pointed.the-variants as points
 use Rattle.reads.specs.Parts.{RowPart, PrimaryPart}
 use Rattle.pages.specs.declared.calls.Paged.{Paged}
 use Rattle.pages.specs.Paged.{PagedAs}
-use Rattle.demands.specs.Calls.{Lent, boxIn, seen, pointed, paged, changed, committed, nothing, answerIn, kept-fresh, kept-read, kept-intent, kept-row, kept-primary, kept-page, kept-intents, kept-conflicts, kept-prewrite, kept-prewrites, kept-commit, kept-commits, kept-rollback, kept-rollbacks, kept-step, kept-restore, kept-stats, kept-marks, Unchanged, Refusals}
+use Rattle.demands.specs.Calls.{Lent, boxIn, started, seen, pointed, handed, paged, changed, committed, stepped, counted, marked, nothing, answerIn, Unchanged, Refusals}
+use Rattle.demands.specs.Calls.{starting, reading, pointing, handingRow, handingPrimary, paging, pagingIntents, pagingConflicts, prewriting, prewritingBatch, committing, committingBatch, rollingBack, rollingBackBatch, oneStepping, restoring, counting, marking}
 
 -- ---- a page
 
@@ -83,21 +84,21 @@ module _ (w : Lent) where
 -- `fresh`, `row_of`, `primary_of` and the figures refuse nothing
 pub refusals : Refusals
 unfolding scanPage scanIntentPage scanConflictingIntents
-refusals w _ _ (kept-fresh s p) n = absurd (n refl)
-refusals w _ _ (kept-read k m s part p q) n = read-left w s part q n
-refusals w _ _ (kept-intent k m s part p q) n = intent-left w s part q n
-refusals w _ _ (kept-row s part p) n = absurd (n refl)
-refusals w _ _ (kept-primary s part p) n = absurd (n refl)
-refusals w _ _ (kept-page a m l r out p) n = page-left w keyRowBytes (page a m l (boxIn w)) r out p n
-refusals w _ _ (kept-intents a l r out p) n = page-left w keyLockBytes (intentPage a l (boxIn w)) r out p n
-refusals w _ _ (kept-conflicts a m l r out p) n = page-left w keyLockBytes (conflictPage a m l (boxIn w)) r out p n
-refusals w _ _ (kept-prewrite h m r area p) n = changed-left w r area (p .refused n)
-refusals w _ _ (kept-prewrites h s r area p) n = changed-left w r area (p .refused n)
-refusals w _ _ (kept-commit h k r p) n = committed-left w r (p .refused n)
-refusals w _ _ (kept-commits h s r p) n = committed-left w r (p .refused n)
-refusals w _ _ (kept-rollback txn start k r area p) n = changed-left w r area (p .refused n)
-refusals w _ _ (kept-rollbacks txn start s r area p) n = changed-left w r area (p .refused n)
-refusals w _ _ (kept-step h s r area p) n =
+refusals _ w starting (started s) p n = absurd (n refl)
+refusals _ w (reading k m) (seen s part) p n = read-left w s part (p .1) n
+refusals _ w (pointing k m) (pointed s part) p n = intent-left w s part (p .1) n
+refusals _ w (handingRow s) (handed part) p n = absurd (n refl)
+refusals _ w (handingPrimary s) (handed part) p n = absurd (n refl)
+refusals _ w (paging a m l) (paged r out) p n = page-left w keyRowBytes (page a m l (boxIn w)) r out p n
+refusals _ w (pagingIntents a l) (paged r out) p n = page-left w keyLockBytes (intentPage a l (boxIn w)) r out p n
+refusals _ w (pagingConflicts a m l) (paged r out) p n = page-left w keyLockBytes (conflictPage a m l (boxIn w)) r out p n
+refusals _ w (prewriting h m) (changed r area) p n = changed-left w r area (p .refused n)
+refusals _ w (prewritingBatch h s) (changed r area) p n = changed-left w r area (p .refused n)
+refusals _ w (committing h k) (committed r) p n = committed-left w r (p .refused n)
+refusals _ w (committingBatch h s) (committed r) p n = committed-left w r (p .refused n)
+refusals _ w (rollingBack txn start k) (changed r area) p n = changed-left w r area (p .refused n)
+refusals _ w (rollingBackBatch txn start s) (changed r area) p n = changed-left w r area (p .refused n)
+refusals _ w (oneStepping h s) (stepped r area) p n =
     let l = both w (r .store) area (p .settled .refused n) in
     record {
       left = l;
@@ -106,6 +107,6 @@ refusals w _ _ (kept-step h s r area p) n =
       shown = refl;
       part = refl;
     }
-refusals w _ _ (kept-restore s r area p) n = changed-left w r area (p .refused n)
-refusals w _ _ (kept-stats s p) n = absurd (n refl)
-refusals w _ _ (kept-marks m p) n = absurd (n refl)
+refusals _ w (restoring s) (changed r area) p n = changed-left w r area (p .refused n)
+refusals _ w counting (counted s) p n = absurd (n refl)
+refusals _ w marking (marked m) p n = absurd (n refl)

@@ -3,7 +3,7 @@ ghost use Rattle.forms.specs.Places.{PartAt};
 ghost use Rattle.session.specs.Labels.{textPlace};
 use forms::Part;
 use libc::STDOUT_FILENO;
-use rules::Answer;
+use mvcc::Answer;
 
 pub fn say(words: &[u8]) {
     io::write_all(STDOUT_FILENO, words);
@@ -19,7 +19,6 @@ pub fn tell(before: &[u8], number: u64, after: &[u8]) {
 // "What a call answers": the paper's words for a number.
 fn meaning(number: u8) {
     match number {
-        0 => say(b"accepted"),
         1 => say(b"key not in form"),
         2 => say(b"row argument not in form"),
         3 => say(b"a zero, or a commit not above its start"),
@@ -37,17 +36,22 @@ fn meaning(number: u8) {
     }
 }
 
-// The number of a refusal and what it means; "Answer 7 carries the holder's transaction and start".
-pub fn say_answer(answer: Answer) {
-    let number = replies::number_of(answer);
-    if number != 0 {
-        tell(b"refused, ", number as u64, b": ");
-    }
+// The number of a refusal and what it means.
+fn say_refusal(number: u8) {
+    tell(b"refused, ", number as u64, b": ");
     meaning(number);
-    let holder = replies::holder_of(answer);
-    if holder.txn != 0 {
-        tell(b" by curator ", holder.txn, b" since ");
-        tell(b"", holder.start, b"");
+}
+
+// "Answer 7 carries the holder's transaction and start"
+pub fn say_answer(answer: Answer) {
+    match answer {
+        Answer::Accepted => say(b"accepted"),
+        Answer::No(n) => say_refusal(n),
+        Answer::Held(holder) => {
+            say_refusal(7);
+            tell(b" by curator ", holder.txn, b" since ");
+            tell(b"", holder.start, b"");
+        }
     }
     say(b"\n");
 }

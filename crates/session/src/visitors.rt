@@ -6,6 +6,7 @@ use crate::telling::say_label;
 use crate::telling::say_name;
 use crate::telling::tell;
 use forms::Width;
+use mvcc::Answer;
 use mvcc::Seen;
 use mvcc::Store;
 
@@ -94,11 +95,12 @@ pub fn asks_page(store: Store, area: &[u8], moment: u64)
         &mut out,
     );
     let answer = paged.answer;
-    if !calls::accepted(answer) {
-        return say_answer(answer);
-    }
     let n = paged.count;
-    say_page(&out[..n]);
+    match answer {
+        Answer::Accepted => say_page(&out[..n]),
+        Answer::No(_) => say_answer(answer),
+        Answer::Held(_) => say_answer(answer),
+    }
 }
 
 // What the box holds, from its statistics.

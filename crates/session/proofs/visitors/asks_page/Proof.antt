@@ -24,14 +24,8 @@ slice-aggregate-scan-page c = search needs
 scan-page-requires : tie.Need-scan-page-requires
 scan-page-requires c κs = search needs
 
-accepted-requires : tie.Need-accepted-requires
-accepted-requires c κs = search needs
-
-say-answer-requires : tie.Need-say-answer-requires
-say-answer-requires c κs = search needs
-
-returns : tie.Need-returns
-returns c = search needs
+enum-told : tie.Need-enum-told
+enum-told c = search needs
 
 array-share-prefix-out : tie.Need-array-share-prefix-out
 array-share-prefix-out c = omega (arith, length-replicate {A = ℕ} 2048 0, page-within _ _ _ _ _ ((c .before .before .before .scan-page) .ensures))
@@ -42,8 +36,26 @@ slice-aggregate-say-page c = sym (length-take-le _ _ (omega (arith, length-repli
 say-page-requires : tie.Need-say-page-requires
 say-page-requires c κs = search needs
 
+enum-told-2 : tie.Need-enum-told-2
+enum-told-2 c = search needs
+
+say-answer-requires : tie.Need-say-answer-requires
+say-answer-requires c κs = search needs
+
+enum-told-3 : tie.Need-enum-told-3
+enum-told-3 c = search needs
+
+say-answer-requires-2 : tie.Need-say-answer-requires-2
+say-answer-requires-2 c κs = search needs
+
+returns : tie.Need-returns
+returns c = search needs
+
 returns-2 : tie.Need-returns-2
 returns-2 c = search needs
+
+returns-3 : tie.Need-returns-3
+returns-3 c = search needs
 
 pub asks-page-spec : {M : Type 1} → statement M
 asks-page-spec =
@@ -54,10 +66,14 @@ asks-page-spec =
     tell-requires
     slice-aggregate-scan-page
     scan-page-requires
-    accepted-requires
-    say-answer-requires
-    returns
+    enum-told
     array-share-prefix-out
     slice-aggregate-say-page
     say-page-requires
-    returns-2)
+    enum-told-2
+    say-answer-requires
+    enum-told-3
+    say-answer-requires-2
+    returns
+    returns-2
+    returns-3)

@@ -1,0 +1,110 @@
+//! The classes hide nothing else: with a rule of the paper bent, comparison 1 meets a difference that has no name.
+
+use generate::{Kind, Ops, trace, trace_of};
+use judge::one::differences;
+use paper::bend::{Bend, Reach, with_bend};
+use paper::trace::{Call, read_trace};
+
+/// Bends that comparison 1 cannot notice, and why; the sample notices each of them in a driver.
+const UNSEEN: &[(&str, &[Bend])] = &[
+    (
+        "the Rust is handed entries and bounds, not the bytes of a batch, an image, a call or a trace",
+        &[
+            Bend::BatchOf33,
+            Bend::BatchTo31,
+            Bend::BatchKindRollback,
+            Bend::BatchOrderOfSoundKeys,
+            Bend::BatchKeysJudgedAsForm,
+            Bend::BatchTrailing,
+            Bend::ImageTrailing,
+            Bend::CallTrailing,
+            Bend::CallKindRollback,
+            Bend::FlagOfAnyByte,
+            Bend::TraceOfAnyLength,
+            Bend::EmptyTraceTaken,
+            Bend::TraceRunsToItsFault,
+            Bend::TraceTrailing,
+            Bend::TraceShortLengthsOnly,
+            Bend::DamagedTraceSilent,
+        ],
+    ),
+    ("the Rust returns a page and is lent no buffer", &[Bend::BufferRestZeroed, Bend::ShortBufferFilled]),
+    (
+        "1, 2, 3 and 4 are one error in the Rust",
+        &[
+            Bend::LimitsAfterBounds,
+            Bend::BoundsOrderBeforeEnd,
+            Bend::ResumeBeforeOrder,
+            Bend::TimeToLiveBeforePrimary,
+            Bend::RowBeforeKey,
+        ],
+    ),
+    (
+        "it is the Rust's own rule, or a part of it",
+        &[
+            Bend::ReplayDeleteDefaultRefused,
+            Bend::CommitRowBeforeHistory,
+            Bend::OneStepOccupied9,
+            Bend::ImageTableZero,
+            Bend::RustStampAtStart,
+            Bend::RustRollbackAbove,
+            Bend::RustCommitTaken,
+            Bend::RustCommitTwoRecords,
+            Bend::RustCommitRowFirst,
+            Bend::RustCommitBetween,
+            Bend::RustCommitHolderFirst,
+        ],
+    ),
+    ("the Rust says CorruptData to both records of the start", &[Bend::CommitHighestRecord]),
+    (
+        "the Rust has no area",
+        &[
+            Bend::RepackInPrewriteLosesARow,
+            Bend::RepackInPrewriteBatchLosesARow,
+            Bend::RepackInRollbackLosesARow,
+            Bend::RepackInRollbackBatchLosesARow,
+            Bend::RepackInOneStepLosesARow,
+        ],
+    ),
+];
+
+/// The calls of traces of every kind, and of many that come to a room.
+fn traces() -> Vec<Vec<Call>> {
+    let any = (0..1500).map(|seed| trace(seed, Ops::all()));
+    let rooms = (0..300).map(|seed| trace_of(Kind::Room, seed, Ops::all()));
+    any.chain(rooms).filter_map(|trace| read_trace(&trace)).collect()
+}
+
+/// Is there a difference without a name in one of the traces, with this rule bent?
+fn fails(bend: Bend, traces: &[Vec<Call>]) -> bool {
+    let unnamed = |calls: &Vec<Call>| differences(calls).iter().any(|difference| difference.class.is_none());
+    with_bend(bend, || traces.iter().any(unnamed))
+}
+
+#[test]
+fn eleven_too_early_or_too_late_and_8_for_7_have_no_name() {
+    let traces = traces();
+    for bend in [
+        Bend::LinesOneLess,
+        Bend::LocksOneLess,
+        Bend::DefaultsOneLess,
+        Bend::LiveBytesOneLess,
+        Bend::LinesOneMore,
+        Bend::LocksOneMore,
+        Bend::DefaultsOneMore,
+        Bend::LiveBytesOneMore,
+        Bend::RoomUnjudged,
+        Bend::HeldIsHistory,
+    ] {
+        assert!(fails(bend, &traces), "{bend:?}: {}", bend.text());
+    }
+}
+
+#[test]
+fn every_bend_that_the_rust_can_show_has_no_name() {
+    let traces = traces();
+    let unseen: Vec<Bend> = UNSEEN.iter().flat_map(|(_, bends)| bends.iter().copied()).collect();
+    let shown = Bend::ALL.iter().copied().filter(|bend| bend.reach() == Reach::Shown && !unseen.contains(bend));
+    let hidden: Vec<Bend> = shown.filter(|bend| !fails(*bend, &traces)).collect();
+    assert!(hidden.is_empty(), "comparison 1 does not notice {hidden:?}");
+}

@@ -1,0 +1,57 @@
+// The calls that show something.
+ghost use Rattle.lines.specs.Made.{Made};
+use crate::worths::of_answer;
+use crate::worths::of_seen;
+use mvcc::Store;
+use std::num::wrapping_add_u64;
+
+pub fn read_once(store: Store, area: &[u8], key: &[u8], moment: u64) -> u64
+    requires { ⌜ Made store (now area) ⌝ }
+{
+    let seen = mvcc::read(store, area, key, moment);
+    of_seen(seen, mvcc::row_of(area, seen))
+}
+
+// A page of so many rows from the key on, or from the first where it has no bytes, written over the front of `out`.
+pub fn page_once(
+    store: Store,
+    area: &[u8],
+    out: &mut [u8],
+    key: &[u8],
+    moment: u64,
+    rows: u64,
+) -> u64
+    requires { ⌜ Made store (now area) ⌝ }
+{
+    let starts = 0 < key.len();
+    let none = &key[0..0];
+    let bytes = u64::MAX;
+    let paged = mvcc::scan_page(
+        store,
+        area,
+        moment,
+        rows,
+        bytes,
+        starts,
+        key,
+        false,
+        none,
+        false,
+        none,
+        out,
+    );
+    let answer = paged.answer;
+    wrapping_add_u64(of_answer(answer), paged.count as u64)
+}
+
+pub fn stats_once(store: Store, area: &[u8]) -> u64
+    requires { ⌜ Made store (now area) ⌝ }
+{
+    let s = mvcc::stats(store, area);
+    let d = s.defaults;
+    let w = s.records;
+    let all = wrapping_add_u64(d.all as u64, w.all as u64);
+    let keys = wrapping_add_u64(d.keys as u64, w.keys as u64);
+    let longest = wrapping_add_u64(d.longest as u64, w.longest as u64);
+    wrapping_add_u64(all, wrapping_add_u64(keys, longest))
+}

@@ -1,0 +1,125 @@
+// The turns: each makes every call of the input once, each call on the same box. All calls of an input are of one kind, a number: 1 read,
+// 2 page, 3 statistics; and, each on a copy of the area, 5 prewrite, 6 commit, 7 prewrite and commit, 8 rollback, 9 one-step batch, 10 restore.
+// 0 makes no call, and 4 only the copy: what such a turn takes is to be subtracted.
+ghost use Prim.Native.Nat.{_≤_};
+ghost use lib.ListN.{length};
+ghost use Rattle.bench.specs.Asks.{AskedIn, CallAsks, TurnAsks};
+use crate::asked::Asked;
+use crate::asked::asked_at;
+use crate::changes::commit_once;
+use crate::changes::copy_area;
+use crate::changes::pair_once;
+use crate::changes::prewrite_once;
+use crate::changes::restore_once;
+use crate::changes::rollback_once;
+use crate::changes::step_once;
+use crate::shows::page_once;
+use crate::shows::read_once;
+use crate::shows::stats_once;
+use mvcc::Store;
+use std::num::wrapping_add_u64;
+
+// A call that shows something; a page is written over the front of `out`. The moment is the call's and one above it, turn about: no record of
+// the boxes stands between the two.
+fn show_call(
+    store: Store,
+    area: &[u8],
+    out: &mut [u8],
+    s: &[u8],
+    a: Asked,
+    way: u8,
+    turn: u64,
+) -> u64
+    requires { ⌜ CallAsks store (now area) (now s) a ⌝ }
+{
+    let k = a.key;
+    let r = a.row;
+    let moment = wrapping_add_u64(a.one, turn % 2);
+    match way {
+        1 => read_once(store, area, &s[k..r], moment),
+        2 => page_once(store, area, out, &s[k..r], moment, a.two),
+        3 => stats_once(store, area),
+        _ => a.one,
+    }
+}
+
+// A call that changes the store.
+fn change_call(store: Store, area: &mut [u8], image: &[u8], s: &[u8], a: Asked, way: u8) -> u64
+    requires { ⌜ CallAsks store (now area) (now s) a ⌝ }
+{
+    let k = a.key;
+    let r = a.row;
+    let e = a.next;
+    match way {
+        5 => prewrite_once(store, area, s, a),
+        6 => commit_once(store, area, &s[k..r], a.one, a.two),
+        7 => pair_once(store, area, s, a),
+        8 => rollback_once(store, area, &s[k..r], a.one, a.two),
+        9 => step_once(store, area, &s[r..e], a.one, a.two),
+        10 => restore_once(store, area, image),
+        _ => a.one,
+    }
+}
+
+fn one_call(
+    store: Store,
+    area: &[u8],
+    copy: &mut [u8],
+    image: &[u8],
+    s: &[u8],
+    a: Asked,
+    way: u8,
+    turn: u64,
+) -> u64
+    requires { ⌜ (TurnAsks store (now area) (now copy)) × (AskedIn (length (now s)) a) ⌝ }
+{
+    if way < 4 {
+        return show_call(store, area, copy, s, a, way, turn);
+    }
+    copy_area(area, copy);
+    change_call(store, copy, image, s, a, way)
+}
+
+fn one_turn(
+    store: Store,
+    area: &[u8],
+    copy: &mut [u8],
+    image: &[u8],
+    s: &[u8],
+    way: u8,
+    turn: u64,
+) -> u64
+    requires { ⌜ TurnAsks store (now area) (now copy) ⌝ }
+{
+    let mut at: usize = 0;
+    let mut sum: u64 = 0;
+    while at < s.len() {
+        let a = asked_at(s, at);
+        let worth = one_call(store, area, copy, image, s, a, way, turn);
+        sum = wrapping_add_u64(sum, worth);
+        at = a.next;
+    }
+    sum
+}
+
+// So many turns: the sum of what their calls are worth.
+pub fn many_turns(
+    store: Store,
+    area: &[u8],
+    copy: &mut [u8],
+    image: &[u8],
+    s: &[u8],
+    way: u8,
+    turns: u64,
+) -> u64
+    requires { ⌜ TurnAsks store (now area) (now copy) ⌝ }
+{
+    let mut left = turns;
+    let mut sum: u64 = 0;
+    while 0 < left {
+        let worth = one_turn(store, area, copy, image, s, way, left);
+        sum = wrapping_add_u64(sum, worth);
+        left -= 1;
+    }
+    sum
+}

@@ -1,0 +1,266 @@
+// Each public call, made by its public name with nothing before it and nothing after it. What it gave back is `Kept` (specs/Calls.antt), and
+// all that shows it is the call's own `ensures`: a call whose promise grows weaker has no proof here. The only premise is `Made`, as in the
+// calls. `.ci/ties` holds this file to the public face: a call that has no function here fails the gate.
+ghost use mathlib.Core.Path.{_≡_};
+ghost use lib.ListN.{length};
+ghost use Rattle.forms.specs.Bytes.{Bytes};
+ghost use Rattle.forms.specs.Readers.{when};
+ghost use Rattle.bounds.specs.Bounds.{boundsOf};
+ghost use Rattle.lines.specs.declared.store.Store.{Store};
+ghost use Rattle.lines.specs.Made.{Made};
+ghost use Rattle.demands.specs.Calls.{Lent, Kept, KeptOn};
+ghost use Rattle.demands.specs.Calls.{starting, reading, pointing, handingRow, handingPrimary, paging, pagingIntents, pagingConflicts, prewriting, prewritingBatch, committing, committingBatch, rollingBack, rollingBackBatch, oneStepping, restoring, counting, marking};
+ghost use Rattle.demands.specs.Calls.{started, seen, pointed, handed, paged, changed, committed, stepped, counted, marked};
+use mvcc::Changed;
+use mvcc::Marks;
+use mvcc::Paged;
+use mvcc::Pointed;
+use mvcc::Seen;
+use mvcc::Stats;
+use mvcc::Stepped;
+use mvcc::Store;
+
+pub fn fresh() -> Store
+    ensures { λ r. ⌜ ((w : Lent) → length (w .area) ≡ 65536 → Kept w starting (started r)) ⌝ }
+{
+    mvcc::fresh()
+}
+
+// With whatever part `row_of` hands back of the answer.
+pub fn read(store: Store, area: &[u8], key: &[u8], moment: u64) -> Seen
+    requires { ⌜ Made store (now area) ⌝ }
+    ensures { λ r. ⌜ ((buffer part : Bytes) → Kept (record { store = store; area = now (area .entry); buffer = buffer }) (handingRow r) (handed part) → Kept (record { store = store; area = now (area .entry); buffer = buffer }) (reading (now (key .entry)) moment) (seen r part)) ⌝ }
+{
+    mvcc::read(store, area, key, moment)
+}
+
+// With whatever part `primary_of` hands back of the answer.
+pub fn intent_for_read(store: Store, area: &[u8], key: &[u8], moment: u64) -> Pointed
+    requires { ⌜ Made store (now area) ⌝ }
+    ensures { λ r. ⌜ ((buffer part : Bytes) → Kept (record { store = store; area = now (area .entry); buffer = buffer }) (handingPrimary r) (handed part) → Kept (record { store = store; area = now (area .entry); buffer = buffer }) (pointing (now (key .entry)) moment) (pointed r part)) ⌝ }
+{
+    mvcc::intent_for_read(store, area, key, moment)
+}
+
+// It takes no store: any may stand for it.
+pub fn row_of(area: &[u8], answer: Seen) -> &[u8]
+    ensures { λ r. ⌜ ((store : Store) → KeptOn store (now (area .entry)) (handingRow answer) (handed (now r))) ⌝ }
+{
+    mvcc::row_of(area, answer)
+}
+
+pub fn primary_of(area: &[u8], answer: Pointed) -> &[u8]
+    ensures { λ r. ⌜ ((store : Store) → KeptOn store (now (area .entry)) (handingPrimary answer) (handed (now r))) ⌝ }
+{
+    mvcc::primary_of(area, answer)
+}
+
+pub fn scan_page(
+    store: Store,
+    area: &[u8],
+    moment: u64,
+    rows: u64,
+    bytes: u64,
+    starts: bool,
+    start: &[u8],
+    ends: bool,
+    end: &[u8],
+    resumes: bool,
+    resume: &[u8],
+    out: &mut [u8],
+) -> Paged
+    requires { ⌜ Made store (now area) ⌝ }
+    ensures { λ r. ⌜ Kept (record { store = store; area = now (area .entry); buffer = now (out .entry) }) (paging (boundsOf starts (now (start .entry)) ends (now (end .entry)) resumes (now (resume .entry))) moment (record { rows = rows; bytes = bytes })) (paged r (now (out .exit))) ⌝ }
+{
+    mvcc::scan_page(
+        store,
+        area,
+        moment,
+        rows,
+        bytes,
+        starts,
+        start,
+        ends,
+        end,
+        resumes,
+        resume,
+        out,
+    )
+}
+
+pub fn scan_intent_page(
+    store: Store,
+    area: &[u8],
+    limit: u64,
+    starts: bool,
+    start: &[u8],
+    ends: bool,
+    end: &[u8],
+    resumes: bool,
+    resume: &[u8],
+    out: &mut [u8],
+) -> Paged
+    requires { ⌜ Made store (now area) ⌝ }
+    ensures { λ r. ⌜ Kept (record { store = store; area = now (area .entry); buffer = now (out .entry) }) (pagingIntents (boundsOf starts (now (start .entry)) ends (now (end .entry)) resumes (now (resume .entry))) limit) (paged r (now (out .exit))) ⌝ }
+{
+    mvcc::scan_intent_page(
+        store,
+        area,
+        limit,
+        starts,
+        start,
+        ends,
+        end,
+        resumes,
+        resume,
+        out,
+    )
+}
+
+pub fn scan_conflicting_intents(
+    store: Store,
+    area: &[u8],
+    moment: u64,
+    locks: u64,
+    bytes: u64,
+    starts: bool,
+    start: &[u8],
+    ends: bool,
+    end: &[u8],
+    resumes: bool,
+    resume: &[u8],
+    out: &mut [u8],
+) -> Paged
+    requires { ⌜ Made store (now area) ⌝ }
+    ensures { λ r. ⌜ Kept (record { store = store; area = now (area .entry); buffer = now (out .entry) }) (pagingConflicts (boundsOf starts (now (start .entry)) ends (now (end .entry)) resumes (now (resume .entry))) moment (record { rows = locks; bytes = bytes })) (paged r (now (out .exit))) ⌝ }
+{
+    mvcc::scan_conflicting_intents(
+        store,
+        area,
+        moment,
+        locks,
+        bytes,
+        starts,
+        start,
+        ends,
+        end,
+        resumes,
+        resume,
+        out,
+    )
+}
+
+pub fn prewrite(
+    store: Store,
+    area: &mut [u8],
+    txn: u64,
+    start: u64,
+    ttl: u64,
+    primary: &[u8],
+    key: &[u8],
+    put: bool,
+    row: &[u8],
+) -> Changed
+    requires { ⌜ Made store (now area) ⌝ }
+    ensures { λ r. ⌜ KeptOn store (now (area .entry)) (prewriting (record { txn = txn; start = start; primary = now (primary .entry); ttl = ttl }) (record { key = now (key .entry); row = when put (now (row .entry)) })) (changed r (now (area .exit))) ⌝ }
+{
+    mvcc::prewrite(store, area, txn, start, ttl, primary, key, put, row)
+}
+
+pub fn prewrite_batch(
+    store: Store,
+    area: &mut [u8],
+    txn: u64,
+    start: u64,
+    ttl: u64,
+    primary: &[u8],
+    batch: &[u8],
+) -> Changed
+    requires { ⌜ Made store (now area) ⌝ }
+    ensures { λ r. ⌜ KeptOn store (now (area .entry)) (prewritingBatch (record { txn = txn; start = start; primary = now (primary .entry); ttl = ttl }) (now (batch .entry))) (changed r (now (area .exit))) ⌝ }
+{
+    mvcc::prewrite_batch(store, area, txn, start, ttl, primary, batch)
+}
+
+pub fn commit_intent(
+    store: Store,
+    area: &[u8],
+    txn: u64,
+    start: u64,
+    commit: u64,
+    key: &[u8],
+) -> Changed
+    requires { ⌜ Made store (now area) ⌝ }
+    ensures { λ r. ⌜ KeptOn store (now (area .entry)) (committing (record { txn = txn; start = start; commit = commit }) (now (key .entry))) (committed r) ⌝ }
+{
+    mvcc::commit_intent(store, area, txn, start, commit, key)
+}
+
+pub fn commit_intents_batch(
+    store: Store,
+    area: &[u8],
+    txn: u64,
+    start: u64,
+    commit: u64,
+    batch: &[u8],
+) -> Changed
+    requires { ⌜ Made store (now area) ⌝ }
+    ensures { λ r. ⌜ KeptOn store (now (area .entry)) (committingBatch (record { txn = txn; start = start; commit = commit }) (now (batch .entry))) (committed r) ⌝ }
+{
+    mvcc::commit_intents_batch(store, area, txn, start, commit, batch)
+}
+
+pub fn rollback_intent(store: Store, area: &mut [u8], txn: u64, start: u64, key: &[u8]) -> Changed
+    requires { ⌜ Made store (now area) ⌝ }
+    ensures { λ r. ⌜ KeptOn store (now (area .entry)) (rollingBack txn start (now (key .entry))) (changed r (now (area .exit))) ⌝ }
+{
+    mvcc::rollback_intent(store, area, txn, start, key)
+}
+
+pub fn rollback_intents_batch(
+    store: Store,
+    area: &mut [u8],
+    txn: u64,
+    start: u64,
+    batch: &[u8],
+) -> Changed
+    requires { ⌜ Made store (now area) ⌝ }
+    ensures { λ r. ⌜ KeptOn store (now (area .entry)) (rollingBackBatch txn start (now (batch .entry))) (changed r (now (area .exit))) ⌝ }
+{
+    mvcc::rollback_intents_batch(store, area, txn, start, batch)
+}
+
+pub fn commit_batch(
+    store: Store,
+    area: &mut [u8],
+    txn: u64,
+    start: u64,
+    commit: u64,
+    batch: &[u8],
+) -> Stepped
+    requires { ⌜ Made store (now area) ⌝ }
+    ensures { λ r. ⌜ KeptOn store (now (area .entry)) (oneStepping (record { txn = txn; start = start; commit = commit }) (now (batch .entry))) (stepped r (now (area .exit))) ⌝ }
+{
+    mvcc::commit_batch(store, area, txn, start, commit, batch)
+}
+
+pub fn restore(store: Store, area: &mut [u8], image: &[u8]) -> Changed
+    requires { ⌜ Made store (now area) ⌝ }
+    ensures { λ r. ⌜ KeptOn store (now (area .entry)) (restoring (now (image .entry))) (changed r (now (area .exit))) ⌝ }
+{
+    mvcc::restore(store, area, image)
+}
+
+pub fn stats(store: Store, area: &[u8]) -> Stats
+    requires { ⌜ Made store (now area) ⌝ }
+    ensures { λ r. ⌜ KeptOn store (now (area .entry)) counting (counted r) ⌝ }
+{
+    mvcc::stats(store, area)
+}
+
+pub fn allocator_high_water_marks(store: Store, area: &[u8]) -> Marks
+    requires { ⌜ Made store (now area) ⌝ }
+    ensures { λ r. ⌜ KeptOn store (now (area .entry)) marking (marked r) ⌝ }
+{
+    mvcc::allocator_high_water_marks(store, area)
+}
