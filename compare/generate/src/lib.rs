@@ -13,6 +13,7 @@ pub mod named;
 pub mod random;
 pub mod repacks;
 mod room;
+pub mod singles;
 mod stock;
 mod writes;
 
@@ -48,6 +49,11 @@ impl Ops {
         op < 64 && self.0 >> op & 1 == 1
     }
 
+    /// Are the changing ops among them single forms alone?
+    pub fn singles_alone(self) -> bool {
+        [6, 8, 10].iter().any(|op| self.has(*op)) && ![7, 9, 11, 12].iter().any(|op| self.has(*op))
+    }
+
     /// Is there something to read by, and restore the only op that changes the box? Then what is read comes from images.
     pub fn reads_images(self) -> bool {
         self.has(32) && (1..=5).any(|op| self.has(op)) && !(6..=12).any(|op| self.has(op))
@@ -61,6 +67,8 @@ pub enum Kind {
     Fresh,
     /// The same from an odd but sound image.
     Odd,
+    /// Single forms above all, with keys and rows of odd lengths.
+    Singles,
     /// Images, sound and not, with the store's figures between.
     Images,
     /// A box at one of the four rooms, and calls that pass it.
@@ -93,11 +101,13 @@ pub fn kind_of(seed: u64) -> Kind {
 
 /// The trace of a seed. A full box costs a driver as much time as thousands of reads and shows restore alone, so where
 /// images are what is read, most of these give way to small ones. One large box in four is made by calls alone and packs
-/// its area anew.
+/// its area anew. One trace in ten, and where the changing ops are single forms alone two in three, is about these.
 pub fn trace(seed: u64, ops: Ops) -> Bytes {
     let kind = match kind_of(seed) {
         Kind::Room | Kind::Large if ops.reads_images() && !seed.is_multiple_of(8) => Kind::Odd,
         Kind::Large if ops == Ops::all() && seed.is_multiple_of(4) => Kind::Repacks,
+        Kind::Fresh | Kind::Odd if ops.singles_alone() => Kind::Singles,
+        Kind::Fresh | Kind::Odd if ops == Ops::all() && seed.is_multiple_of(6) => Kind::Singles,
         kind => kind,
     };
     trace_of(kind, seed, ops)
@@ -118,6 +128,18 @@ pub fn trace_of(kind: Kind, seed: u64, ops: Ops) -> Bytes {
             let restore = maker.sound_restore();
             maker.push(restore);
             some_calls(&mut maker, 4, if ops.reads_images() { 200 } else { 35 });
+        }
+        Kind::Singles => {
+            if maker.random.percent(60) {
+                let restore = maker.sound_restore();
+                maker.push(restore);
+            }
+            for _ in 0..maker.random.between(4, 40) {
+                maker.single_form();
+                if maker.random.percent(25) {
+                    maker.any_call();
+                }
+            }
         }
         Kind::Images => {
             for _ in 0..maker.random.between(1, 6) {

@@ -3,7 +3,7 @@
 
 use std::collections::{BTreeMap, BTreeSet};
 
-use generate::{Kind, Ops, kind_of, named, trace, trace_of};
+use generate::{Kind, Ops, kind_of, named, singles, trace, trace_of};
 use paper::restore::Image;
 use paper::room::{DEFAULTS, LINES, LIVE_BYTES, LOCKS, Use};
 use paper::run::{run_call, run_trace};
@@ -68,6 +68,37 @@ fn reads_meet_boxes_that_hold_something() {
         assert!(seen[&(op, "nothing")] * 10 >= all, "op {op}: {seen:?}");
     }
     assert!(seen[&(1, "held")] * 10 >= seen[&(1, "all")], "{seen:?}");
+}
+
+/// Where the changing ops are single forms alone, these are most of the calls, and keys and rows have every odd length.
+#[test]
+fn single_forms_come_with_every_length() {
+    let ops = Ops::read("1,6,8,10,32,33,34").expect("a list of ops");
+    let (mut all, mut singles) = (0, 0);
+    let mut lengths: BTreeMap<(u8, &str, usize), usize> = BTreeMap::new();
+    for seed in 0..2000 {
+        for call in read_trace(&trace(seed, ops)).unwrap_or_default() {
+            all += 1;
+            singles += usize::from(matches!(call.op(), 6 | 8 | 10));
+            let op = call.op();
+            let mut count = |what, bytes: &[u8]| *lengths.entry((op, what, bytes.len())).or_default() += 1;
+            match call {
+                Call::Prewrite { key, kind, row, .. } => {
+                    count("key", &key);
+                    count(if kind == paper::store::Kind::Put { "Put row" } else { "Delete row" }, &row);
+                }
+                Call::Commit { key, .. } | Call::Rollback { key, .. } => count("key", &key),
+                _ => {}
+            }
+        }
+    }
+    assert!(singles * 10 >= all * 6, "{singles} of {all}");
+    for length in singles::LENGTHS {
+        for place in [(6, "key"), (8, "key"), (10, "key"), (6, "Put row"), (6, "Delete row")] {
+            let seen = lengths.get(&(place.0, place.1, length)).copied().unwrap_or(0);
+            assert!(seen >= 50, "{place:?} of {length} bytes: {seen}");
+        }
+    }
 }
 
 #[test]

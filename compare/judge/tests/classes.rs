@@ -37,6 +37,8 @@ const UNSEEN: &[(&str, &[Bend])] = &[
             Bend::ResumeBeforeOrder,
             Bend::TimeToLiveBeforePrimary,
             Bend::RowBeforeKey,
+            Bend::LongKeyFirst,
+            Bend::LongRowFirst,
         ],
     ),
     (

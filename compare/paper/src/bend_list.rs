@@ -172,6 +172,14 @@ bends! {
     ReplayRowMissingTaken "a replay is accepted though its row is missing";
     ReplayRowAny "a replay may bring another row";
     ReplayDeleteWithDefaultRefused "a Delete's replay beside a default is 9";
+    // Single forms
+    LongKeyIs6 "a single key above 255 bytes is 6";
+    LongKeyFirst "a single key above 255 bytes is 1 before any other step";
+    LongKeyWraps "a single key's length is taken by its last byte";
+    LongRowFirst "a single Put's row above 255 bytes is 2 before any other step";
+    LongRowCut "a single Put's row above 255 bytes is cut";
+    LongRowWraps "a single Put's row length is taken by its last byte";
+    DeleteLongRowJudged "a single Delete's row argument above 255 bytes is 2";
     // Commit
     CommitMayEqualStart "commit may equal start";
     CommitZeroFirst "3 comes before 6 in a commit";

@@ -3,6 +3,7 @@
 use crate::answer::{BATCH, CONTRADICTION, EMPTY, HISTORY, KEY, Refusal, ZERO, refuse, refuse_held};
 use crate::bend::{Bend, bent};
 use crate::form::{key_batch, key_in_form, row_in_form};
+use crate::single::single_key;
 use crate::store::{Bytes, Kind, Record, Store};
 
 /// The numbers of a commit or of a one-step batch.
@@ -44,7 +45,7 @@ impl Store {
 
     /// The single form takes "the steps without 6 and 5".
     pub fn commit(&mut self, call: Commit, key: &[u8]) -> Result<(), Refusal> {
-        self.commit_keys(call, &[key.to_vec()])
+        self.commit_keys(call, &[single_key(key)?])
     }
 
     fn commit_keys(&mut self, call: Commit, keys: &[Bytes]) -> Result<(), Refusal> {

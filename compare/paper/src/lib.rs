@@ -23,5 +23,6 @@ pub mod restore;
 pub mod rollback;
 pub mod room;
 pub mod run;
+mod single;
 pub mod store;
 pub mod trace;

@@ -4,7 +4,8 @@ use crate::answer::{BATCH, CONTRADICTION, EMPTY, HISTORY, KEY, NO_ROOM, ROW, Ref
 use crate::as_rust::no_conflict;
 use crate::bend::{Bend, bent};
 use crate::form::{Entry, key_in_form, mutation_batch, row_in_form, table_of};
-use crate::store::{Bytes, Kind, Lock, Store};
+use crate::single::{single_key, single_row};
+use crate::store::{Kind, Lock, Store};
 
 /// The call's own fields: what each new lock takes over.
 pub struct Prewrite<'a> {
@@ -30,8 +31,8 @@ impl Store {
     /// "Single forms, here and below, take the steps without 6 and 5; the kind is Put or Delete, and a Delete's row
     /// argument is ignored."
     pub fn prewrite(&mut self, call: &Prewrite, kind: Kind, key: &[u8], row: &[u8]) -> Result<(), Refusal> {
-        let row = if kind == Kind::Put || bent(Bend::DeleteRowJudged) { row.to_vec() } else { Bytes::new() };
-        self.prewrite_entries(call, &[Entry { key: key.to_vec(), kind, row }])
+        let (key, row) = (single_key(key)?, single_row(kind, row)?);
+        self.prewrite_entries(call, &[Entry { key, kind, row }])
     }
 
     fn prewrite_entries(&mut self, call: &Prewrite, entries: &[Entry]) -> Result<(), Refusal> {

@@ -3,6 +3,7 @@
 use crate::answer::{BATCH, CONTRADICTION, EMPTY, HISTORY, KEY, Refusal, ZERO, refuse, refuse_held};
 use crate::bend::{Bend, bent};
 use crate::form::{key_batch, key_in_form, row_in_form};
+use crate::single::single_key;
 use crate::store::{Bytes, Kind, Record, Store};
 
 impl Store {
@@ -20,7 +21,7 @@ impl Store {
 
     /// The single form takes "the steps without 6 and 5".
     pub fn rollback(&mut self, transaction: u64, start: u64, key: &[u8]) -> Result<(), Refusal> {
-        self.rollback_keys(transaction, start, &[key.to_vec()])
+        self.rollback_keys(transaction, start, &[single_key(key)?])
     }
 
     fn rollback_keys(&mut self, transaction: u64, start: u64, keys: &[Bytes]) -> Result<(), Refusal> {

@@ -1,12 +1,10 @@
 -- The byte area: the loop of `append`, and that what stands below `top` is all that the box sees.
 -- Assumes nothing.
-use Prim.Native.Nat.{ℕ, _+_, _-_, _≤_, _<_}
-use native.Mathlib.Numerals.{add-one}
+use Prim.Native.Nat.{ℕ, _+_, _-_, _≤_}
 use native.Mathlib.Omega.{arith}
 use mathlib.Core.Path.{_≡_, refl, sym, ap, _∙_}
-use mathlib.Core.List.{List, _++_, append-assoc}
-use lib.ListN.{length, getD, take, drop, set, length-set, length-append, length-drop}
-use lib.Seq.{paste, paste-zero, paste-suc, take-length, take-take, take-append-le, take-all, take-at, drop-at, length-take-le}
+use lib.ListN.{length, take, drop, length-drop}
+use lib.Seq.{take-take, length-take-le}
 use Rattle.seqs.proofs.Tables.{part-in}
 use Rattle.rules.specs.Box as box
 use Rattle.rules.specs.Room.{oneLock, lineBytes}
@@ -18,47 +16,6 @@ use Rattle.lines.specs.declared.store.Line.the-variants.{Standing, Finished}
 use Rattle.lines.specs.View.{lineIn, keyOf, lineOf, defaultOf}
 use Rattle.lines.specs.Made.{SlotBelow, HeldBelow, LineBelow}
 use Rattle.areas.specs.Areas.{Appended, locksOf, primarySize}
-
--- ---- the loop of `append`
-
-pub record Copied (d : Bytes) (at : ℕ) (s : Bytes) (j : ℕ) (cur : Bytes) : Type 0 where
-  pub low : j ≤ length s
-  pub long : length cur ≡ length d
-  pub is : cur ≡ paste d at s j
-
-pub copied-none : {d s : Bytes} {at : ℕ} → Copied d at s 0 d
-copied-none {d} {s} {at} = record { low = omega arith; long = refl; is = paste-zero d at s }
-
-module _ {d s cur : Bytes} {at j : ℕ} (v : Copied d at s j cur) (fits : at + length s ≤ length d) where
-  pub copied-more : j < length s → Copied d at s (j + 1) (set cur (at + j) (getD s j 0))
-  copied-more h = record {
-    low = omega arith;
-    long = length-set cur (at + j) (getD s j 0) ∙ v .long;
-    is =
-        let g : at + j < length d = omega arith in
-        ap (λ (l : Bytes). set l (at + j) (getD s j 0)) (v .is) ∙ paste-suc d at s j 0 g h ∙ rw add-one;
-  }
-
-  copied-all : length s ≤ j → cur ≡ take at d ++ s ++ drop (at + length s) d
-  copied-all h =
-      let e : j ≡ length s = omega (arith, v .low) in
-      v .is ∙ rw (e, take-length)
-
-  pub copied-end : length s ≤ j → Appended d at s cur
-  copied-end h = record {
-    long = v .long;
-    kept =
-        ap (take at) (copied-all h ∙ append-assoc (take at d) s (drop (at + length s) d))
-        ∙ take-append-le at (take at d) (s ++ drop (at + length s) d) (omega (arith, front))
-        ∙ take-all at (take at d) (omega (arith, front));
-    stands =
-        ap (λ (l : Bytes). bytesAt l at (length s)) (copied-all h ∙ append-assoc (take at d) s (drop (at + length s) d))
-        ∙ ap (take (length s)) (drop-at (take at d) (s ++ drop (at + length s) d) at front)
-        ∙ take-at s (drop (at + length s) d) (length s) refl;
-  }
-    where
-      front : length (take at d) ≡ at
-      front = length-take-le at d (omega arith)
 
 -- bytes that lie in the area are as many as the slot says
 pub bytes-long : (area : Bytes) (at len : ℕ) → at + len ≤ length area → length (bytesAt area at len) ≡ len

@@ -2,7 +2,7 @@
 ghost use Prim.Native.Nat.{_≤_};
 ghost use Rattle.lines.specs.Made.{Made};
 ghost use Rattle.areas.specs.Packs.{IntentAsks, IntentPacked, SlotAsks, SlotPacked, HeldAsks, HeldPacked, LinesAsks, LinesPacked, DefaultsAsks, DefaultsPacked, Repacked, Placed};
-use crate::bytes::append;
+use forms::append;
 use lines::Held;
 use lines::Intent;
 use lines::Line;

@@ -1,16 +1,14 @@
 -- A built store after a change of one of its tables, at a fixed top and area; and the same store under a higher top.
 -- Assumes nothing.
-use Prim.Native.Nat.{ℕ, suc, _+_, _-_, _≤_, _<_}
+use Prim.Native.Nat.{ℕ, _+_, _-_, _≤_, _<_}
 use native.Mathlib.Omega.{arith}
 use mathlib.Core.Path.{_≡_, refl, sym, ap, ap₂, _∙_, subst}
-use mathlib.Core.Bool.{true}
 use mathlib.Core.List.{List}
-use lib.ListN.{length, take, set}
-use Rattle.seqs.specs.Tables.{Table, shown, insertAt, removeAt, moveTo, inserted}
-use Rattle.seqs.proofs.Tables.{table-long, table-wider, table-inserted, table-moved, table-set, table-removed, shown-inserted, shown-moved, shown-removed, shown-set, shown-same}
+use lib.ListN.{length, take}
+use Rattle.seqs.specs.Tables.{Table, shown, insertAt, moveTo, inserted}
+use Rattle.seqs.proofs.Tables.{table-long, table-wider, table-inserted, table-moved, shown-inserted, shown-moved, shown-same}
 use Rattle.forms.specs.Bytes.{Bytes}
 use Rattle.rules.specs.Box as box
-use Rattle.rules.specs.declared.room.Load.{Load}
 use Rattle.lines.specs.declared.store.Slot.{Slot}
 use Rattle.lines.specs.declared.store.Held.{Held}
 use Rattle.lines.specs.declared.store.Store.{Store}
@@ -106,12 +104,6 @@ module _ {st : Store} {area : Bytes} (b : Built st area) where
       lines-leave (table-moved (b .lines) i s p j h g)
       (shown-moved (lineOf area) (st .lines) i j (st .load .lines) s h g (table-long (b .lines)) ∙ ap (λ (x : box.KeyLine). moveTo i j x es) q ∙ sym e) low k
 
-  pub line-out : {i : ℕ} {locks bytes : ℕ} → i < st .load .lines → bytes ≤ st .top
-      → Kept (record { lines = removeAt i es; defaults = ds }) (record { lines = st .load .lines - 1; locks = locks; defaults = st .load .defaults; bytes = bytes })
-      → Leaves (record { lines = removeAt i es; defaults = ds }) (st .top)
-      (record { lines = moveTo i (st .load .lines) noSlot (st .lines); defaults = st .defaults; load = record { lines = st .load .lines - 1; locks = locks; defaults = st .load .defaults; bytes = bytes }; top = st .top }) area
-  line-out {i} h low k = lines-leave (table-removed (b .lines) i h) (shown-removed (lineOf area) (st .lines) i (st .load .lines) noSlot h (table-long (b .lines))) low k
-
   -- a default comes at i, is replaced there, goes from i
   pub default-in : {i : ℕ} {s : Held} {bytes : ℕ} {d : box.Default} {ds′ : List box.Default} → HeldBelow (st .top) s → defaultOf area s ≡ d → i ≤ st .load .defaults → st .load .defaults < 1024 → ds′ ≡ insertAt i d ds → bytes ≤ st .top
       → Kept (record { lines = es; defaults = ds′ }) (record { lines = st .load .lines; locks = st .load .locks; defaults = st .load .defaults + 1; bytes = bytes })
@@ -120,18 +112,3 @@ module _ {st : Store} {area : Bytes} (b : Built st area) where
   default-in {i} {s} p q h room e low k =
       defaults-leave (table-inserted (b .defaults) i s p h room)
       (shown-inserted (defaultOf area) (st .defaults) i (st .load .defaults) s h (omega (arith, b .defaults .long)) ∙ ap (λ (x : box.Default). insertAt i x ds) q ∙ sym e) low k
-
-  pub default-set : {i : ℕ} {s : Held} {bytes : ℕ} {d : box.Default} {ds′ : List box.Default} → HeldBelow (st .top) s → defaultOf area s ≡ d → i < st .load .defaults → ds′ ≡ set ds i d → bytes ≤ st .top
-      → Kept (record { lines = es; defaults = ds′ }) (record { lines = st .load .lines; locks = st .load .locks; defaults = st .load .defaults; bytes = bytes })
-      → Leaves (record { lines = es; defaults = ds′ }) (st .top)
-      (record { lines = st .lines; defaults = set (st .defaults) i s; load = record { lines = st .load .lines; locks = st .load .locks; defaults = st .load .defaults; bytes = bytes }; top = st .top }) area
-  default-set {i} {s} p q h e low k =
-      defaults-leave (table-set (b .defaults) i s p h)
-      (shown-set (defaultOf area) (st .defaults) i (st .load .defaults) s h ∙ ap (λ (x : box.Default). set ds i x) q ∙ sym e) low k
-
-  pub default-out : {i : ℕ} {bytes : ℕ} {ds′ : List box.Default} → i < st .load .defaults → ds′ ≡ removeAt i ds → bytes ≤ st .top
-      → Kept (record { lines = es; defaults = ds′ }) (record { lines = st .load .lines; locks = st .load .locks; defaults = st .load .defaults - 1; bytes = bytes })
-      → Leaves (record { lines = es; defaults = ds′ }) (st .top)
-      (record { lines = st .lines; defaults = moveTo i (st .load .defaults) noHeld (st .defaults); load = record { lines = st .load .lines; locks = st .load .locks; defaults = st .load .defaults - 1; bytes = bytes }; top = st .top }) area
-  default-out {i} h e low k =
-      defaults-leave (table-removed (b .defaults) i h) (shown-removed (defaultOf area) (st .defaults) i (st .load .defaults) noHeld h (table-long (b .defaults)) ∙ sym e) low k

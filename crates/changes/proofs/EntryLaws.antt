@@ -1,42 +1,37 @@
 -- The changes of lines: the loop that makes place and the loop that closes up, and the box that is shown then.
 -- Assumes nothing.
-use Prim.Native.Nat.{ℕ, suc, _+_, _-_, _≤_, _<_}
+use Prim.Native.Nat.{ℕ, _+_, _-_, _≤_, _<_}
 use native.Mathlib.Omega.{arith}
 use mathlib.Core.Path.{_≡_, refl, sym, ap, ap₂, _∙_, subst}
-use mathlib.Core.Bool.{Bool, true, false, false≢true}
-use mathlib.Core.List.{List, _∷_}
+use mathlib.Core.Bool.{true, false≢true}
+use mathlib.Core.List.{List}
 use mathlib.Core.Option.{Option, none, some}
 use lib.ListN.{length, getD, take, set}
-use borrow.Author.Tests.{leb-true}
-use Rattle.seqs.specs.Tables.{shown, insertAt, removeAt, moveTo, inserted}
+use Rattle.seqs.specs.Tables.{insertAt, moveTo, inserted}
 use Rattle.seqs.proofs.Shifts.{Shifted, shift-start, shift-more, shift-end, Slid, slide-start, slide-more, slide-end}
 use Rattle.seqs.proofs.Tables.{table-at, table-long, shown-length, shown-at}
-use Rattle.forms.specs.Bytes.{Bytes, bytesAt}
-use Rattle.forms.specs.Key.{Key, keyForm}
+use Rattle.forms.specs.Bytes.{Bytes}
+use Rattle.forms.specs.Key.{keyForm}
 use Rattle.forms.specs.Readers.{isSome}
 use Rattle.rules.specs.declared.records.Record.{Record}
 use Rattle.rules.specs.Box as box
-use Rattle.rules.specs.Room.{oneLock, lineBytes}
-use Rattle.laws.specs.Places.{linesBefore, finishedAt}
-use Rattle.laws.proofs.StepLaws.{and-left, and-right}
+use Rattle.rules.specs.Room.{lineBytes}
+use Rattle.laws.specs.Places.{finishedAt}
 use Rattle.laws.proofs.BoxOrder.{order-lines}
 use Rattle.laws.proofs.LinePlaces.{lock-at}
-use Rattle.lines.specs.declared.store.Intent.{Intent}
-use Rattle.lines.specs.declared.store.Line.{Line}
 use Rattle.lines.specs.declared.store.Line.the-variants.{Standing, Finished}
 use Rattle.lines.specs.declared.store.Slot.{Slot}
 use Rattle.lines.specs.declared.store.Held.{Held}
 use Rattle.lines.specs.declared.store.Store.{Store}
-use Rattle.lines.specs.View.{lineIn, keyOf, lineOf, boxOf, noSlot}
-use Rattle.lines.specs.Made.{LineBelow, SlotBelow, Kept, Built}
-use Rattle.lines.specs.Looks.{recordPlace}
+use Rattle.lines.specs.View.{lineOf, boxOf, noSlot}
+use Rattle.lines.specs.Made.{SlotBelow, Kept, Built}
 use Rattle.lines.proofs.MadeLaws.{line-key}
-use Rattle.changes.specs.Changes.{Leaves, LockAsks, RecordAsks, EndAsks, withLock, withRecord, ended, withoutLine}
-use Rattle.areas.specs.Areas.{Appended, locksOf, primarySize}
+use Rattle.changes.specs.Changes.{Leaves, LockAsks, RecordAsks, EndAsks, withLock, withRecord, ended}
+use Rattle.areas.specs.Areas.{Appended, primarySize}
 use Rattle.areas.proofs.AreaLaws.{Twice, bytes-long, slot-wider, slot-size}
-use Rattle.changes.proofs.KeptLaws.{kept-lock, kept-record, kept-ended, kept-removed, lock-counted, line-counted}
+use Rattle.changes.proofs.KeptLaws.{kept-lock, kept-record, kept-ended, lock-counted}
 use Rattle.changes.proofs.WhereLaws.{lock-in-place, record-in-place, record-few, lines-few, lock-there, lock-before, ended-in-place}
-use Rattle.changes.proofs.BuiltLaws.{raised, Grown, grown, line-in, line-moved, line-out}
+use Rattle.changes.proofs.BuiltLaws.{Grown, grown, line-in, line-moved}
 
 -- ---- the loop that makes place
 
@@ -161,19 +156,13 @@ module _ {st : Store} {area key : Bytes} {place : ℕ} {w : Record} (asks : Reco
       (record-in-place key w (boxOf st area .lines) (order-lines (boxOf st area) (asks .built .kept .sorted)) (asks .free) ∙ ap (λ (n : ℕ). insertAt n (finishedAt key w) (boxOf st area .lines)) (sym (asks .at)))
       (kept-record (asks .built .kept) key (asks .form) w (asks .free))
 
--- ---- `end_lock`
+-- ---- a record takes the place of the key's lock
 
 pub some-of : {A : Type 0} (o : Option A) → isSome o ≡ true → (x : A) × (o ≡ some x)
 some-of none h = absurd (false≢true h)
 some-of (some x) h = (x, refl)
 
 module _ {st : Store} {area key : Bytes} {first place : ℕ} {w : Record} (asks : EndAsks st area first place key w) where
-  es : List box.KeyLine
-  es = boxOf st area .lines
-
-  held : Slot
-  held = getD (st .lines) first noSlot
-
   lock : (x : box.Lock) × (box.lockOf key (boxOf st area .lines) ≡ some x)
   lock = some-of (box.lockOf key (boxOf st area .lines)) (asks .lock)
 
@@ -245,47 +234,3 @@ module _ {st : Store} {area key : Bytes} {first place : ℕ} {w : Record} (asks 
           line-moved (asks .built) (record { key-below = below .key-below; line-below = tt; in-use = refl })
           (ap (λ (a : Bytes). record { key = a; line = box.Finished w }) (ap (λ (e : box.KeyLine). e .key) shows-lock)) end-before end-place place-is (omega (arith, asks .built .live-in))
           (kept-ended (asks .built .kept) key (lock .0) w form (lock .1) (asks .free))
-
--- ---- `drop_line`
-
-module _ {st : Store} {area : Bytes} {i : ℕ} (b : Built st area) (l : i < st .load .lines) where
-  abbrev gone : Slot
-  gone = getD (st .lines) i noSlot
-
-  gone-in : SlotBelow (length area) gone
-  gone-in = slot-wider (st .top) (length area) (omega (arith, b .top-in, b .area-long)) gone (table-at (b .lines) i l)
-
-  counted-at : i < length (boxOf st area .lines)
-  counted-at = omega (arith, shown-length (b .lines) (lineOf area))
-
-  locks-are : oneLock (getD (boxOf st area .lines) i (lineOf area noSlot) .line) ≡ locksOf (gone .line)
-  locks-are = ap (λ (e : box.KeyLine). oneLock (e .line)) (shown-at (b .lines) (lineOf area) i l) ∙ slot-size area gone gone-in .1
-
-  bytes-are : lineBytes (getD (boxOf st area .lines) i (lineOf area noSlot) .key) (getD (boxOf st area .lines) i (lineOf area noSlot) .line) ≡ gone .len + primarySize (gone .line)
-  bytes-are = ap (λ (e : box.KeyLine). lineBytes (e .key) (e .line)) (shown-at (b .lines) (lineOf area) i l) ∙ slot-size area gone gone-in .0
-
-  pub gone-locks : locksOf (gone .line) ≤ st .load .locks
-  gone-locks = omega (arith, locks-are, line-counted (b .kept) i (lineOf area noSlot) counted-at .0)
-
-  pub gone-bytes : gone .len + primarySize (gone .line) ≤ st .load .bytes
-  gone-bytes = omega (arith, bytes-are, line-counted (b .kept) i (lineOf area noSlot) counted-at .1)
-
-  pub line-dropped : {k locks size : ℕ} {m : Store} {s : Slot} → ClosingUp st i (st .load .lines) k m → st .load .lines ≤ k + 1 → s ≡ noSlot → locks ≡ locksOf (gone .line) → size ≡ primarySize (gone .line)
-      → Leaves (withoutLine (boxOf st area) i) (st .top)
-      (record { lines = set (m .lines) k s; defaults = m .defaults; load = record { lines = st .load .lines - 1; locks = st .load .locks - locks; defaults = st .load .defaults; bytes = st .load .bytes - (gone .len + size) }; top = m .top }) area
-  line-dropped {k} {locks} {size} {m} {s} c h e p q =
-      subst (λ (t : ℕ). Leaves new (st .top) (store (set (m .lines) k s) (m .defaults) locks freed t) area) (sym (c .top-is))
-      (subst (λ (ls : List Slot). Leaves new (st .top) (store ls (m .defaults) locks freed (st .top)) area) (sym (ap (set (m .lines) k) e ∙ closing-end c (table-long (b .lines)) h noSlot))
-      (subst (λ (hs : List Held). Leaves new (st .top) (store (moveTo i (st .load .lines) noSlot (st .lines)) hs locks freed (st .top)) area) (sym (c .others))
-      (subst (λ (n : ℕ). Leaves new (st .top) (store (moveTo i (st .load .lines) noSlot (st .lines)) (st .defaults) n freed (st .top)) area) (sym (p ∙ sym locks-are))
-      (subst (λ (n : ℕ). Leaves new (st .top) (store (moveTo i (st .load .lines) noSlot (st .lines)) (st .defaults) (oneLock (getD (boxOf st area .lines) i (lineOf area noSlot) .line)) n (st .top)) area) (sym (ap (λ (n : ℕ). gone .len + n) q ∙ sym bytes-are))
-      (line-out b l (omega (arith, b .live-in)) (kept-removed (b .kept) i (lineOf area noSlot) counted-at))))))
-    where
-      freed : ℕ
-      freed = gone .len + size
-
-      new : box.Box
-      new = withoutLine (boxOf st area) i
-
-      store : List Slot → List Held → ℕ → ℕ → ℕ → Store
-      store ls hs n f t = record { lines = ls; defaults = hs; load = record { lines = st .load .lines - 1; locks = st .load .locks - n; defaults = st .load .defaults; bytes = st .load .bytes - f }; top = t }

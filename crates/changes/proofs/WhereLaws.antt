@@ -1,17 +1,16 @@
 -- The definition's inserts and drops, by place: what the tables do at a place is what the box's definition makes.
 -- Assumes nothing.
-use Prim.Native.Nat.{ℕ, zero, suc, _+_, _-_, _≤_, _<_}
+use Prim.Native.Nat.{ℕ, suc, _+_, _-_, _≤_, _<_}
 use native.Mathlib.Omega.{arith}
 use mathlib.Core.Path.{_≡_, refl, sym, ap, ap₂, _∙_}
-use mathlib.Core.Bool.{Bool, true, false, true≢false, false≢true}
+use mathlib.Core.Bool.{Bool, true, false, true≢false}
 use mathlib.Core.List.{List, [], _∷_, _++_}
 use mathlib.Core.Option.{Option, none, some}
-use lib.Dec.{eqb}
-use lib.ListN.{length, getD, take, drop, set, length-drop, length-append}
-use lib.Seq.{slice, take-take, take-at, drop-at, drop-append-le, drop-drop, take-append-add, drop-append-add, length-take-le, set-split, getD-drop}
+use lib.ListN.{length, getD, take, drop, set, length-drop}
+use lib.Seq.{take-at, drop-at, drop-drop, take-append-add, drop-append-add, length-take-le, set-split, getD-drop}
 use Rattle.seqs.specs.Tables.{insertAt, removeAt, moveTo}
 use Rattle.seqs.proofs.Tables.{drop-take}
-use Rattle.forms.specs.Bytes.{Bytes, eqBytes, ltBytes, cmp}
+use Rattle.forms.specs.Bytes.{ltBytes, cmp}
 use Rattle.forms.specs.Key.{Key}
 use Rattle.forms.specs.Row.{Row}
 use Rattle.rules.specs.declared.records.Record.{Record}
@@ -19,11 +18,10 @@ use Rattle.rules.specs.Box as box
 use Rattle.rules.specs.declared.records.Kind.the-variants.{Put}
 use Rattle.rules.specs.Calls.{stampedAt, recordFor}
 use Rattle.laws.specs.Places.{howMany, oneMore, linesBefore, pairsBefore, finishedAt, lockPlace, linesOf, those, rowFirst}
-use Rattle.laws.proofs.StepLaws.{and-left, and-right}
 use Rattle.laws.proofs.PlaceLaws.{howMany-le, howMany-ext, insert-place}
 use Rattle.laws.proofs.BoxOrder.{before-trans, before-irrefl, clear-record, ordered-dropLock, ordered-dropRow}
 use Rattle.laws.proofs.KeyLaws.{records-dropLock, lock-gone, row-gone}
-use Rattle.laws.proofs.LinePlaces.{lines-from, lock-at, dropLock-place, linesBefore-dropLock, lock-comes, stampsBelow, record-place}
+use Rattle.laws.proofs.LinePlaces.{lines-from, dropLock-place, linesBefore-dropLock, lock-comes, stampsBelow, record-place}
 use Rattle.laws.proofs.DefaultPlaces.{row-is, dropRow-place, default-comes}
 use Rattle.lines.specs.Looks.{stampLine, recordPlace, pair}
 use Rattle.lines.proofs.OrderLaws.{before-other}

@@ -5,7 +5,6 @@ use mathlib.Core.Bool.{true}
 use mathlib.Core.Option.{none}
 use Prim.Native.Nat.{ℕ, _+_, _≤_, _<_}
 use lib.ListN.{length}
-use Rattle.seqs.specs.Tables.{removeAt}
 use Rattle.forms.specs.Bytes.{Bytes}
 use Rattle.forms.specs.Key.{Key, keyForm}
 use Rattle.forms.specs.Readers.{isSome}
@@ -30,18 +29,8 @@ withRecord b k w = record { lines = box.insertLine (record { key = k; line = box
 abbrev pub ended : box.Box → Key → Record → box.Box
 ended b k w = record { lines = box.insertLine (record { key = k; line = box.Finished w }) (box.dropLock k (b .lines)); defaults = b .defaults }
 
-abbrev pub withoutLine : box.Box → ℕ → box.Box
-withoutLine b i = record { lines = removeAt i (b .lines); defaults = b .defaults }
-
 abbrev pub withRow : box.Box → box.Default → box.Box
 withRow b d = record { lines = b .lines; defaults = box.insertDefault d (b .defaults) }
-
--- a row in the place of that stored for its key and start
-abbrev pub swapped : box.Box → box.Default → box.Box
-swapped b d = record { lines = b .lines; defaults = box.insertDefault d (box.dropRow (d .key) (d .start) (b .defaults)) }
-
-abbrev pub withoutRow : box.Box → Key → ℕ → box.Box
-withoutRow b k start = record { lines = b .lines; defaults = box.dropRow k start (b .defaults) }
 
 -- ---- what a change leaves
 
@@ -89,16 +78,3 @@ pub record RowAsks (st : Store) (area : Bytes) (place : ℕ) (key : Bytes) (star
   pub row-short : length row ≤ 255
   pub slot-free : st .load .defaults < 1024
   pub area-room : st .top + length key + length row ≤ 65536
-
-pub record SwapAsks (st : Store) (area : Bytes) (place : ℕ) (key : Bytes) (start : ℕ) (row : Bytes) : Type 0 where
-  pub built : Built st area
-  pub at : place ≡ pairsBefore key start (boxOf st area .defaults)
-  pub stored : isSome (box.rowOf key start (boxOf st area .defaults)) ≡ true
-  pub row-some : 1 ≤ length row
-  pub row-short : length row ≤ 255
-  pub area-room : st .top + length row ≤ 65536
-
-pub record DropAsks (st : Store) (area : Bytes) (place : ℕ) (key : Bytes) (start : ℕ) : Type 0 where
-  pub built : Built st area
-  pub at : place ≡ pairsBefore key start (boxOf st area .defaults)
-  pub stored : isSome (box.rowOf key start (boxOf st area .defaults)) ≡ true

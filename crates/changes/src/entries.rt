@@ -1,17 +1,13 @@
-// Lines that come and go.
-ghost use mathlib.Core.Path.{_≡_};
+// Lines that come.
 ghost use Prim.Native.Nat.{_+_, _<_};
 ghost use lib.ListN.{length};
 ghost use Rattle.lines.specs.View.{boxOf};
-ghost use Rattle.lines.specs.Made.{Built};
-ghost use Rattle.areas.specs.Areas.{locksOf, primarySize};
-ghost use Rattle.changes.specs.Changes.{LockAsks, RecordAsks, EndAsks, Leaves, withLock, withRecord, ended, withoutLine};
+ghost use Rattle.changes.specs.Changes.{LockAsks, RecordAsks, Leaves, withLock, withRecord};
 use areas::append;
 use lines::Intent;
 use lines::Line;
 use lines::Slot;
 use lines::Store;
-use lines::store::no_slot;
 use rules::Kind;
 use rules::Load;
 use rules::Record;
@@ -101,94 +97,5 @@ pub fn put_record(store: Store, area: &mut [u8], place: usize, key: &[u8], w: Re
     };
     l.load = load;
     l.top = top + size;
-    l
-}
-
-// How many locks a line is, and how many bytes its primary has.
-fn locks_of(line: Line) -> usize
-    ensures { λ r. ⌜ r ≡ locksOf line ⌝ }
-{
-    match line {
-        Line::Standing(_) => 1,
-        Line::Finished(_) => 0,
-    }
-}
-
-fn primary_size(line: Line) -> usize
-    ensures { λ r. ⌜ r ≡ primarySize line ⌝ }
-{
-    match line {
-        Line::Standing(i) => i.len as usize,
-        Line::Finished(_) => 0,
-    }
-}
-
-// A record takes the place of the key's lock: the lock at `first` goes, and the record stands before the line that was at `place`.
-pub fn end_lock(
-    store: Store,
-    area: &[u8],
-    first: usize,
-    place: usize,
-    key: &[u8],
-    w: Record,
-) -> Store
-    requires { ⌜ EndAsks store (now area) first place (now key) w ⌝ }
-    ensures { λ r. ⌜ Leaves (ended (boxOf store (now (area .entry))) (now (key .entry)) w) (store .top) r (now (area .entry)) ⌝ }
-{
-    let mut l = store;
-    let old = store.load;
-    let lock = l.lines[first];
-    let line = lock.line;
-    let freed = primary_size(line);
-    let s = Slot {
-        at: lock.at,
-        len: lock.len,
-        used: true,
-        line: Line::Finished(w),
-    };
-    let mut k = first;
-    while k + 1 < place {
-        let t = l.lines[k + 1];
-        l.lines[k] = t;
-        k += 1;
-    }
-    l.lines[k] = s;
-    let load = Load {
-        lines: old.lines,
-        locks: old.locks - 1,
-        defaults: old.defaults,
-        bytes: old.bytes - freed,
-    };
-    l.load = load;
-    l
-}
-
-// The line at a place goes.
-pub fn drop_line(store: Store, area: &[u8], i: usize) -> Store
-    requires { ⌜ (Built store (now area)) × (i < store .load .lines) ⌝ }
-    ensures { λ r. ⌜ Leaves (withoutLine (boxOf store (now (area .entry))) i) (store .top) r (now (area .entry)) ⌝ }
-{
-    let mut l = store;
-    let old = store.load;
-    let gone = l.lines[i];
-    let line = gone.line;
-    let locks = locks_of(line);
-    let freed = gone.len as usize + primary_size(line);
-    let last = old.lines - 1;
-    let mut k = i;
-    while k < last {
-        let t = l.lines[k + 1];
-        l.lines[k] = t;
-        k += 1;
-    }
-    let e = no_slot();
-    l.lines[k] = e;
-    let load = Load {
-        lines: last,
-        locks: old.locks - locks,
-        defaults: old.defaults,
-        bytes: old.bytes - freed,
-    };
-    l.load = load;
     l
 }

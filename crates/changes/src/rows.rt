@@ -1,12 +1,11 @@
-// Defaults that come and go.
+// Defaults that come.
 ghost use Prim.Native.Nat.{_+_};
 ghost use lib.ListN.{length};
 ghost use Rattle.lines.specs.View.{boxOf};
-ghost use Rattle.changes.specs.Changes.{RowAsks, SwapAsks, DropAsks, Leaves, withRow, swapped, withoutRow};
+ghost use Rattle.changes.specs.Changes.{RowAsks, Leaves, withRow};
 use areas::append;
 use lines::Held;
 use lines::Store;
-use lines::store::no_held;
 use rules::Load;
 
 // "a Put's row is stored at this start"
@@ -52,72 +51,5 @@ pub fn put_row(
     };
     l.load = load;
     l.top = mid + more;
-    l
-}
-
-// "replaces one already stored at this start"
-pub fn swap_row(
-    store: Store,
-    area: &mut [u8],
-    place: usize,
-    key: &[u8],
-    start: u64,
-    row: &[u8],
-) -> Store
-    requires { ⌜ SwapAsks store (now area) place (now key) start (now row) ⌝ }
-    ensures { λ r. ⌜ Leaves (swapped (boxOf store (now (area .entry))) (record { key = now (key .entry); start = start; row = now (row .entry) })) (store .top + length (now (row .entry))) r (now (area .exit)) ⌝ }
-{
-    let mut l = store;
-    let old = store.load;
-    let top = store.top;
-    let more = row.len();
-    append(area, top, row);
-    let d = l.defaults[place];
-    let freed = d.rowlen as usize;
-    let e = Held {
-        at: d.at,
-        len: d.len,
-        used: true,
-        start: d.start,
-        rowat: top as u16,
-        rowlen: more as u8,
-    };
-    l.defaults[place] = e;
-    let load = Load {
-        lines: old.lines,
-        locks: old.locks,
-        defaults: old.defaults,
-        bytes: old.bytes - freed + more,
-    };
-    l.load = load;
-    l.top = top + more;
-    l
-}
-
-// The default of a key and a start goes.
-pub fn drop_row(store: Store, area: &[u8], place: usize, key: &[u8], start: u64) -> Store
-    requires { ⌜ DropAsks store (now area) place (now key) start ⌝ }
-    ensures { λ r. ⌜ Leaves (withoutRow (boxOf store (now (area .entry))) (now (key .entry)) start) (store .top) r (now (area .entry)) ⌝ }
-{
-    let mut l = store;
-    let old = store.load;
-    let d = l.defaults[place];
-    let freed = d.len as usize + d.rowlen as usize;
-    let last = old.defaults - 1;
-    let mut k = place;
-    while k < last {
-        let t = l.defaults[k + 1];
-        l.defaults[k] = t;
-        k += 1;
-    }
-    let e = no_held();
-    l.defaults[k] = e;
-    let load = Load {
-        lines: old.lines,
-        locks: old.locks,
-        defaults: last,
-        bytes: old.bytes - freed,
-    };
-    l.load = load;
     l
 }

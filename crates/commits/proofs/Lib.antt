@@ -1,4 +1,4 @@
--- The laws of this crate: of one key, of the lock that ends, of both passes, and of the calls' ways out.
+-- The laws of this crate: of one key, of the lock that ends, of both passes, and of the call's ways out.
 -- Assumes nothing.
 pub mod KeyLaws
 pub mod EndLaws
@@ -7,4 +7,3 @@ pub mod ApplyLaws
 pub mod PassLaws
 pub mod PastLaws
 pub mod BatchLaws
-pub mod SingleLaws

@@ -27,6 +27,6 @@ pub record Met (st : Store) (area : Bytes) (h : Ending) (k : Key) (found : Looke
 pub record KeyChecked (area : Bytes) (h : Ending) (k : Key) (found : Looked) (stored : FoundRow) (r : Answer) : Type 0 where
   pub is : (st : Store) → Met st area h k found stored → r ≡ commitKey h (boxOf st area) k
 
--- "per key: .."; the single form has one key
+-- "per key: .."
 unfoldable pub allDone : Ending → List Key → Box → Done
 allDone h ks b = settle (commitKeys h b ks) (applyCommits h ks b) b

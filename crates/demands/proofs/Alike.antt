@@ -9,7 +9,6 @@ use lib.ListN.{drop, replicate}
 use Rattle.seqs.specs.Tables.{Table}
 use Rattle.forms.specs.Bytes.{Bytes}
 use Rattle.forms.specs.Key.{Key}
-use Rattle.forms.specs.Batch.{Mutation}
 use Rattle.rules.specs.declared.room.Load.{Load}
 use Rattle.rules.specs.Answers as answers
 use Rattle.rules.specs.Answers.{answerOf}
@@ -33,7 +32,7 @@ use Rattle.reads.proofs.PartLaws.{one-reply, one-row, one-lock, one-primary}
 use Rattle.pages.specs.declared.calls.Paged.{Paged}
 use Rattle.pages.specs.Paged.{PagedAs}
 use Rattle.pages.proofs.PageLaws.{one-answer, one-count, one-buffer}
-use Rattle.demands.specs.Calls.{starting, reading, pointing, handingRow, handingPrimary, paging, pagingIntents, pagingConflicts, prewriting, prewritingBatch, committing, committingBatch, rollingBack, rollingBackBatch, oneStepping, restoring, counting, marking}
+use Rattle.demands.specs.Calls.{starting, reading, pointing, handingRow, handingPrimary, paging, pagingIntents, pagingConflicts, prewritingBatch, committingBatch, rollingBackBatch, oneStepping, restoring, counting, marking}
 use Rattle.demands.specs.Calls.{Sort, Lent, boxIn, Given, started, seen, pointed, handed, paged, changed, committed, stepped, counted, marked, rowIn, lockIn, chains, highest, answerIn, countIn, shownIn, partIn, after, Same, Once, OneOutcome, OneRefusal}
 use Rattle.demands.proofs.Refusals.{refusals}
 
@@ -107,20 +106,11 @@ module _ (w : Lent) where
   pub conflicts-once : (a : Bounds) (m : ℕ) (l : Limits) → Once w (pagingConflicts a m l)
   conflicts-once a m l (paged r x) (paged t y) p o = page-same w p o
 
-  pub prewrite-once : (h : Head) (m : Mutation) → Once w (prewriting h m)
-  prewrite-once h m (changed r x) (changed t y) a b = changed-same w (settled-once a b)
-
   pub prewrites-once : (h : Head) (s : Bytes) → Once w (prewritingBatch h s)
   prewrites-once h s (changed r x) (changed t y) a b = changed-same w (settled-once a b)
 
-  pub commit-once : (h : Ending) (k : Key) → Once w (committing h k)
-  commit-once h k (committed r) (committed t) a b = committed-same w (settled-once a b)
-
   pub commits-once : (h : Ending) (s : Bytes) → Once w (committingBatch h s)
   commits-once h s (committed r) (committed t) a b = committed-same w (settled-once a b)
-
-  pub rollback-once : (txn start : ℕ) (k : Key) → Once w (rollingBack txn start k)
-  rollback-once txn start k (changed r x) (changed t y) a b = changed-same w (settled-once a b)
 
   pub rollbacks-once : (txn start : ℕ) (s : Bytes) → Once w (rollingBackBatch txn start s)
   rollbacks-once txn start s (changed r x) (changed t y) a b = changed-same w (settled-once a b)
@@ -150,11 +140,8 @@ one-outcome _ w (handingPrimary p) = primary-once w p
 one-outcome _ w (paging a m n) = page-once w a m n
 one-outcome _ w (pagingIntents a n) = intents-once w a n
 one-outcome _ w (pagingConflicts a m n) = conflicts-once w a m n
-one-outcome _ w (prewriting h m) = prewrite-once w h m
 one-outcome _ w (prewritingBatch h s) = prewrites-once w h s
-one-outcome _ w (committing h key) = commit-once w h key
 one-outcome _ w (committingBatch h s) = commits-once w h s
-one-outcome _ w (rollingBack txn start key) = rollback-once w txn start key
 one-outcome _ w (rollingBackBatch txn start s) = rollbacks-once w txn start s
 one-outcome _ w (oneStepping h s) = step-once w h s
 one-outcome _ w (restoring s) = restore-once w s

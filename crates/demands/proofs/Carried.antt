@@ -1,5 +1,5 @@
 -- Demand 3 carried to the store, by the calls' promises alone. Assumes nothing.
-use Prim.Native.Nat.{ℕ, _+_}
+use Prim.Native.Nat.{_+_}
 use mathlib.Core.Path.{_≡_, refl, sym, ap, _∙_, subst}
 use mathlib.Core.List.{List, [], _∷_}
 use lib.ListN.{length}
@@ -7,7 +7,7 @@ use Rattle.rules.specs.declared.room.Load.{Load}
 use Rattle.rules.specs.Box.{Box}
 use Rattle.rules.specs.Room.{loadOf}
 use Rattle.rules.specs.Figures.{stats}
-use Rattle.ledger.specs.Ledger.{Call, Past, perform, then, after, empty, Holds, prewriting, prewritingBatch, committing, committingBatch, rollingBack, rollingBackBatch, oneStepping}
+use Rattle.ledger.specs.Ledger.{Call, Past, perform, then, after, empty, Holds, prewritingBatch, committingBatch, rollingBackBatch, oneStepping}
 use Rattle.ledger.proofs.Demand3.{demand3}
 use Rattle.demands.specs.Calls as calls
 use Rattle.demands.specs.Calls.{aStore, starting, Lent, boxIn, Given, started, changed, committed, stepped, Kept, MadeIn}
@@ -19,11 +19,8 @@ use Rattle.demands.proofs.Stays.{stays-made}
 
 shows-next : (c : Call) (w : Lent) (g : Given (sortOf c)) → Kept w (publicOf c) g → boxIn (calls.after w g) ≡ perform c (boxIn w) .box
 unfolding perform
-shows-next (prewriting h m) w (changed r area) k = k .shown
 shows-next (prewritingBatch h s) w (changed r area) k = k .shown
-shows-next (committing h key) w (committed r) k = k .shown
 shows-next (committingBatch h s) w (committed r) k = k .shown
-shows-next (rollingBack txn start key) w (changed r area) k = k .shown
 shows-next (rollingBackBatch txn start s) w (changed r area) k = k .shown
 shows-next (oneStepping h s) w (stepped r area) k = k .settled .shown
 

@@ -23,7 +23,7 @@ use Rattle.reads.specs.Parts.{RowPart, PrimaryPart}
 use Rattle.pages.specs.declared.calls.Paged.{Paged}
 use Rattle.pages.specs.Paged.{PagedAs}
 use Rattle.demands.specs.Calls.{Lent, boxIn, started, seen, pointed, handed, paged, changed, committed, stepped, counted, marked, nothing, answerIn, Unchanged, Refusals}
-use Rattle.demands.specs.Calls.{starting, reading, pointing, handingRow, handingPrimary, paging, pagingIntents, pagingConflicts, prewriting, prewritingBatch, committing, committingBatch, rollingBack, rollingBackBatch, oneStepping, restoring, counting, marking}
+use Rattle.demands.specs.Calls.{starting, reading, pointing, handingRow, handingPrimary, paging, pagingIntents, pagingConflicts, prewritingBatch, committingBatch, rollingBackBatch, oneStepping, restoring, counting, marking}
 
 -- ---- a page
 
@@ -92,11 +92,8 @@ refusals _ w (handingPrimary s) (handed part) p n = absurd (n refl)
 refusals _ w (paging a m l) (paged r out) p n = page-left w keyRowBytes (page a m l (boxIn w)) r out p n
 refusals _ w (pagingIntents a l) (paged r out) p n = page-left w keyLockBytes (intentPage a l (boxIn w)) r out p n
 refusals _ w (pagingConflicts a m l) (paged r out) p n = page-left w keyLockBytes (conflictPage a m l (boxIn w)) r out p n
-refusals _ w (prewriting h m) (changed r area) p n = changed-left w r area (p .refused n)
 refusals _ w (prewritingBatch h s) (changed r area) p n = changed-left w r area (p .refused n)
-refusals _ w (committing h k) (committed r) p n = committed-left w r (p .refused n)
 refusals _ w (committingBatch h s) (committed r) p n = committed-left w r (p .refused n)
-refusals _ w (rollingBack txn start k) (changed r area) p n = changed-left w r area (p .refused n)
 refusals _ w (rollingBackBatch txn start s) (changed r area) p n = changed-left w r area (p .refused n)
 refusals _ w (oneStepping h s) (stepped r area) p n =
     let l = both w (r .store) area (p .settled .refused n) in

@@ -8,7 +8,6 @@ use mathlib.Core.List.{[]}
 use Rattle.forms.specs.Bytes.{Bytes}
 use Rattle.forms.specs.Key.{Key}
 use Rattle.forms.specs.Row.{Row}
-use Rattle.forms.specs.Batch.{Mutation}
 use Rattle.rules.specs.declared.answers.Answer.{Answer}
 use Rattle.rules.specs.declared.answers.Answer.the-variants.{Accepted}
 use Rattle.rules.specs.declared.figures.Stats.{Stats}
@@ -20,9 +19,9 @@ use Rattle.rules.specs.Read.{read}
 use Rattle.rules.specs.Intent.{intentAt}
 use Rattle.rules.specs.Page.{Bounds, Limits}
 use Rattle.rules.specs.Written.{scanPage, scanIntentPage, scanConflictingIntents}
-use Rattle.rules.specs.Prewrite.{Head, prewrite, prewriteBatch}
-use Rattle.rules.specs.Commit.{Ending, commit, commitBatch}
-use Rattle.rules.specs.Rollback.{rollback, rollbackBatch}
+use Rattle.rules.specs.Prewrite.{Head, prewriteBatch}
+use Rattle.rules.specs.Commit.{Ending, commitBatch}
+use Rattle.rules.specs.Rollback.{rollbackBatch}
 use Rattle.rules.specs.OneStep.{oneStep}
 use Rattle.rules.specs.Restore.{restore}
 use Rattle.rules.specs.Figures.{stats, marks}
@@ -70,14 +69,10 @@ pub data Public : Sort → Type 0 where
   paging : Bounds → ℕ → Limits → Public aPage
   pagingIntents : Bounds → ℕ → Public aPage
   pagingConflicts : Bounds → ℕ → Limits → Public aPage
-  -- prewrite, prewrite_batch; a batch is its bytes, in form or not
-  prewriting : Head → Mutation → Public aChange
+  -- prewrite_batch, commit_intents_batch, rollback_intents_batch; a batch is its bytes, in form or not. prewrite, commit_intent and
+  -- rollback_intent are these at the bytes of a batch of one (`oneMutation`, `oneKey` of forms).
   prewritingBatch : Head → Bytes → Public aChange
-  -- commit_intent, commit_intents_batch
-  committing : Ending → Key → Public aCommit
   committingBatch : Ending → Bytes → Public aCommit
-  -- rollback_intent, rollback_intents_batch
-  rollingBack : ℕ → ℕ → Key → Public aChange
   rollingBackBatch : ℕ → ℕ → Bytes → Public aChange
   -- commit_batch
   oneStepping : Ending → Bytes → Public aStep
@@ -214,11 +209,8 @@ Kept w (handingPrimary p) (handed part) = PrimaryPart (w .area) p part
 Kept w (paging a m l) (paged r out) = PagedAs (scanPage a m l (boxIn w) (w .buffer)) r out
 Kept w (pagingIntents a l) (paged r out) = PagedAs (scanIntentPage a l (boxIn w) (w .buffer)) r out
 Kept w (pagingConflicts a m l) (paged r out) = PagedAs (scanConflictingIntents a m l (boxIn w) (w .buffer)) r out
-Kept w (prewriting h m) (changed r area) = Settled (w .store) (w .area) (prewrite h m (boxIn w)) r area
 Kept w (prewritingBatch h s) (changed r area) = Settled (w .store) (w .area) (prewriteBatch h s (boxIn w)) r area
-Kept w (committing h k) (committed r) = Settled (w .store) (w .area) (commit h k (boxIn w)) r (w .area)
 Kept w (committingBatch h s) (committed r) = Settled (w .store) (w .area) (commitBatch h s (boxIn w)) r (w .area)
-Kept w (rollingBack txn start k) (changed r area) = Settled (w .store) (w .area) (rollback txn start k (boxIn w)) r area
 Kept w (rollingBackBatch txn start s) (changed r area) = Settled (w .store) (w .area) (rollbackBatch txn start s (boxIn w)) r area
 Kept w (oneStepping h s) (stepped r area) = Counts (w .store) (w .area) (oneStep h s (boxIn w)) r area
 Kept w (restoring s) (changed r area) = Replaced (w .store) (w .area) (restore s (boxIn w)) r area

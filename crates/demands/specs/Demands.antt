@@ -13,20 +13,14 @@ use Rattle.demands.specs.Calls.{Sort, aChange, aCommit, aStep, Public, L
 -- ---- "prewrites, commits, rollbacks and one-step batches": each is a public call
 
 abbrev pub sortOf : Call → Sort
-sortOf (ledger.prewriting h m) = aChange
 sortOf (ledger.prewritingBatch h s) = aChange
-sortOf (ledger.committing h k) = aCommit
 sortOf (ledger.committingBatch h s) = aCommit
-sortOf (ledger.rollingBack txn start k) = aChange
 sortOf (ledger.rollingBackBatch txn start s) = aChange
 sortOf (ledger.oneStepping h s) = aStep
 
 abbrev pub publicOf : (c : Call) → Public (sortOf c)
-publicOf (ledger.prewriting h m) = calls.prewriting h m
 publicOf (ledger.prewritingBatch h s) = calls.prewritingBatch h s
-publicOf (ledger.committing h k) = calls.committing h k
 publicOf (ledger.committingBatch h s) = calls.committingBatch h s
-publicOf (ledger.rollingBack txn start k) = calls.rollingBack txn start k
 publicOf (ledger.rollingBackBatch txn start s) = calls.rollingBackBatch txn start s
 publicOf (ledger.oneStepping h s) = calls.oneStepping h s
 

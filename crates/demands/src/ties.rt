@@ -5,11 +5,12 @@ ghost use mathlib.Core.Path.{_≡_};
 ghost use lib.ListN.{length};
 ghost use Rattle.forms.specs.Bytes.{Bytes};
 ghost use Rattle.forms.specs.Readers.{when};
+ghost use Rattle.forms.specs.Ones.{oneMutation, oneKey};
 ghost use Rattle.bounds.specs.Bounds.{boundsOf};
 ghost use Rattle.lines.specs.declared.store.Store.{Store};
 ghost use Rattle.lines.specs.Made.{Made};
 ghost use Rattle.demands.specs.Calls.{Lent, Kept, KeptOn};
-ghost use Rattle.demands.specs.Calls.{starting, reading, pointing, handingRow, handingPrimary, paging, pagingIntents, pagingConflicts, prewriting, prewritingBatch, committing, committingBatch, rollingBack, rollingBackBatch, oneStepping, restoring, counting, marking};
+ghost use Rattle.demands.specs.Calls.{starting, reading, pointing, handingRow, handingPrimary, paging, pagingIntents, pagingConflicts, prewritingBatch, committingBatch, rollingBackBatch, oneStepping, restoring, counting, marking};
 ghost use Rattle.demands.specs.Calls.{started, seen, pointed, handed, paged, changed, committed, stepped, counted, marked};
 use mvcc::Changed;
 use mvcc::Marks;
@@ -150,6 +151,7 @@ pub fn scan_conflicting_intents(
     )
 }
 
+// A single form is tied to the batch's case, at the bytes of its batch of one; so are the two below.
 pub fn prewrite(
     store: Store,
     area: &mut [u8],
@@ -162,7 +164,7 @@ pub fn prewrite(
     row: &[u8],
 ) -> Changed
     requires { ⌜ Made store (now area) ⌝ }
-    ensures { λ r. ⌜ KeptOn store (now (area .entry)) (prewriting (record { txn = txn; start = start; primary = now (primary .entry); ttl = ttl }) (record { key = now (key .entry); row = when put (now (row .entry)) })) (changed r (now (area .exit))) ⌝ }
+    ensures { λ r. ⌜ KeptOn store (now (area .entry)) (prewritingBatch (record { txn = txn; start = start; primary = now (primary .entry); ttl = ttl }) (oneMutation (record { key = now (key .entry); row = when put (now (row .entry)) }))) (changed r (now (area .exit))) ⌝ }
 {
     mvcc::prewrite(store, area, txn, start, ttl, primary, key, put, row)
 }
@@ -191,7 +193,7 @@ pub fn commit_intent(
     key: &[u8],
 ) -> Changed
     requires { ⌜ Made store (now area) ⌝ }
-    ensures { λ r. ⌜ KeptOn store (now (area .entry)) (committing (record { txn = txn; start = start; commit = commit }) (now (key .entry))) (committed r) ⌝ }
+    ensures { λ r. ⌜ KeptOn store (now (area .entry)) (committingBatch (record { txn = txn; start = start; commit = commit }) (oneKey (now (key .entry)))) (committed r) ⌝ }
 {
     mvcc::commit_intent(store, area, txn, start, commit, key)
 }
@@ -212,7 +214,7 @@ pub fn commit_intents_batch(
 
 pub fn rollback_intent(store: Store, area: &mut [u8], txn: u64, start: u64, key: &[u8]) -> Changed
     requires { ⌜ Made store (now area) ⌝ }
-    ensures { λ r. ⌜ KeptOn store (now (area .entry)) (rollingBack txn start (now (key .entry))) (changed r (now (area .exit))) ⌝ }
+    ensures { λ r. ⌜ KeptOn store (now (area .entry)) (rollingBackBatch txn start (oneKey (now (key .entry)))) (changed r (now (area .exit))) ⌝ }
 {
     mvcc::rollback_intent(store, area, txn, start, key)
 }

@@ -17,7 +17,7 @@ use Rattle.rules.specs.declared.answers.Answer.{Answer}
 use Rattle.rules.specs.Answers.{number, holder}
 use Rattle.rules.specs.Box.{Box}
 use Rattle.rules.specs.Calls.{Done}
-use Rattle.rules.specs.Prewrite.{Head, prewrite}
+use Rattle.rules.specs.Prewrite.{Head, prewriteBatch, prewrite}
 use Rattle.rules.specs.OneStep.{Counted}
 use Rattle.calls.specs.declared.changed.Changed.{Changed}
 use Rattle.calls.specs.Settled.{Settled}
@@ -26,7 +26,7 @@ use Rattle.onesteps.specs.declared.batch.Stepped.{Stepped}
 use Rattle.onesteps.specs.Counts.{Counts}
 use Rattle.traces.specs.declared.args.Args.{Args}
 use Rattle.traces.specs.declared.op.Op.{Op}
-use Rattle.traces.specs.Calls.{Call, call}
+use Rattle.traces.specs.Calls.{Call, oneEntry, call}
 use Rattle.traces.specs.Places.{kindOf}
 use Rattle.traces.specs.Args.{callOf, ArgsOf}
 use Rattle.traces.proofs.op.Op.{the-type}
@@ -35,7 +35,7 @@ use Rattle.replies.proofs.FormLaws.{length-answer}
 use Rattle.lines.specs.declared.store.Store.{Store}
 use Rattle.lines.specs.View.{boxOf}
 use Rattle.lines.specs.Made.{Made}
-use Rattle.showing.specs.Told.{told, toldOf, toldBytes, notRun, changing, counting, rowFor, Writes}
+use Rattle.showing.specs.Told.{told, toldOf, toldBytes, notRun, changing, counting, Writes}
 use Rattle.showing.specs.Ran.{RanAs, DoneAs, TellsChange, Unrun, RunCall, shows, longest}
 use Rattle.showing.specs.declared.ran.Ran.{Ran}
 use Rattle.showing.proofs.TellLaws.{written, written-count}
@@ -58,9 +58,10 @@ replaced v = record { answer-is = v .answer-is; made = v .made; shown = v .shown
 pub settled : {st : Store} {area : Bytes} {d : Done} {m : Changed} {area′ : Bytes} → Settled st area d m area′ → DoneAs d m area′
 settled v = record { answer-is = v .answer-is; made = v .made; shown = v .shown }
 
--- a prewrite whose kind is a flag
+-- a single prewrite is its batch of one, and its kind a flag
 pub prewritten : (h : Head) (k r : Bytes) (b : Box) (put : Bool) {st : Store} {area : Bytes} {m : Changed} {area′ : Bytes} → Settled st area (prewrite h (record { key = k; row = when put r }) b) m area′
-    → DoneAs (prewrite h (record { key = k; row = rowFor (kindOf put) r }) b) m area′
+    → DoneAs (prewriteBatch h (oneEntry (kindOf put) k r) b) m area′
+unfolding prewrite
 prewritten h k r b true v = settled v
 prewritten h k r b false v = settled v
 

@@ -3,7 +3,8 @@
 ghost use Prim.Native.Nat.{_≤_};
 ghost use lib.ListN.{length};
 ghost use Rattle.forms.specs.Bytes.{bytesAt};
-ghost use Rattle.traces.specs.Calls.{Call};
+ghost use Rattle.forms.specs.Ones.{oneKey};
+ghost use Rattle.traces.specs.Calls.{Call, oneEntry};
 ghost use Rattle.traces.specs.Places.{kindOf};
 ghost use Rattle.lines.specs.View.{boxOf};
 ghost use Rattle.showing.specs.Told.{told};
@@ -36,7 +37,7 @@ pub(crate) fn run_prewrite(
     out: &mut [u8],
 ) -> Ran
     requires { ⌜ RunAsks store (now area) (now call) args (now out) ⌝ }
-    ensures { λ r. ⌜ RanAs (told (Call.Prewrite (record { txn = args .one; start = args .two; primary = bytesAt (now (call .entry)) (args .primaryat) (args .primarylen); ttl = args .three }) (kindOf (args .put)) (bytesAt (now (call .entry)) (args .keyat) (args .keylen)) (bytesAt (now (call .entry)) (args .rowat) (args .rowlen))) (boxOf store (now (area .entry)))) (now (out .entry)) r (now (area .exit)) (now (out .exit)) ⌝ }
+    ensures { λ r. ⌜ RanAs (told (Call.PrewriteBatch (record { txn = args .one; start = args .two; primary = bytesAt (now (call .entry)) (args .primaryat) (args .primarylen); ttl = args .three }) (oneEntry (kindOf (args .put)) (bytesAt (now (call .entry)) (args .keyat) (args .keylen)) (bytesAt (now (call .entry)) (args .rowat) (args .rowlen)))) (boxOf store (now (area .entry)))) (now (out .entry)) r (now (area .exit)) (now (out .exit)) ⌝ }
 {
     let p = args.primaryat;
     let pend = p + args.primarylen;
@@ -88,7 +89,7 @@ pub(crate) fn run_prewrites(
 // "commit | transaction, start, commit, key"
 pub(crate) fn run_commit(store: Store, area: &[u8], call: &[u8], args: Args, out: &mut [u8]) -> Ran
     requires { ⌜ RunAsks store (now area) (now call) args (now out) ⌝ }
-    ensures { λ r. ⌜ RanAs (told (Call.Commit (record { txn = args .one; start = args .two; commit = args .three }) (bytesAt (now (call .entry)) (args .keyat) (args .keylen))) (boxOf store (now (area .entry)))) (now (out .entry)) r (now (area .entry)) (now (out .exit)) ⌝ }
+    ensures { λ r. ⌜ RanAs (told (Call.CommitBatch (record { txn = args .one; start = args .two; commit = args .three }) (oneKey (bytesAt (now (call .entry)) (args .keyat) (args .keylen)))) (boxOf store (now (area .entry)))) (now (out .entry)) r (now (area .entry)) (now (out .exit)) ⌝ }
 {
     let at = args.keyat;
     let end = at + args.keylen;
@@ -123,7 +124,7 @@ pub(crate) fn run_rollback(
     out: &mut [u8],
 ) -> Ran
     requires { ⌜ RunAsks store (now area) (now call) args (now out) ⌝ }
-    ensures { λ r. ⌜ RanAs (told (Call.Rollback (args .one) (args .two) (bytesAt (now (call .entry)) (args .keyat) (args .keylen))) (boxOf store (now (area .entry)))) (now (out .entry)) r (now (area .exit)) (now (out .exit)) ⌝ }
+    ensures { λ r. ⌜ RanAs (told (Call.RollbackBatch (args .one) (args .two) (oneKey (bytesAt (now (call .entry)) (args .keyat) (args .keylen)))) (boxOf store (now (area .entry)))) (now (out .entry)) r (now (area .exit)) (now (out .exit)) ⌝ }
 {
     let at = args.keyat;
     let end = at + args.keylen;

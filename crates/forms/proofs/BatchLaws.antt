@@ -45,7 +45,7 @@ module _ {A : Type 0} (key : A → Key) (r : Reader A) (s : Bytes) where
   unfolding ifAscend readOn ended
   batch-many h l = counted (upTo-many 32 (numberOf 2) s (two h) l)
 
-  batch-few : 2 ≤ length s → countOf s ≤ 32 → batchOf key r s ≡ ifAscend key (entries r (countOf s) (drop 2 s))
+  pub batch-few : 2 ≤ length s → countOf s ≤ 32 → batchOf key r s ≡ ifAscend key (entries r (countOf s) (drop 2 s))
   unfolding readOn entries whole
   batch-few h l = counted (upTo-good 32 (numberOf 2) s (two h) l)
 

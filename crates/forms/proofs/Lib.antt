@@ -8,3 +8,5 @@ pub mod EntryLaws
 pub mod JudgeLaws
 pub mod BatchLaws
 pub mod AscendLaws
+pub mod AppendLaws
+pub mod OneLaws

@@ -4,7 +4,7 @@ use mathlib.Core.Bool.{Bool, true, false}
 use mathlib.Core.List.{List, [], _∷_}
 use Prim.Native.Nat.{ℕ}
 use lib.Dec.{ltb}
-use lib.ListN.{take, drop}
+use lib.ListN.{length, take, drop}
 use Rattle.forms.specs.declared.key.Order.{Order}
 use Rattle.forms.specs.declared.key.Order.the-variants.{Less, Equal, Greater}
 
@@ -43,3 +43,7 @@ ltBytes a b = isLess (cmp a b)
 -- the bytes of s from a place on, len of them
 abbrev pub bytesAt : Bytes → ℕ → ℕ → Bytes
 bytesAt s at len = take len (drop at s)
+
+-- "a length byte and its bytes"
+abbrev pub pieceBytes : Bytes → Bytes
+pieceBytes s = length s ∷ s

@@ -4,4 +4,6 @@ pub mod Numbers
 pub mod Key
 pub mod Row
 pub mod Batch
+pub mod Ones
+pub mod Appends
 pub mod Places

@@ -1,9 +1,9 @@
--- Every changing call, single and batch, refused or not: a box in order stays in order, and a box that has room keeps to it.
+-- Every changing call, refused or not: a box in order stays in order, and a box that has room keeps to it.
 -- Assumes nothing.
 use Prim.Native.Nat.{ℕ}
 use mathlib.Core.Path.{_≡_, refl}
 use mathlib.Core.Bool.{Bool, true, false, not}
-use mathlib.Core.List.{List, [], _∷_}
+use mathlib.Core.List.{List}
 use mathlib.Core.Option.{Option, none, some}
 use Rattle.forms.specs.Bytes.{Bytes}
 use Rattle.forms.specs.Key.{Key}
@@ -13,15 +13,15 @@ use Rattle.rules.specs.Answers.{_▸_, need}
 use Rattle.rules.specs.Box.{Box, fresh, inOrder, ordered}
 use Rattle.rules.specs.Room.{roomFor, fits, loadOf, sumOf}
 use Rattle.rules.specs.Calls.{nonEmpty, zeroStep}
-use Rattle.rules.specs.Prewrite.{Head, headStep, prewriteEntries, prewriteRoom, prewriteSteps, applyPrewrites, prewrite, prewriteAll, prewriteBatch}
-use Rattle.rules.specs.Commit.{Ending, endingStep, commitKeys, commitSteps, applyCommits, commit, commitAll, commitBatch}
-use Rattle.rules.specs.Rollback.{rollbackKeys, rollbackRoom, rollbackSteps, applyRollbacks, rollback, rollbackAll, rollbackBatch}
+use Rattle.rules.specs.Prewrite.{Head, headStep, prewriteEntries, prewriteRoom, prewriteSteps, applyPrewrites, prewriteAll, prewriteBatch}
+use Rattle.rules.specs.Commit.{Ending, endingStep, commitKeys, commitSteps, applyCommits, commitAll, commitBatch}
+use Rattle.rules.specs.Rollback.{rollbackKeys, rollbackRoom, rollbackSteps, applyRollbacks, rollbackAll, rollbackBatch}
 use Rattle.rules.specs.OneStep.{argumentsStep, noneOther, stepEntries, newestStep, stepNew, applySteps, stepApplied, stepArguments, allApplied, someApplied, stepDone, stepAll, oneStep, ofCounted}
 use Rattle.rules.specs.Image.{Image, image}
 use Rattle.rules.specs.Restore.{goodImage, restoreSteps, restoreTo, restore, boxOf}
 use Rattle.laws.proofs.StepLaws.{then-left, then-right, need-true}
 use Rattle.laws.proofs.SettleLaws.{settle-keeps, ofBatch-keeps, then-keeps}
-use Rattle.laws.proofs.FrameLaws.{mutations-ascend, keys-ascend, one-ascends}
+use Rattle.laws.proofs.FrameLaws.{mutations-ascend, keys-ascend}
 use Rattle.laws.proofs.PrewriteLaws.{prewrites-order}
 use Rattle.laws.proofs.CommitLaws.{commits-order, commits-room}
 use Rattle.laws.proofs.RollbackLaws.{rollbacks-order}
@@ -43,20 +43,6 @@ fresh-order = refl
 pub fresh-room : roomFor fresh ≡ true
 unfolding roomFor fits loadOf sumOf fresh
 fresh-room = refl
-
--- ---- "Single forms .. take the steps without 6 and 5": a batch of one
-
-pub prewrite-one : (h : Head) (m : Mutation) (b : Box) → prewrite h m b ≡ prewriteAll h (m ∷ []) b
-unfolding prewrite prewriteAll applyPrewrites need _▸_
-prewrite-one h m b = refl
-
-pub commit-one : (h : Ending) (k : Key) (b : Box) → commit h k b ≡ commitAll h (k ∷ []) b
-unfolding commit commitAll applyCommits need _▸_
-commit-one h k b = refl
-
-pub rollback-one : (txn start : ℕ) (k : Key) (b : Box) → rollback txn start k b ≡ rollbackAll txn start (k ∷ []) b
-unfolding rollback rollbackAll applyRollbacks need _▸_
-rollback-one txn start k b = refl
 
 -- ---- what the steps of a call say where they pass
 
@@ -98,9 +84,6 @@ pub prewriteAll-order : (h : Head) (ms : List Mutation) (b : Box) → ascend key
 unfolding prewriteAll
 prewriteAll-order h ms b a o = settle-keeps InOrder (need (nonEmpty ms) 5 ▸ prewriteSteps h ms b) (applyPrewrites h ms b) b o (λ p. prewrites-order h ms b a (prewrite-steps h ms b (then-right (need (nonEmpty ms) 5) _ p) .1) o)
 
-pub prewrite-inOrder : (h : Head) (m : Mutation) (b : Box) → inOrder b ≡ true → inOrder (prewrite h m b .box) ≡ true
-prewrite-inOrder h m b o = rw (prewrite-one h m b) (prewriteAll-order h (m ∷ []) b (one-ascends keyIn m) o)
-
 pub prewriteBatch-order : (h : Head) (s : Bytes) (b : Box) → inOrder b ≡ true → inOrder (prewriteBatch h s b .box) ≡ true
 unfolding prewriteBatch
 prewriteBatch-order h s b o = ofBatch-keeps InOrder (mutations s) (prewriteAll h) b o (λ ms e. prewriteAll-order h ms b (mutations-ascend s ms e) o)
@@ -108,9 +91,6 @@ prewriteBatch-order h s b o = ofBatch-keeps InOrder (mutations s) (prewriteAll h
 pub commitAll-order : (h : Ending) (ks : List Key) (b : Box) → ascend (λ k. k) ks ≡ true → inOrder b ≡ true → inOrder (commitAll h ks b .box) ≡ true
 unfolding commitAll
 commitAll-order h ks b a o = settle-keeps InOrder (need (nonEmpty ks) 5 ▸ commitSteps h ks b) (applyCommits h ks b) b o (λ p. commits-order h ks b a (commit-steps h ks b (then-right (need (nonEmpty ks) 5) _ p) .1) o)
-
-pub commit-inOrder : (h : Ending) (k : Key) (b : Box) → inOrder b ≡ true → inOrder (commit h k b .box) ≡ true
-commit-inOrder h k b o = rw (commit-one h k b) (commitAll-order h (k ∷ []) b (one-ascends (λ (k : Key). k) k) o)
 
 pub commitBatch-order : (h : Ending) (s : Bytes) (b : Box) → inOrder b ≡ true → inOrder (commitBatch h s b .box) ≡ true
 unfolding commitBatch
@@ -120,9 +100,6 @@ module _ (txn start : ℕ) where
   pub rollbackAll-order : (ks : List Key) (b : Box) → inOrder b ≡ true → inOrder (rollbackAll txn start ks b .box) ≡ true
   unfolding rollbackAll
   rollbackAll-order ks b o = settle-keeps InOrder (need (nonEmpty ks) 5 ▸ rollbackSteps txn start ks b) (applyRollbacks start ks b) b o (λ p. rollbacks-order start ks b o)
-
-  pub rollback-inOrder : (k : Key) (b : Box) → inOrder b ≡ true → inOrder (rollback txn start k b .box) ≡ true
-  rollback-inOrder k b o = rw (rollback-one txn start k b) (rollbackAll-order (k ∷ []) b o)
 
   pub rollbackBatch-order : (s : Bytes) (b : Box) → inOrder b ≡ true → inOrder (rollbackBatch txn start s b .box) ≡ true
   unfolding rollbackBatch
@@ -168,9 +145,6 @@ pub prewriteAll-room : (h : Head) (ms : List Mutation) (b : Box) → roomFor b �
 unfolding prewriteAll
 prewriteAll-room h ms b r = settle-keeps HasRoom (need (nonEmpty ms) 5 ▸ prewriteSteps h ms b) (applyPrewrites h ms b) b r (λ p. prewrite-steps h ms b (then-right (need (nonEmpty ms) 5) _ p) .2)
 
-pub prewrite-inRoom : (h : Head) (m : Mutation) (b : Box) → roomFor b ≡ true → roomFor (prewrite h m b .box) ≡ true
-prewrite-inRoom h m b r = rw (prewrite-one h m b) (prewriteAll-room h (m ∷ []) b r)
-
 pub prewriteBatch-room : (h : Head) (s : Bytes) (b : Box) → roomFor b ≡ true → roomFor (prewriteBatch h s b .box) ≡ true
 unfolding prewriteBatch
 prewriteBatch-room h s b r = ofBatch-keeps HasRoom (mutations s) (prewriteAll h) b r (λ ms e. prewriteAll-room h ms b r)
@@ -178,9 +152,6 @@ prewriteBatch-room h s b r = ofBatch-keeps HasRoom (mutations s) (prewriteAll h)
 pub commitAll-room : (h : Ending) (ks : List Key) (b : Box) → roomFor b ≡ true → roomFor (commitAll h ks b .box) ≡ true
 unfolding commitAll
 commitAll-room h ks b r = settle-keeps HasRoom (need (nonEmpty ks) 5 ▸ commitSteps h ks b) (applyCommits h ks b) b r (λ p. commits-room h ks b r)
-
-pub commit-inRoom : (h : Ending) (k : Key) (b : Box) → roomFor b ≡ true → roomFor (commit h k b .box) ≡ true
-commit-inRoom h k b r = rw (commit-one h k b) (commitAll-room h (k ∷ []) b r)
 
 pub commitBatch-room : (h : Ending) (s : Bytes) (b : Box) → roomFor b ≡ true → roomFor (commitBatch h s b .box) ≡ true
 unfolding commitBatch
@@ -190,9 +161,6 @@ module _ (txn start : ℕ) where
   pub rollbackAll-room : (ks : List Key) (b : Box) → roomFor b ≡ true → roomFor (rollbackAll txn start ks b .box) ≡ true
   unfolding rollbackAll
   rollbackAll-room ks b r = settle-keeps HasRoom (need (nonEmpty ks) 5 ▸ rollbackSteps txn start ks b) (applyRollbacks start ks b) b r (λ p. rollback-steps txn start ks b (then-right (need (nonEmpty ks) 5) _ p) .2)
-
-  pub rollback-inRoom : (k : Key) (b : Box) → roomFor b ≡ true → roomFor (rollback txn start k b .box) ≡ true
-  rollback-inRoom k b r = rw (rollback-one txn start k b) (rollbackAll-room (k ∷ []) b r)
 
   pub rollbackBatch-room : (s : Bytes) (b : Box) → roomFor b ≡ true → roomFor (rollbackBatch txn start s b .box) ≡ true
   unfolding rollbackBatch

@@ -83,10 +83,6 @@ module _ {A : Type 0} (key : A → Key) where
   ascend-rest x [] a = refl
   ascend-rest x (y ∷ xs) a = and-right (ltBytes (key x) (key y)) _ a
 
-  pub one-ascends : (x : A) → ascend key (x ∷ []) ≡ true
-  unfolding ascend above
-  one-ascends x = refl
-
   -- a batch that was read ascends
   read-ascends : (o : Option (List A)) (xs : List A) → ifAscend key o ≡ some xs → ascend key xs ≡ true
   unfolding ifAscend

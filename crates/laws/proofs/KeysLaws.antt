@@ -18,9 +18,9 @@ use Rattle.rules.specs.Box.{Box, Lock, Standing, Finished, KeyLine, Default, fr
 use Rattle.rules.specs.Sound.{soundLock, soundRecord}
 use Rattle.rules.specs.Page.{KeyLock}
 use Rattle.rules.specs.Calls.{nonEmpty, kindOf, recordFor, rowArgument, stampedAt}
-use Rattle.rules.specs.Prewrite.{Head, prewriteEntry, prewriteEntries, prewriteSteps, lockFor, storeIf, lockLine, unlessLocked, applyPrewrite, applyPrewrites, prewrite, prewriteAll, prewriteBatch}
-use Rattle.rules.specs.Commit.{Ending, withStart, commitKey, commitKeys, commitSteps, commitTo, applyCommit, applyCommits, commit, commitAll, commitBatch}
-use Rattle.rules.specs.Rollback.{rollbackKey, rollbackKeys, rollbackSteps, rollbackTo, applyRollback, applyRollbacks, rollback, rollbackAll, rollbackBatch}
+use Rattle.rules.specs.Prewrite.{Head, prewriteEntry, prewriteEntries, prewriteSteps, lockFor, storeIf, lockLine, unlessLocked, applyPrewrite, applyPrewrites, prewriteAll, prewriteBatch}
+use Rattle.rules.specs.Commit.{Ending, withStart, commitKey, commitKeys, commitSteps, commitTo, applyCommit, applyCommits, commitAll, commitBatch}
+use Rattle.rules.specs.Rollback.{rollbackKey, rollbackKeys, rollbackSteps, rollbackTo, applyRollback, applyRollbacks, rollbackAll, rollbackBatch}
 use Rattle.rules.specs.OneStep.{argumentsStep, replaceIf, applyStep, oneStep}
 use Rattle.rules.specs.Image.{Image, KeyRecord}
 use Rattle.rules.specs.Restore.{allGood, goodDefault, goodLock, goodWrite, goodImage, placeDefaults, placeWrites, placeLocks, boxOf, restore}
@@ -163,9 +163,6 @@ prewriteAll-forms h ms b a =
     settle-keeps Forms (need (nonEmpty ms) 5 ▸ prewriteSteps h ms b) (applyPrewrites h ms b) b a
     (λ p. rw (applyPrewrites-all h ms b) (batch-keys keyForm keyIn (applyPrewrite h) (prewrite-keys keyForm h) ms b (prewrite-forms h b ms (calls.prewrite-steps h ms b (then-right (need (nonEmpty ms) 5) _ p) .1)) a))
 
-pub prewrite-inForms : (h : Head) (m : Mutation) (b : Box) → keysAll keyForm b ≡ true → keysAll keyForm (prewrite h m b .box) ≡ true
-prewrite-inForms h m b a = rw (calls.prewrite-one h m b) (prewriteAll-forms h (m ∷ []) b a)
-
 pub prewriteBatch-forms : (h : Head) (s : Bytes) (b : Box) → keysAll keyForm b ≡ true → keysAll keyForm (prewriteBatch h s b .box) ≡ true
 unfolding prewriteBatch
 prewriteBatch-forms h s b a = ofBatch-keeps Forms (mutations s) (prewriteAll h) b a (λ ms e. prewriteAll-forms h ms b a)
@@ -175,9 +172,6 @@ unfolding commitAll
 commitAll-forms h ks b a =
     settle-keeps Forms (need (nonEmpty ks) 5 ▸ commitSteps h ks b) (applyCommits h ks b) b a
     (λ p. rw (applyCommits-all h ks b) (batch-keys keyForm (λ (k : Key). k) (applyCommit h) (commit-keys keyForm h) ks b (commit-forms h b ks (calls.commit-steps h ks b (then-right (need (nonEmpty ks) 5) _ p) .1)) a))
-
-pub commit-inForms : (h : Ending) (k : Key) (b : Box) → keysAll keyForm b ≡ true → keysAll keyForm (commit h k b .box) ≡ true
-commit-inForms h k b a = rw (calls.commit-one h k b) (commitAll-forms h (k ∷ []) b a)
 
 pub commitBatch-forms : (h : Ending) (s : Bytes) (b : Box) → keysAll keyForm b ≡ true → keysAll keyForm (commitBatch h s b .box) ≡ true
 unfolding commitBatch
@@ -189,9 +183,6 @@ module _ (txn start : ℕ) where
   rollbackAll-forms ks b a =
       settle-keeps Forms (need (nonEmpty ks) 5 ▸ rollbackSteps txn start ks b) (applyRollbacks start ks b) b a
       (λ p. rw (applyRollbacks-all start ks b) (batch-keys keyForm (λ (k : Key). k) (applyRollback start) (rollback-keys keyForm start) ks b (rollback-forms txn start b ks (calls.rollback-steps txn start ks b (then-right (need (nonEmpty ks) 5) _ p) .1)) a))
-
-  pub rollback-inForms : (k : Key) (b : Box) → keysAll keyForm b ≡ true → keysAll keyForm (rollback txn start k b .box) ≡ true
-  rollback-inForms k b a = rw (calls.rollback-one txn start k b) (rollbackAll-forms (k ∷ []) b a)
 
   pub rollbackBatch-forms : (s : Bytes) (b : Box) → keysAll keyForm b ≡ true → keysAll keyForm (rollbackBatch txn start s b .box) ≡ true
   unfolding rollbackBatch

@@ -23,3 +23,4 @@ pub mod Unrolled
 pub mod ReadLaws
 pub mod KeysLaws
 pub mod Members
+pub mod Singles

@@ -4,7 +4,7 @@
 use Prim.Native.Nat.{ℕ}
 use mathlib.Core.Path.{_≡_, refl, ap, _∙_}
 use mathlib.Core.Bool.{Bool, true, false, not}
-use mathlib.Core.List.{List, [], _∷_}
+use mathlib.Core.List.{List}
 use mathlib.Core.Option.{Option, none, some}
 use lib.ListN.{length}
 use Rattle.forms.specs.Bytes.{Bytes}
@@ -15,9 +15,9 @@ use Rattle.rules.specs.declared.answers.Answer.the-variants.{Accepted, No, Held
 use Rattle.rules.specs.Answers.{_▸_, need, Reply, refused, ifPassed}
 use Rattle.rules.specs.Box.{Box}
 use Rattle.rules.specs.Calls.{Done, settle, ofBatch, nonEmpty}
-use Rattle.rules.specs.Prewrite.{Head, prewrite, prewriteAll, prewriteBatch, prewriteSteps, applyPrewrite, applyPrewrites}
-use Rattle.rules.specs.Commit.{Ending, commit, commitAll, commitBatch, commitSteps, applyCommit, applyCommits}
-use Rattle.rules.specs.Rollback.{rollback, rollbackAll, rollbackBatch, rollbackSteps, applyRollback, applyRollbacks}
+use Rattle.rules.specs.Prewrite.{Head, prewriteAll, prewriteBatch, prewriteSteps, applyPrewrites}
+use Rattle.rules.specs.Commit.{Ending, commitAll, commitBatch, commitSteps, applyCommits}
+use Rattle.rules.specs.Rollback.{rollbackAll, rollbackBatch, rollbackSteps, applyRollbacks}
 use Rattle.rules.specs.OneStep.{oneStep, stepAll, stepDone, stepApplied, thenApplied, ofCounted, countIf, stepArguments, allApplied, someApplied, stepNew, applySteps}
 use Rattle.rules.specs.Image.{Image, image}
 use Rattle.rules.specs.Restore.{restore, restoreTo, restoreSteps, boxOf}
@@ -88,10 +88,6 @@ refused-reply (Held o) r n = refl
 
 -- ---- each changing call: a refusal leaves the box
 
-pub prewrite-leaves : (h : Head) (m : Mutation) (b : Box) → Leaves b (prewrite h m b)
-unfolding prewrite
-prewrite-leaves h m b = settle-leaves (prewriteSteps h (m ∷ []) b) (applyPrewrite h m b) b
-
 pub prewriteAll-leaves : (h : Head) (ms : List Mutation) (b : Box) → Leaves b (prewriteAll h ms b)
 unfolding prewriteAll
 prewriteAll-leaves h ms b = settle-leaves (need (nonEmpty ms) 5 ▸ prewriteSteps h ms b) (applyPrewrites h ms b) b
@@ -99,10 +95,6 @@ prewriteAll-leaves h ms b = settle-leaves (need (nonEmpty ms) 5 ▸ prewriteStep
 pub prewriteBatch-leaves : (h : Head) (s : Bytes) (b : Box) → Leaves b (prewriteBatch h s b)
 unfolding prewriteBatch
 prewriteBatch-leaves h s b = ofBatch-leaves (mutations s) (prewriteAll h) b (λ ms. prewriteAll-leaves h ms b)
-
-pub commit-leaves : (h : Ending) (k : Key) (b : Box) → Leaves b (commit h k b)
-unfolding commit
-commit-leaves h k b = settle-leaves (commitSteps h (k ∷ []) b) (applyCommit h k b) b
 
 pub commitAll-leaves : (h : Ending) (ks : List Key) (b : Box) → Leaves b (commitAll h ks b)
 unfolding commitAll
@@ -113,10 +105,6 @@ unfolding commitBatch
 commitBatch-leaves h s b = ofBatch-leaves (keys s) (commitAll h) b (λ ks. commitAll-leaves h ks b)
 
 module _ (txn start : ℕ) where
-  pub rollback-leaves : (k : Key) (b : Box) → Leaves b (rollback txn start k b)
-  unfolding rollback
-  rollback-leaves k b = settle-leaves (rollbackSteps txn start (k ∷ []) b) (applyRollback start k b) b
-
   pub rollbackAll-leaves : (ks : List Key) (b : Box) → Leaves b (rollbackAll txn start ks b)
   unfolding rollbackAll
   rollbackAll-leaves ks b = settle-leaves (need (nonEmpty ks) 5 ▸ rollbackSteps txn start ks b) (applyRollbacks start ks b) b

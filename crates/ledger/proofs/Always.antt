@@ -12,9 +12,9 @@ use Rattle.rules.specs.declared.answers.Answer.{Answer}
 use Rattle.rules.specs.declared.answers.Answer.the-variants.{Accepted, No, Held}
 use Rattle.rules.specs.Box.{Box, fresh}
 use Rattle.rules.specs.Calls.{Done, settle, ofBatch, zeroStep, rowArgument}
-use Rattle.rules.specs.Prewrite.{Head, headStep, prewrite, prewriteAll, prewriteBatch, prewriteSteps, prewriteEntry, prewriteEntries, applyPrewrite, applyPrewrites}
-use Rattle.rules.specs.Commit.{Ending, endingStep, commit, commitAll, commitBatch, commitSteps, commitKey, commitKeys, applyCommit, applyCommits}
-use Rattle.rules.specs.Rollback.{rollback, rollbackAll, rollbackBatch, rollbackSteps, rollbackKey, rollbackKeys, applyRollback, applyRollbacks}
+use Rattle.rules.specs.Prewrite.{Head, headStep, prewriteAll, prewriteBatch, prewriteSteps, prewriteEntry, prewriteEntries, applyPrewrite, applyPrewrites}
+use Rattle.rules.specs.Commit.{Ending, endingStep, commitAll, commitBatch, commitSteps, commitKey, commitKeys, applyCommit, applyCommits}
+use Rattle.rules.specs.Rollback.{rollbackAll, rollbackBatch, rollbackSteps, rollbackKey, rollbackKeys, applyRollback, applyRollbacks}
 use Rattle.rules.specs.OneStep.{oneStep, ofCounted, stepAll, stepDone, stepArguments, argumentsStep, stepApplied, stepNew, applyStep, applySteps, thenApplied, allApplied, appliedIn, isAlready}
 use Rattle.laws.proofs.StepLaws.{then-left, then-right, need-true, and-left, and-right}
 use Rattle.laws.proofs.FrameLaws.{ascend-rest, mutations-ascend, keys-ascend}
@@ -23,7 +23,7 @@ use Rattle.laws.proofs.PrewriteLaws.{prewrite-still}
 use Rattle.laws.proofs.CommitLaws.{commit-still}
 use Rattle.laws.proofs.RollbackLaws.{rollback-still}
 use Rattle.laws.proofs.OneStepLaws.{stepCheck, steps-check, step-still}
-use Rattle.ledger.specs.Ledger.{Call, prewriting, prewritingBatch, committing, committingBatch, rollingBack, rollingBackBatch, oneStepping, perform, Named, ofMutation, ofKey, entriesIn, eachNamed, namedBy, onto, logged, Past, then, after, empty}
+use Rattle.ledger.specs.Ledger.{Call, prewritingBatch, committingBatch, rollingBackBatch, oneStepping, perform, Named, ofMutation, ofKey, entriesIn, eachNamed, namedBy, onto, logged, Past, then, after, empty}
 
 -- a claim that every accepted entry keeps
 pub record Inductive (P : Box → List Named → Type 0) : Type 0 where
@@ -96,26 +96,14 @@ module _ (P : Box → List Named → Type 0) (kept : Inductive P) where
   batch-kept f (some xs) call b log h v = h xs refl
 
   module _ (b : Box) (log : List Named) (v : P b log) where
-    prewrite-kept : (h : Head) (m : Mutation) → Kept (prewrite h m b) (ofMutation (h .start) m ∷ []) log
-    unfolding prewrite prewriteSteps prewriteEntries onto
-    prewrite-kept h m = settle-kept _ _ b _ log (λ p. kept .prewritten h m b log (then-left _ _ p) (then-left _ _ (then-left _ _ (then-right _ _ p))) v) v
-
     prewriteAll-kept : (h : Head) (ms : List Mutation) → ascend keyIn ms ≡ true → Kept (prewriteAll h ms b) (eachNamed (ofMutation (h .start)) ms) log
     unfolding prewriteAll prewriteSteps
     prewriteAll-kept h ms a =
         settle-kept _ _ b _ log (λ p. prewrites h ms b log (then-left _ _ (then-right _ _ p)) a (then-left _ _ (then-right _ _ (then-right _ _ p))) v) v
 
-    commit-kept : (h : Ending) (k : Key) → Kept (commit h k b) (ofKey (h .start) k ∷ []) log
-    unfolding commit commitSteps commitKeys onto
-    commit-kept h k = settle-kept _ _ b _ log (λ p. kept .committed h k b log (then-left _ _ p) (then-left _ _ (then-right _ _ p)) v) v
-
     commitAll-kept : (h : Ending) (ks : List Key) → ascend (λ k. k) ks ≡ true → Kept (commitAll h ks b) (eachNamed (ofKey (h .start)) ks) log
     unfolding commitAll commitSteps
     commitAll-kept h ks a = settle-kept _ _ b _ log (λ p. commits h ks b log (then-left _ _ (then-right _ _ p)) a (then-right _ _ (then-right _ _ p)) v) v
-
-    rollback-kept : (txn s : ℕ) (k : Key) → Kept (rollback txn s k b) (ofKey s k ∷ []) log
-    unfolding rollback rollbackSteps rollbackKeys onto
-    rollback-kept txn s k = settle-kept _ _ b _ log (λ p. kept .rolled-back txn s k b log (then-left _ _ p) (then-left _ _ (then-left _ _ (then-right _ _ p))) v) v
 
     rollbackAll-kept : (txn s : ℕ) (ks : List Key) → ascend (λ k. k) ks ≡ true → Kept (rollbackAll txn s ks b) (eachNamed (ofKey s) ks) log
     unfolding rollbackAll rollbackSteps
@@ -144,11 +132,8 @@ module _ (P : Box → List Named → Type 0) (kept : Inductive P) where
 
     call-kept : (c : Call) → Kept (perform c b) (namedBy c) log
     unfolding perform namedBy prewriteBatch commitBatch rollbackBatch oneStep
-    call-kept (prewriting h m) = prewrite-kept h m
     call-kept (prewritingBatch h s) = batch-kept _ (mutations s) (prewriteAll h) b log (λ ms e. prewriteAll-kept h ms (mutations-ascend s ms e)) v
-    call-kept (committing h k) = commit-kept h k
     call-kept (committingBatch h s) = batch-kept _ (keys s) (commitAll h) b log (λ ks e. commitAll-kept h ks (keys-ascend s ks e)) v
-    call-kept (rollingBack txn start k) = rollback-kept txn start k
     call-kept (rollingBackBatch txn start s) = batch-kept _ (keys s) (rollbackAll txn start) b log (λ ks e. rollbackAll-kept txn start ks (keys-ascend s ks e)) v
     call-kept (oneStepping h s) = step-kept h (mutations s) (λ ms e. mutations-ascend s ms e)
 

@@ -12,16 +12,17 @@ use Rattle.forms.specs.Numbers.{numberFrom, numberOf}
 use Rattle.forms.specs.Key.{Key, tableOf, keyForm}
 use Rattle.forms.specs.Row.{Row, integers, texts, fields, rowForm}
 use Rattle.forms.specs.Batch.{ofKind, mutation, above, ascend, ifAscend, batchOf, mutations, keys}
+use Rattle.forms.specs.Ones.{fitted, oneMutation, oneKey}
 use Rattle.rules.specs.Answers.{_▸_, need, needOwn}
 use Rattle.rules.specs.Box.{fresh, recordsOf, addRecord, lockOf, addLock, rowOf, addRow, before, rowBefore, putIn, insertBy, dropLock, unlessLock, dropRow, unlessRow}
 use Rattle.rules.specs.Sound.{allSound, soundLock}
 use Rattle.rules.specs.Room.{sumOf, loadOf, fits, roomFor}
 use Rattle.rules.specs.Calls.{settle, ofBatch, zeroStep, allBelow, foundIf, stampedAt}
-use Rattle.rules.specs.Prewrite.{headStep, lockStep, prewriteEntry, prewriteEntries, storeIf, lockLine, unlessLocked, applyPrewrite, applyPrewrites, prewriteRoom, prewriteSteps, prewrite}
-use Rattle.rules.specs.Commit.{Ending, endingStep, withStart, commitLock, commitStep, commitKey, commitKeys, commitTo, applyCommit, commitSteps, commit, commitBatch}
-use Rattle.rules.specs.Rollback.{rollbackRecords, rollbackLock, rollbackStep, rollbackKey, rollbackKeys, rollbackTo, applyRollback, applyRollbacks, rollbackRoom, rollbackSteps, rollback}
+use Rattle.rules.specs.Prewrite.{headStep, lockStep, prewriteEntry, prewriteEntries, storeIf, lockLine, unlessLocked, applyPrewrite, applyPrewrites, prewriteRoom, prewriteSteps, prewriteAll, prewriteBatch}
+use Rattle.rules.specs.Commit.{Ending, endingStep, withStart, commitLock, commitStep, commitKey, commitKeys, commitTo, applyCommit, applyCommits, commitSteps, commitAll, commitBatch}
+use Rattle.rules.specs.Rollback.{rollbackRecords, rollbackLock, rollbackStep, rollbackKey, rollbackKeys, rollbackTo, applyRollback, applyRollbacks, rollbackRoom, rollbackSteps, rollbackAll, rollbackBatch}
 use Rattle.rules.specs.OneStep.{argumentsStep, appliedIf, appliedBy, appliedIn, noneOther, allApplied, someApplied, stepLock, stepEntry, stepEntries, newestStep, replaceIf, applyStep, applySteps, stepNew, stepApplied, stepArguments, thenApplied, countIf, stepDone, stepAll, ofCounted, oneStep}
-use Rattle.ledger.specs.Ledger.{Call, prewriting, committing, committingBatch, rollingBack, oneStepping, perform, entriesIn, eachNamed, namedBy, onto, logged, Past, then, after, empty, named, rowIf, orOlder, lastRow, sucUnless, differentPairs, consIf, chosen, rowsAt}
+use Rattle.ledger.specs.Ledger.{Call, prewritingBatch, committingBatch, rollingBackBatch, oneStepping, perform, entriesIn, eachNamed, namedBy, onto, logged, Past, then, after, empty, named, rowIf, orOlder, lastRow, sucUnless, differentPairs, consIf, chosen, rowsAt}
 
 keyA : Key
 keyA = 0 ∷ 0 ∷ 0 ∷ 1 ∷ 97 ∷ []
@@ -41,12 +42,12 @@ ending = record { txn = 7; start = 10; commit = 12 }
 
 calls : List Call
 calls =
-    prewriting (record { txn = 7; start = 10; primary = keyA; ttl = 1 }) (record { key = keyA; row = some row₁ }) ∷
+    prewritingBatch (record { txn = 7; start = 10; primary = keyA; ttl = 1 }) (oneMutation (record { key = keyA; row = some row₁ })) ∷
     oneStepping ending (0 ∷ 1 ∷ 5 ∷ keyA ++ (1 ∷ 3 ∷ row₂)) ∷
-    rollingBack 7 10 keyA ∷
+    rollingBackBatch 7 10 (oneKey keyA) ∷
     committingBatch ending (0 ∷ []) ∷
-    committing ending keyA ∷
-    rollingBack 7 5 keyB ∷
+    committingBatch ending (oneKey keyA) ∷
+    rollingBackBatch 7 5 (oneKey keyB) ∷
     []
 
 past : Past
@@ -62,5 +63,5 @@ record Seen (p : Past) : Type 0 where
   stamp-is-no-start : named keyA 12 (p .log) ≡ false
 
 seen : Seen past
-unfolding keyA keyB row₁ row₂ ending calls past cmp eqBytes ltBytes readOn _>>=_ just only byte stretch piece upTo times section ended whole numberFrom numberOf tableOf keyForm integers texts fields rowForm ofKind mutation above ascend ifAscend batchOf mutations keys _▸_ need needOwn fresh recordsOf addRecord lockOf addLock rowOf addRow before rowBefore putIn insertBy dropLock unlessLock dropRow unlessRow allSound soundLock sumOf loadOf fits roomFor settle ofBatch zeroStep allBelow foundIf stampedAt headStep lockStep prewriteEntry prewriteEntries storeIf lockLine unlessLocked applyPrewrite applyPrewrites prewriteRoom prewriteSteps prewrite endingStep withStart commitLock commitStep commitKey commitKeys commitTo applyCommit commitSteps commit commitBatch rollbackRecords rollbackLock rollbackStep rollbackKey rollbackKeys rollbackTo applyRollback applyRollbacks rollbackRoom rollbackSteps rollback argumentsStep appliedIf appliedBy appliedIn noneOther allApplied someApplied stepLock stepEntry stepEntries newestStep replaceIf applyStep applySteps stepNew stepApplied stepArguments thenApplied countIf stepDone stepAll ofCounted oneStep perform entriesIn eachNamed namedBy onto logged then after empty named rowIf orOlder lastRow sucUnless differentPairs consIf chosen
+unfolding keyA keyB row₁ row₂ ending calls past cmp eqBytes ltBytes readOn _>>=_ just only byte stretch piece upTo times section ended whole numberFrom numberOf tableOf keyForm integers texts fields rowForm ofKind mutation above ascend ifAscend batchOf mutations keys fitted oneMutation oneKey _▸_ need needOwn fresh recordsOf addRecord lockOf addLock rowOf addRow before rowBefore putIn insertBy dropLock unlessLock dropRow unlessRow allSound soundLock sumOf loadOf fits roomFor settle ofBatch zeroStep allBelow foundIf stampedAt headStep lockStep prewriteEntry prewriteEntries storeIf lockLine unlessLocked applyPrewrite applyPrewrites prewriteRoom prewriteSteps prewriteAll prewriteBatch endingStep withStart commitLock commitStep commitKey commitKeys commitTo applyCommit applyCommits commitSteps commitAll commitBatch rollbackRecords rollbackLock rollbackStep rollbackKey rollbackKeys rollbackTo applyRollback applyRollbacks rollbackRoom rollbackSteps rollbackAll rollbackBatch argumentsStep appliedIf appliedBy appliedIn noneOther allApplied someApplied stepLock stepEntry stepEntries newestStep replaceIf applyStep applySteps stepNew stepApplied stepArguments thenApplied countIf stepDone stepAll ofCounted oneStep perform entriesIn eachNamed namedBy onto logged then after empty named rowIf orOlder lastRow sucUnless differentPairs consIf chosen
 seen = record { names = refl; pairs = refl; lines = refl; last = refl; stored = refl; none-of-b = refl; stamp-is-no-start = refl }

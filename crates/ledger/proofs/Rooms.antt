@@ -4,16 +4,13 @@ use mathlib.Core.Bool.{true}
 use mathlib.Core.List.{List, [], _∷_}
 use Rattle.rules.specs.Box.{Box}
 use Rattle.rules.specs.Room.{roomFor}
-use Rattle.laws.proofs.CallLaws.{fresh-room, prewrite-inRoom, prewriteBatch-room, commit-inRoom, commitBatch-room, rollback-inRoom, rollbackBatch-room, oneStep-room}
-use Rattle.ledger.specs.Ledger.{Call, prewriting, prewritingBatch, committing, committingBatch, rollingBack, rollingBackBatch, oneStepping, perform, Past, then, after, empty}
+use Rattle.laws.proofs.CallLaws.{fresh-room, prewriteBatch-room, commitBatch-room, rollbackBatch-room, oneStep-room}
+use Rattle.ledger.specs.Ledger.{Call, prewritingBatch, committingBatch, rollingBackBatch, oneStepping, perform, Past, then, after, empty}
 
 call-room : (c : Call) (b : Box) → roomFor b ≡ true → roomFor (perform c b .box) ≡ true
 unfolding perform
-call-room (prewriting h m) b = prewrite-inRoom h m b
 call-room (prewritingBatch h s) b = prewriteBatch-room h s b
-call-room (committing h k) b = commit-inRoom h k b
 call-room (committingBatch h s) b = commitBatch-room h s b
-call-room (rollingBack txn start k) b = rollback-inRoom txn start k b
 call-room (rollingBackBatch txn start s) b = rollbackBatch-room txn start s b
 call-room (oneStepping h s) b = oneStep-room h s b
 

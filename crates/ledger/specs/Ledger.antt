@@ -21,31 +21,26 @@ use Rattle.rules.specs.declared.records.Kind.{Kind}
 use Rattle.rules.specs.declared.records.Kind.the-variants.{Put, Delete, Rollback}
 use Rattle.rules.specs.Box.{Box, Line, Standing, Finished, KeyLine, Default, fresh, atPair}
 use Rattle.rules.specs.Calls.{Done}
-use Rattle.rules.specs.Prewrite.{Head, prewrite, prewriteBatch}
-use Rattle.rules.specs.Commit.{Ending, commit, commitBatch}
-use Rattle.rules.specs.Rollback.{rollback, rollbackBatch}
+use Rattle.rules.specs.Prewrite.{Head, prewriteBatch}
+use Rattle.rules.specs.Commit.{Ending, commitBatch}
+use Rattle.rules.specs.Rollback.{rollbackBatch}
 use Rattle.rules.specs.OneStep.{oneStep}
 use Rattle.rules.specs.Figures.{stats}
 
 -- ---- the calls
 
--- "prewrites, commits, rollbacks and one-step batches": single forms and batches; a batch is its bytes, in form or not
+-- "prewrites, commits, rollbacks and one-step batches": a batch is its bytes, in form or not. A single form is its batch of one (`oneMutation`,
+-- `oneKey`), whose entry is the call's own wherever it is accepted (`prewrite-named` of laws/proofs/Singles, and so on)
 pub data Call : Type 0 where
-  prewriting : Head → Mutation → Call
   prewritingBatch : Head → Bytes → Call
-  committing : Ending → Key → Call
   committingBatch : Ending → Bytes → Call
-  rollingBack : ℕ → ℕ → Key → Call
   rollingBackBatch : ℕ → ℕ → Bytes → Call
   oneStepping : Ending → Bytes → Call
 
 -- what a call answers, and the box after it
 unfoldable pub perform : Call → Box → Done
-perform (prewriting h m) b = prewrite h m b
 perform (prewritingBatch h s) b = prewriteBatch h s b
-perform (committing h k) b = commit h k b
 perform (committingBatch h s) b = commitBatch h s b
-perform (rollingBack txn start k) b = rollback txn start k b
 perform (rollingBackBatch txn start s) b = rollbackBatch txn start s b
 perform (oneStepping h s) b = oneStep h s b .done
 
@@ -77,11 +72,8 @@ eachNamed f (x ∷ xs) = f x ∷ eachNamed f xs
 
 -- what a call names, if it is accepted
 unfoldable pub namedBy : Call → List Named
-namedBy (prewriting h m) = ofMutation (h .start) m ∷ []
 namedBy (prewritingBatch h s) = eachNamed (ofMutation (h .start)) (entriesIn (mutations s))
-namedBy (committing h k) = ofKey (h .start) k ∷ []
 namedBy (committingBatch h s) = eachNamed (ofKey (h .start)) (entriesIn (keys s))
-namedBy (rollingBack txn start k) = ofKey start k ∷ []
 namedBy (rollingBackBatch txn start s) = eachNamed (ofKey start) (entriesIn (keys s))
 namedBy (oneStepping h s) = eachNamed (ofMutation (h .start)) (entriesIn (mutations s))
 

@@ -1,22 +1,18 @@
--- What a store that is built says to a call: its tallies are the box's, its keys are in form, a stretch that lies in the area is a part of it,
--- and a row that a read sees is the one that the definition's walk shows.
+-- What a store that is built says to a call: its tallies are the box's, its keys are in form, and a row that a read sees is the one that the
+-- definition's walk shows.
 -- Assumes nothing.
-use Prim.Native.Nat.{ℕ, zero, suc, _+_, _≤_, _<_}
+use Prim.Native.Nat.{ℕ, zero, suc, _<_}
 use native.Mathlib.Omega.{arith}
-use mathlib.Core.Path.{_≡_, refl, sym, ap, _∙_, subst}
+use mathlib.Core.Path.{_≡_, refl, sym, ap, _∙_}
 use mathlib.Core.Bool.{Bool, true, false}
 use mathlib.Core.List.{List, [], _∷_}
-use mathlib.Core.Option.{Option}
 use lib.ListN.{length, getD}
 use Rattle.seqs.proofs.Tables.{shown-length, shown-at}
-use Rattle.forms.specs.Bytes.{Bytes, bytesAt}
+use Rattle.forms.specs.Bytes.{Bytes}
 use Rattle.forms.specs.Key.{Key, keyForm}
-use Rattle.forms.specs.Row.{Row}
-use Rattle.rules.specs.declared.answers.Answer.the-variants.{No}
 use Rattle.rules.specs.declared.records.Kind.{Kind}
 use Rattle.rules.specs.declared.records.Kind.the-variants.{Put, Delete, Rollback}
 use Rattle.rules.specs.declared.records.Record.{Record}
-use Rattle.rules.specs.Answers.{Reply, nothing, refused}
 use Rattle.rules.specs.Box as box
 use Rattle.rules.specs.Read.{walk, oneRecord, showRow}
 use Rattle.rules.specs.Restore.{allGood}
@@ -25,12 +21,9 @@ use Rattle.rules.specs.Sound.{soundRecord}
 use Rattle.rules.proofs.RoomLaws.{fits-out, fits-in}
 use Rattle.laws.proofs.StepLaws.{and-left, and-right}
 use Rattle.lines.specs.declared.store.Store.{Store}
-use Rattle.lines.specs.declared.keys.Newest.{Newest}
-use Rattle.lines.specs.declared.keys.Newest.the-variants as newest
-use Rattle.lines.specs.View.{keyOf, lineOf, defaultOf, boxOf, partOf, noSlot, noHeld}
+use Rattle.lines.specs.View.{keyOf, lineOf, defaultOf, boxOf, noSlot, noHeld}
 use Rattle.lines.specs.Made.{Built, Made}
 use Rattle.lines.specs.Looks.{sees, seesIf, rowSeen}
-use Rattle.lines.proofs.SeeLaws.{part-in}
 
 -- ---- room
 
@@ -68,11 +61,6 @@ module _ {st : Store} {area : Bytes} (b : Built st area) (i : ℕ) where
   default-key h =
       sym (ap (λ (d : box.Default). keyForm (d .key)) (shown-at (b .defaults) (defaultOf area) i h))
       ∙ good-at (λ (d : box.Default). keyForm (d .key)) (boxOf st area .defaults) i (defaultOf area noHeld) (omega (arith, shown-length (b .defaults) (defaultOf area))) (b .kept .keys .defaults)
-
--- ---- a stretch that lies in the area
-
-pub part-is : (area : Bytes) (at len : ℕ) → at + len ≤ length area → partOf area at len ≡ bytesAt area at len
-part-is area at len h = sym (part-in area at len (omega arith) (omega arith))
 
 -- ---- a read
 

@@ -6,6 +6,7 @@ use mathlib.Core.List.{List}
 use borrow.Author.Tests.{not-false}
 use Rattle.forms.specs.Bytes.{Bytes}
 use Rattle.forms.specs.Readers.{isSome}
+use Rattle.forms.specs.Key.{keyForm}
 use Rattle.forms.specs.Batch.{Mutation, keyIn, mutation, mutations}
 use Rattle.forms.specs.Places.{ahead, firstOf}
 use Rattle.forms.specs.declared.batch.Cursor.{Cursor}
@@ -16,6 +17,7 @@ use Rattle.rules.specs.Answers.{_▸_}
 use Rattle.rules.specs.Box.{Box}
 use Rattle.rules.specs.Calls.{Done, settle}
 use Rattle.rules.specs.Prewrite.{Head, headStep, prewriteEntries, prewriteRoom, prewriteSteps, applyPrewrites, prewriteAll, prewriteBatch}
+use Rattle.laws.proofs.StepLaws.{passed}
 use Rattle.lines.specs.declared.store.Store.{Store}
 use Rattle.lines.specs.View.{boxOf}
 use Rattle.lines.specs.Made.{Made}
@@ -24,7 +26,11 @@ use Rattle.calls.specs.Settled.{Settled}
 use Rattle.calls.proofs.SettledLaws.{settled-same}
 use Rattle.calls.proofs.AnswerLaws.{head-out, head-on, bad-batch, empty-batch, full-batch}
 use Rattle.prewrites.specs.Applies.{allDone, AllAsks}
-use Rattle.prewrites.proofs.OneLaws.{head-primary}
+
+-- "primary 1"
+head-primary : (h : Head) → headStep h ≡ Accepted → keyForm (h .primary) ≡ true
+unfolding headStep
+head-primary h p = search passed
 
 module _ {st : Store} {area : Bytes} (made : Made st area) (h : Head) (s : Bytes) {f : Bool} (e : f ≡ isSome (mutations s)) where
   abbrev b : Box

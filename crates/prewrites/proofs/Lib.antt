@@ -2,13 +2,10 @@ pub mod LockLaws
 pub mod EntryLaws
 pub mod KeptLaws
 pub mod CheckLaws
-pub mod NewLaws
 pub mod PassLaws
-pub mod OneLaws
 pub mod WriteLaws
 pub mod DraftLaws
 pub mod EditLaws
 pub mod DraftingLaws
 pub mod AllLaws
 pub mod BatchLaws
-pub mod SingleLaws

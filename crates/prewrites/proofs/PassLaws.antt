@@ -1,4 +1,4 @@
--- The calls from their entries on: the room, and what the ways out of both forms say.
+-- The call from its entries on: the room, and what the ways out say.
 -- Assumes nothing.
 use Prim.Native.Nat.{_+_, _≤_}
 use native.Mathlib.Omega.{arith}
@@ -16,11 +16,11 @@ use Rattle.rules.specs.Answers.{_▸_, need}
 use Rattle.rules.specs.Box.{Box, Lock, lockOf}
 use Rattle.rules.specs.Room.{loadOf, fits, Fits}
 use Rattle.rules.specs.Calls.{settle}
-use Rattle.rules.specs.Prewrite.{Head, prewriteEntry, prewriteEntries, prewriteRoom, unlessLocked, lockLine, applyPrewrite, applyPrewrites}
+use Rattle.rules.specs.Prewrite.{Head, prewriteEntries, prewriteRoom, unlessLocked, lockLine, applyPrewrite, applyPrewrites}
 use Rattle.rules.proofs.RoomLaws.{fits-out}
 use Rattle.laws.specs.Adds.{noLoad, plus, sumLoads, lockLoad, ofRow, prewriteAdds}
 use Rattle.laws.proofs.SettleLaws.{settle-old}
-use Rattle.laws.proofs.LoadLaws.{load-fields, plus-none}
+use Rattle.laws.proofs.LoadLaws.{load-fields}
 use Rattle.laws.proofs.PrewriteLoad.{prewrites-load, prewrite-room}
 use Rattle.lines.specs.declared.store.Store.{Store}
 use Rattle.lines.specs.View.{boxOf}
@@ -28,20 +28,10 @@ use Rattle.lines.specs.Made.{Built, Made}
 use Rattle.calls.specs.Loads.{Summable}
 use Rattle.calls.specs.Settled.{Settled}
 use Rattle.calls.proofs.SettledLaws.{then-refused, settled-same, settled-new}
-use Rattle.calls.proofs.AnswerLaws.{then-end}
 use Rattle.areas.specs.Packs.{Placed}
 use Rattle.prewrites.specs.declared.checks.Seen.{Seen}
-use Rattle.prewrites.specs.Checks.{EntryChecked, AllChecked}
+use Rattle.prewrites.specs.Checks.{AllChecked}
 use Rattle.prewrites.specs.Applies.{allDone}
-
--- a single entry is a list of one
-pub one-checked : {h : Head} {b : Box} {m : Mutation} {r : Seen} → EntryChecked h b m r → AllChecked h b (m ∷ []) r
-unfolding prewriteEntries sumLoads
-one-checked {h} {b} {m} v = record {
-  answer-is = v .answer-is ∙ sym (then-end (prewriteEntry h b m));
-  added-is = λ p. v .added-is p ∙ sym (plus-none (prewriteAdds h b m));
-  small = let s = v .small in omega arith;
-}
 
 -- ---- where no entry adds a line, each is locked already
 

@@ -1,10 +1,9 @@
--- What the applying pass of a prewrite asks and leaves, an entry at a time and whole, and the steps of the calls from their entries on.
+-- What the applying pass of a prewrite asks and leaves, and the steps of the call from its entries on.
 -- Assumes nothing.
-use Prim.Native.Nat.{ℕ, _+_, _≤_}
+use Prim.Native.Nat.{_+_, _≤_}
 use mathlib.Core.Path.{_≡_}
 use mathlib.Core.Bool.{true}
 use mathlib.Core.List.{List}
-use mathlib.Core.Option.{none}
 use Rattle.forms.specs.Bytes.{Bytes}
 use Rattle.forms.specs.Key.{keyForm}
 use Rattle.forms.specs.Batch.{Mutation, keyIn, mutation, ascend}
@@ -12,40 +11,18 @@ use Rattle.forms.specs.Places.{ahead, Ahead}
 use Rattle.forms.specs.declared.batch.Cursor.{Cursor}
 use Rattle.rules.specs.declared.answers.Answer.the-variants.{Accepted}
 use Rattle.rules.specs.Answers.{_▸_}
-use Rattle.rules.specs.Box.{Box, lockOf, rowOf}
+use Rattle.rules.specs.Box.{Box}
 use Rattle.rules.specs.Room.{loadOf, Fits}
-use Rattle.rules.specs.Calls.{Done, settle, rowArgument}
-use Rattle.rules.specs.Prewrite.{Head, prewriteEntries, prewriteRoom, applyPrewrite, applyPrewrites}
+use Rattle.rules.specs.Calls.{Done, settle}
+use Rattle.rules.specs.Prewrite.{Head, prewriteEntries, prewriteRoom, applyPrewrites}
 use Rattle.laws.specs.Adds.{sumLoads, prewriteAdds}
-use Rattle.laws.specs.Places.{linesBefore, pairsBefore}
 use Rattle.rules.specs.declared.room.Load.{Load}
 use Rattle.lines.specs.declared.keys.Looked.{Looked}
 use Rattle.lines.specs.declared.places.FoundRow.{FoundRow}
 use Rattle.lines.specs.declared.store.Store.{Store}
 use Rattle.lines.specs.View.{boxOf}
 use Rattle.lines.specs.Made.{Built, Made}
-use Rattle.calls.specs.Loads.{AddedBy}
 use Rattle.prewrites.specs.Checks.{FoundAll}
-
--- ---- one entry
-
--- an entry in form whose key has no lock, and no row at this start; there is room for it
-pub record NewAsks (st : Store) (area : Bytes) (h : Head) (m : Mutation) (first place : ℕ) (added : Load) : Type 0 where
-  pub made : Made st area
-  pub key-ok : keyForm (m .key) ≡ true
-  pub primary-ok : keyForm (h .primary) ≡ true
-  pub row-ok : rowArgument (m .row) ≡ true
-  pub no-lock : lockOf (m .key) (boxOf st area .lines) ≡ none
-  pub no-row : rowOf (m .key) (h .start) (boxOf st area .defaults) ≡ none
-  pub first-is : first ≡ linesBefore (m .key) (boxOf st area .lines)
-  pub place-is : place ≡ pairsBefore (m .key) (h .start) (boxOf st area .defaults)
-  pub added-is : added ≡ prewriteAdds h (boxOf st area) m
-  pub small : AddedBy 1 399 added
-  pub fit : Fits (loadOf (applyPrewrite h m (boxOf st area)))
-
-pub record EntryApplied (st : Store) (area : Bytes) (h : Head) (m : Mutation) (r : Store) (area′ : Bytes) : Type 0 where
-  pub built : Built r area′
-  pub shown : boxOf r area′ ≡ applyPrewrite h m (boxOf st area)
 
 -- ---- all entries
 
@@ -70,7 +47,7 @@ pub record Applied (st : Store) (area : Bytes) (h : Head) (ms : List Mutation) (
   pub built : Built r area′
   pub shown : boxOf r area′ ≡ applyPrewrites h ms (boxOf st area)
 
--- ---- the calls, from their entries on
+-- ---- the call, from its entries on
 
 -- "then per entry ascending ..; Then 11"
 unfoldable pub allDone : Head → List Mutation → Box → Done

@@ -1,4 +1,3 @@
 pub mod Checks
 pub mod Applies
 pub mod Drafts
-pub mod Singles

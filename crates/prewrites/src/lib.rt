@@ -1,14 +1,12 @@
-// "Prewrite", single and batch: a checking pass over the store as it came, the room that the whole call would leave, and an applying pass,
-// after a repack where the area wants one.
+// "Prewrite": a checking pass over the store as it came, the room that the whole call would leave, and an applying pass,
+// after a repack where the area wants one. The single form is a batch of one.
 pub mod applies;
 pub mod batch;
 pub mod checks;
 pub mod drafts;
 pub mod heads;
-pub mod locks;
 pub mod passes;
 pub mod single;
-pub mod verdicts;
 
 pub use batch::prewrite_batch;
 pub use single::prewrite;

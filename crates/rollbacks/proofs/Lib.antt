@@ -1,4 +1,4 @@
--- The laws of rollback, single and batch.
+-- The laws of rollback.
 -- Assumes nothing.
 pub mod KeyLaws
 pub mod WeightLaws
@@ -6,8 +6,6 @@ pub mod SeenLaws
 pub mod CheckLaws
 pub mod GrowLaws
 pub mod PassLaws
-pub mod RollLaws
-pub mod CallLaws
 pub mod PlanLaws
 pub mod PlanWalk
 pub mod ApplyLaws

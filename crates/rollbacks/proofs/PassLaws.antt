@@ -1,6 +1,6 @@
 -- The calls from their keys on: the room, and what the ways out of both forms say.
 -- Assumes nothing.
-use Prim.Native.Nat.{ℕ, _≤_}
+use Prim.Native.Nat.{ℕ}
 use native.Mathlib.Omega.{arith}
 use mathlib.Core.Path.{_≡_, sym, ap, ap₂, _∙_, subst}
 use mathlib.Core.Bool.{Bool, true, false, not}
@@ -47,11 +47,6 @@ module _ {st : Store} {area : Bytes} (made : Made st area) {txn start : ℕ} {ks
   pass-refused n =
       settled-same made
       (ap (λ (x : Answer). settle x new b) (sym (then-refused answer (rollbackRoom start ks b) n ∙ ap (λ (x : Answer). x ▸ rollbackRoom start ks b) (v .answer-is))) ∙ settle-old answer new b n)
-
-  pub pass-place : w .added .bytes ≤ 16384
-  pass-place =
-      let s = v .light .added in
-      omega (arith, s .bytes)
 
   module _ (p : answer ≡ Accepted) where
     added-is : w .added ≡ sumLoads (rollbackAdds start b) ks

@@ -1,9 +1,8 @@
--- What rolling a key back asks and leaves, and the steps of both calls from their keys on.
+-- What the applying pass asks and leaves, and the steps of the call from its keys on.
 -- Assumes nothing.
-use Prim.Native.Nat.{ℕ, _≤_}
+use Prim.Native.Nat.{ℕ}
 use mathlib.Core.Path.{_≡_}
 use mathlib.Core.List.{List}
-use mathlib.Core.Option.{none}
 use Rattle.forms.specs.Bytes.{Bytes}
 use Rattle.forms.specs.Key.{Key}
 use Rattle.forms.specs.Readers.{piece}
@@ -12,33 +11,17 @@ use Rattle.forms.specs.declared.batch.Cursor.{Cursor}
 use Rattle.rules.specs.declared.answers.Answer.the-variants.{Accepted}
 use Rattle.rules.specs.declared.room.Load.{Load}
 use Rattle.rules.specs.Answers.{_▸_}
-use Rattle.rules.specs.Box.{Box, recordsOf}
+use Rattle.rules.specs.Box.{Box}
 use Rattle.rules.specs.Room.{loadOf, Fits}
-use Rattle.rules.specs.Calls.{Done, settle, zeroStep, stampedAt}
-use Rattle.rules.specs.Rollback.{rollbackKey, rollbackKeys, rollbackRoom, applyRollback, applyRollbacks}
+use Rattle.rules.specs.Calls.{Done, settle}
+use Rattle.rules.specs.Rollback.{rollbackKeys, rollbackRoom, applyRollbacks}
 use Rattle.lines.specs.declared.store.Store.{Store}
 use Rattle.lines.specs.declared.keys.Looked.{Looked}
 use Rattle.lines.specs.declared.places.FoundRow.{FoundRow}
 use Rattle.lines.specs.View.{boxOf}
-use Rattle.lines.specs.Made.{Built, Made}
+use Rattle.lines.specs.Made.{Built}
 use Rattle.calls.specs.Walks.{AllAsks}
-use Rattle.rollbacks.specs.Checks.{Met}
 use Rattle.rollbacks.specs.Passes.{Surveyed}
-
--- ---- one key
-
--- the key has passed for a transaction, its Rollback comes, and there is a slot for it
-pub record RollAsks (st : Store) (area : Bytes) (start : ℕ) (k : Key) (found : Looked) (stored : FoundRow) : Type 0 where
-  pub made : Made st area
-  pub met : Met st area start k found stored
-  pub txn : ℕ
-  pub passes : rollbackKey txn start (boxOf st area) k ≡ Accepted
-  pub comes : stampedAt start (recordsOf k (boxOf st area .lines)) ≡ none
-  pub lines : loadOf (applyRollback start k (boxOf st area)) .lines ≤ 1024
-
-pub record KeyApplied (st : Store) (area : Bytes) (start : ℕ) (k : Key) (r : Store) (area′ : Bytes) : Type 0 where
-  pub built : Built r area′
-  pub shown : boxOf r area′ ≡ applyRollback start k (boxOf st area)
 
 -- ---- all keys
 
@@ -55,12 +38,8 @@ pub record AllApplied (st : Store) (area : Bytes) (start : ℕ) (ks : List Key) 
   pub built : Built r area′
   pub shown : boxOf r area′ ≡ applyRollbacks start ks (boxOf st area)
 
--- ---- the calls, from their keys on
+-- ---- the call, from its keys on
 
 -- "per key: ..; Then 11"
 unfoldable pub allDone : ℕ → ℕ → List Key → Box → Done
 allDone txn start ks b = settle (rollbackKeys txn start b ks ▸ rollbackRoom start ks b) (applyRollbacks start ks b) b
-
-pub record OneAsks (st : Store) (area : Bytes) (txn start : ℕ) : Type 0 where
-  pub made : Made st area
-  pub head-ok : zeroStep txn start ≡ Accepted

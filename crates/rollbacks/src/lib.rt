@@ -1,4 +1,5 @@
-// "Rollback", single and batch: a checking pass over the store as it came, the room that the whole call would leave, and an applying pass.
+// "Rollback": a checking pass over the store as it came, the room that the whole call would leave, and an applying pass. The single form is a
+// batch of one.
 pub mod applies;
 pub mod batch;
 pub mod checks;

@@ -15,6 +15,7 @@ use Rattle.forms.specs.Numbers.{numberFrom, digits, numberOf}
 use Rattle.forms.specs.Key.{Key, tableOf, keyForm}
 use Rattle.forms.specs.Row.{Row, integers, texts, fields, rowForm}
 use Rattle.forms.specs.Batch.{Mutation, ofKind, mutation, above, ascend, ifAscend, batchOf, mutations, keys}
+use Rattle.forms.specs.Ones.{fitted, oneMutation, oneKey}
 use Rattle.rules.specs.declared.answers.Answer.{Answer}
 use Rattle.rules.specs.declared.records.Kind.the-variants.{Delete}
 use Rattle.rules.specs.Answers.{number, holder, _▸_, need, needOwn, Reply, nothing, shown, refused, answerOf, ifPassed}
@@ -24,10 +25,10 @@ use Rattle.rules.specs.Room.{sumOf, loadOf, fits, roomFor}
 use Rattle.rules.specs.Read.{lockLets, keepIf, atOrBelow, newestFirst, showIf, showRow, oneRecord, walk, read}
 use Rattle.rules.specs.Page.{Bounds, Limits, boundsStep, pageArguments, keysOf, keysWithin, onPage, tooLarge, costStep, limitStep, onJudged, pageWalk, unlessPast, readKey, page}
 use Rattle.rules.specs.Written.{kindByte, keyRowBytes, allBytes, pageBytes, Written, writeIf, written, scanPage}
-use Rattle.rules.specs.Calls.{Done, settle, zeroStep, allBelow, foundIf, stampedAt, recordFor}
-use Rattle.rules.specs.Prewrite.{Head, headStep, lockStep, prewriteEntry, prewriteEntries, storeIf, lockLine, unlessLocked, applyPrewrite, applyPrewrites, prewriteRoom, prewriteSteps, prewrite}
-use Rattle.rules.specs.Commit.{Ending, endingStep, withStart, commitLock, commitStep, commitKey, commitKeys, commitTo, applyCommit, commitSteps, commit}
-use Rattle.rules.specs.Rollback.{rollbackRecords, rollbackLock, rollbackStep, rollbackKey, rollbackKeys, rollbackTo, applyRollback, applyRollbacks, rollbackRoom, rollbackSteps, rollback}
+use Rattle.rules.specs.Calls.{Done, settle, ofBatch, zeroStep, allBelow, foundIf, stampedAt, recordFor}
+use Rattle.rules.specs.Prewrite.{Head, headStep, lockStep, prewriteEntry, prewriteEntries, storeIf, lockLine, unlessLocked, applyPrewrite, applyPrewrites, prewriteRoom, prewriteSteps, prewriteAll, prewriteBatch, prewrite}
+use Rattle.rules.specs.Commit.{Ending, endingStep, withStart, commitLock, commitStep, commitKey, commitKeys, commitTo, applyCommit, applyCommits, commitSteps, commitAll, commitBatch, commit}
+use Rattle.rules.specs.Rollback.{rollbackRecords, rollbackLock, rollbackStep, rollbackKey, rollbackKeys, rollbackTo, applyRollback, applyRollbacks, rollbackRoom, rollbackSteps, rollbackAll, rollbackBatch, rollback}
 use Rattle.rules.specs.OneStep.{Counted, argumentsStep, appliedIf, appliedBy, appliedIn, noneOther, allApplied, someApplied, stepLock, stepEntry, stepEntries, newestStep, replaceIf, applyStep, applySteps, stepNew, stepApplied, stepArguments, thenApplied, countIf, stepDone, stepAll, ofCounted, oneStep}
 
 -- ---- a row of the table, and the rows that differ
@@ -191,7 +192,7 @@ roomTable =
 
 -- no row of either table differs
 both : (differing table ≡ []) × (differing roomTable ≡ [])
-unfolding sawLoad locks full roomTable nameUnless differing saw sawDone sawRow sawCount sawPage flatLine flatLines flatDefaults flat keyA keyB row put head ending prewriteA commitA rollbackA batchA batchAB noBounds buffer pageAt12 box1 box2 box6 box11 table cmp eqBytes ltBytes readOn _>>=_ just only byte stretch piece upTo times section ended whole numberFrom digits numberOf tableOf keyForm integers texts fields rowForm ofKind mutation above ascend ifAscend batchOf mutations keys _▸_ need needOwn ifPassed fresh recordsOf addRecord lockOf addLock rowOf addRow before rowBefore putIn insertBy dropLock unlessLock dropRow unlessRow allSound soundLock sumOf loadOf fits roomFor lockLets keepIf atOrBelow newestFirst showIf showRow oneRecord walk read boundsStep pageArguments keysOf keysWithin onPage tooLarge costStep limitStep onJudged pageWalk unlessPast readKey page keyRowBytes allBytes pageBytes writeIf written scanPage settle zeroStep allBelow foundIf stampedAt headStep lockStep prewriteEntry prewriteEntries storeIf lockLine unlessLocked applyPrewrite applyPrewrites prewriteRoom prewriteSteps prewrite endingStep withStart commitLock commitStep commitKey commitKeys commitTo applyCommit commitSteps commit rollbackRecords rollbackLock rollbackStep rollbackKey rollbackKeys rollbackTo applyRollback applyRollbacks rollbackRoom rollbackSteps rollback argumentsStep appliedIf appliedBy appliedIn noneOther allApplied someApplied stepLock stepEntry stepEntries newestStep replaceIf applyStep applySteps stepNew stepApplied stepArguments thenApplied countIf stepDone stepAll ofCounted oneStep
+unfolding sawLoad locks full roomTable nameUnless differing saw sawDone sawRow sawCount sawPage flatLine flatLines flatDefaults flat keyA keyB row put head ending prewriteA commitA rollbackA batchA batchAB noBounds buffer pageAt12 box1 box2 box6 box11 table cmp eqBytes ltBytes readOn _>>=_ just only byte stretch piece upTo times section ended whole numberFrom digits numberOf tableOf keyForm integers texts fields rowForm ofKind mutation above ascend ifAscend batchOf mutations keys fitted oneMutation oneKey _▸_ need needOwn ifPassed fresh recordsOf addRecord lockOf addLock rowOf addRow before rowBefore putIn insertBy dropLock unlessLock dropRow unlessRow allSound soundLock sumOf loadOf fits roomFor lockLets keepIf atOrBelow newestFirst showIf showRow oneRecord walk read boundsStep pageArguments keysOf keysWithin onPage tooLarge costStep limitStep onJudged pageWalk unlessPast readKey page keyRowBytes allBytes pageBytes writeIf written scanPage settle ofBatch zeroStep allBelow foundIf stampedAt headStep lockStep prewriteEntry prewriteEntries storeIf lockLine unlessLocked applyPrewrite applyPrewrites prewriteRoom prewriteSteps prewriteAll prewriteBatch prewrite endingStep withStart commitLock commitStep commitKey commitKeys commitTo applyCommit applyCommits commitSteps commitAll commitBatch commit rollbackRecords rollbackLock rollbackStep rollbackKey rollbackKeys rollbackTo applyRollback applyRollbacks rollbackRoom rollbackSteps rollbackAll rollbackBatch rollback argumentsStep appliedIf appliedBy appliedIn noneOther allApplied someApplied stepLock stepEntry stepEntries newestStep replaceIf applyStep applySteps stepNew stepApplied stepArguments thenApplied countIf stepDone stepAll ofCounted oneStep
 both = (refl, refl)
 
 pub worked : differing table ≡ []

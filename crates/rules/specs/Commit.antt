@@ -13,6 +13,7 @@ use Rattle.forms.specs.Key.{Key, keyForm}
 use Rattle.forms.specs.Row.{Row}
 use Rattle.forms.specs.Readers.{isSome}
 use Rattle.forms.specs.Batch.{keys}
+use Rattle.forms.specs.Ones.{oneKey}
 use Rattle.rules.specs.declared.answers.Answer.{Answer}
 use Rattle.rules.specs.declared.answers.Answer.the-variants.{Accepted, No}
 use Rattle.rules.specs.declared.records.Kind.{Kind}
@@ -91,14 +92,11 @@ unfoldable pub applyCommits : Ending → List Key → Box → Box
 applyCommits h [] b = b
 applyCommits h (k ∷ ks) b = applyCommits h ks (applyCommit h k b)
 
--- the steps of both forms after 6 and 5; no 11: a line replaces a line, and live bytes fall by the primary
+-- the steps after 6 and 5; no 11: a line replaces a line, and live bytes fall by the primary
 unfoldable pub commitSteps : Ending → List Key → Box → Answer
 commitSteps h ks b =
     endingStep h ▸
     commitKeys h b ks
-
-unfoldable pub commit : Ending → Key → Box → Done
-commit h k b = settle (commitSteps h (k ∷ []) b) (applyCommit h k b) b
 
 unfoldable pub commitAll : Ending → List Key → Box → Done
 commitAll h ks b = settle (need (nonEmpty ks) 5 ▸ commitSteps h ks b) (applyCommits h ks b) b
@@ -106,3 +104,7 @@ commitAll h ks b = settle (need (nonEmpty ks) 5 ▸ commitSteps h ks b) (applyCo
 -- "6, 5; 3; per key: .."
 unfoldable pub commitBatch : Ending → Bytes → Box → Done
 commitBatch h s b = ofBatch (keys s) (commitAll h) b
+
+-- document 02, CR 10: "the single form disappears as a step of its own and is a batch of one"
+unfoldable pub commit : Ending → Key → Box → Done
+commit h k b = commitBatch h (oneKey k) b

@@ -15,6 +15,7 @@ use Rattle.forms.specs.Key.{Key, keyForm}
 use Rattle.forms.specs.Row.{Row}
 use Rattle.forms.specs.Readers.{isSome}
 use Rattle.forms.specs.Batch.{Mutation, mutations}
+use Rattle.forms.specs.Ones.{oneMutation}
 use Rattle.rules.specs.declared.answers.Answer.{Answer}
 use Rattle.rules.specs.declared.answers.Answer.the-variants.{Accepted}
 use Rattle.rules.specs.declared.records.Kind.{Kind}
@@ -96,16 +97,12 @@ applyPrewrites h (m ∷ ms) b = applyPrewrites h ms (applyPrewrite h m b)
 unfoldable pub prewriteRoom : Head → List Mutation → Box → Answer
 prewriteRoom h ms b = need (roomFor (applyPrewrites h ms b)) 11
 
--- the steps of both forms after 6 and 5
+-- the steps after 6 and 5
 unfoldable pub prewriteSteps : Head → List Mutation → Box → Answer
 prewriteSteps h ms b =
     headStep h ▸
     prewriteEntries h b ms ▸
     prewriteRoom h ms b
-
--- "Single forms take the steps without 6 and 5"
-unfoldable pub prewrite : Head → Mutation → Box → Done
-prewrite h m b = settle (prewriteSteps h (m ∷ []) b) (applyPrewrite h m b) b
 
 unfoldable pub prewriteAll : Head → List Mutation → Box → Done
 prewriteAll h ms b = settle (need (nonEmpty ms) 5 ▸ prewriteSteps h ms b) (applyPrewrites h ms b) b
@@ -113,3 +110,7 @@ prewriteAll h ms b = settle (need (nonEmpty ms) 5 ▸ prewriteSteps h ms b) (app
 -- "batch 6, 5; .."
 unfoldable pub prewriteBatch : Head → Bytes → Box → Done
 prewriteBatch h s b = ofBatch (mutations s) (prewriteAll h) b
+
+-- document 02, CR 10: "the single form disappears as a step of its own and is a batch of one"
+unfoldable pub prewrite : Head → Mutation → Box → Done
+prewrite h m b = prewriteBatch h (oneMutation m) b

@@ -13,6 +13,7 @@ use Rattle.forms.specs.Key.{Key, keyForm}
 use Rattle.forms.specs.Row.{Row}
 use Rattle.forms.specs.Readers.{isSome}
 use Rattle.forms.specs.Batch.{keys}
+use Rattle.forms.specs.Ones.{oneKey}
 use Rattle.rules.specs.declared.answers.Answer.{Answer}
 use Rattle.rules.specs.declared.answers.Answer.the-variants.{Accepted}
 use Rattle.rules.specs.declared.records.Kind.the-variants.{Rollback}
@@ -77,15 +78,12 @@ applyRollbacks start (k ∷ ks) b = applyRollbacks start ks (applyRollback start
 unfoldable pub rollbackRoom : ℕ → List Key → Box → Answer
 rollbackRoom start ks b = need (roomFor (applyRollbacks start ks b)) 11
 
--- the steps of both forms after 6 and 5
+-- the steps after 6 and 5
 unfoldable pub rollbackSteps : ℕ → ℕ → List Key → Box → Answer
 rollbackSteps txn start ks b =
     zeroStep txn start ▸
     rollbackKeys txn start b ks ▸
     rollbackRoom start ks b
-
-unfoldable pub rollback : ℕ → ℕ → Key → Box → Done
-rollback txn start k b = settle (rollbackSteps txn start (k ∷ []) b) (applyRollback start k b) b
 
 unfoldable pub rollbackAll : ℕ → ℕ → List Key → Box → Done
 rollbackAll txn start ks b = settle (need (nonEmpty ks) 5 ▸ rollbackSteps txn start ks b) (applyRollbacks start ks b) b
@@ -93,3 +91,7 @@ rollbackAll txn start ks b = settle (need (nonEmpty ks) 5 ▸ rollbackSteps txn 
 -- "6, 5; 3; per key: .."
 unfoldable pub rollbackBatch : ℕ → ℕ → Bytes → Box → Done
 rollbackBatch txn start s b = ofBatch (keys s) (rollbackAll txn start) b
+
+-- document 02, CR 10: "the single form disappears as a step of its own and is a batch of one"
+unfoldable pub rollback : ℕ → ℕ → Key → Box → Done
+rollback txn start k b = rollbackBatch txn start (oneKey k) b

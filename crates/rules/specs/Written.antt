@@ -8,6 +8,7 @@ use mathlib.Core.List.{List, [], _∷_, _++_}
 use lib.ListN.{length, drop}
 use lib.Dec.{leb}
 use Rattle.forms.specs.Bytes.{Bytes}
+pub use Rattle.forms.specs.Bytes.{pieceBytes}
 use Rattle.forms.specs.Numbers.{digits}
 use Rattle.rules.specs.declared.answers.Answer.{Answer}
 use Rattle.rules.specs.declared.answers.Answer.the-variants.{Accepted, No}
@@ -16,10 +17,6 @@ use Rattle.rules.specs.declared.records.Kind.the-variants.{Put, Delete, 
 use Rattle.rules.specs.Answers.{Reply, nothing, shown, refused}
 use Rattle.rules.specs.Box.{Box, Lock}
 use Rattle.rules.specs.Page.{Bounds, Limits, Page, KeyRow, KeyLock, page, intentPage, conflictPage}
-
--- "a length byte and its bytes"
-abbrev pub pieceBytes : Bytes → Bytes
-pieceBytes s = length s ∷ s
 
 -- "Kinds: 1 Put, 2 Delete, 3 Rollback"
 abbrev pub kindByte : Kind → ℕ

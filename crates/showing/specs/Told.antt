@@ -5,9 +5,6 @@ use mathlib.Core.List.{List, [], _∷_, _++_}
 use mathlib.Core.Option.{Option, none, some}
 use lib.ListN.{replicate}
 use Rattle.forms.specs.Bytes.{Bytes}
-use Rattle.forms.specs.Row.{Row}
-use Rattle.rules.specs.declared.records.Kind.{Kind}
-use Rattle.rules.specs.declared.records.Kind.the-variants.{Put, Delete, Rollback}
 use Rattle.rules.specs.declared.answers.Answer.{Answer}
 use Rattle.rules.specs.declared.answers.Answer.the-variants.{Accepted, No}
 use Rattle.rules.specs.Answers.{Reply, answerOf}
@@ -16,9 +13,9 @@ use Rattle.rules.specs.Calls.{Done}
 use Rattle.rules.specs.Read.{read}
 use Rattle.rules.specs.Intent.{intentAt}
 use Rattle.rules.specs.Written.{Written, scanPage, scanIntentPage, scanConflictingIntents}
-use Rattle.rules.specs.Prewrite.{prewrite, prewriteBatch}
-use Rattle.rules.specs.Commit.{commit, commitBatch}
-use Rattle.rules.specs.Rollback.{rollback, rollbackBatch}
+use Rattle.rules.specs.Prewrite.{prewriteBatch}
+use Rattle.rules.specs.Commit.{commitBatch}
+use Rattle.rules.specs.Rollback.{rollbackBatch}
 use Rattle.rules.specs.OneStep.{Counted, oneStep}
 use Rattle.rules.specs.Restore.{restore}
 use Rattle.rules.specs.Figures.{stats, marks}
@@ -70,12 +67,6 @@ writtenBytes w = answerBytes (w .answer) (w .count) (w .buffer)
 abbrev pub paging : Written → Box → Told
 paging w b = record { answer = w .answer; count = w .count; payload = w .buffer; box = b }
 
--- "a Delete's row argument is ignored"; no call says Rollback
-abbrev pub rowFor : Kind → Row → Option Row
-rowFor Put r = some r
-rowFor Delete r = none
-rowFor Rollback r = none
-
 -- nothing is run
 abbrev pub notRun : Box → Told
 notRun b = showing (No 6) [] b
@@ -87,11 +78,8 @@ told (Call.Page m l a n) b = paging (scanPage a m l b (lent n)) b
 told (Call.IntentPage l a n) b = paging (scanIntentPage a l b (lent n)) b
 told (Call.ConflictingIntents m l a n) b = paging (scanConflictingIntents a m l b (lent n)) b
 told (Call.OneIntent m k) b = replying intentPayload (intentAt k m b) b
-told (Call.Prewrite h d k r) b = changing (prewrite h (record { key = k; row = rowFor d r }) b)
 told (Call.PrewriteBatch h s) b = changing (prewriteBatch h s b)
-told (Call.Commit e k) b = changing (commit e k b)
 told (Call.CommitBatch e s) b = changing (commitBatch e s b)
-told (Call.Rollback t u k) b = changing (rollback t u k b)
 told (Call.RollbackBatch t u s) b = changing (rollbackBatch t u s b)
 told (Call.OneStep e s) b = counting (oneStep e s b)
 told (Call.Restore s) b = changing (restore s b)

@@ -10,13 +10,14 @@ use lib.Dec.{ltb}
 use Rattle.forms.specs.Bytes.{Bytes, bytesAt}
 use Rattle.forms.specs.Readers.{Reader, _>>=_, just, when, whole}
 use Rattle.forms.specs.Key.{Key}
+use Rattle.forms.specs.Ones.{oneKey}
 use Rattle.rules.specs.declared.records.Kind.{Kind}
 use Rattle.rules.specs.declared.records.Kind.the-variants.{Delete}
 use Rattle.traces.specs.declared.op.Op.{Op}
 use Rattle.traces.specs.declared.shape.Shape.{Shape}
 use Rattle.traces.specs.declared.args.Args.{Args}
 use Rattle.traces.specs.Arguments.{number, kind, text, bound, buffer, remaining}
-use Rattle.traces.specs.Calls.{Call, call}
+use Rattle.traces.specs.Calls.{Call, oneEntry, call}
 use Rattle.traces.specs.Places.{given, kindOf}
 
 -- a call from its arguments, of which each takes its own
@@ -26,11 +27,11 @@ callBy Op.Page a b c d p k r f t u n s = Call.Page a (record { rows = b; bytes =
 callBy Op.IntentPage a b c d p k r f t u n s = Call.IntentPage a (record { from = f; to = t; resume = u }) n
 callBy Op.ConflictingIntents a b c d p k r f t u n s = Call.ConflictingIntents a (record { rows = b; bytes = c }) (record { from = f; to = t; resume = u }) n
 callBy Op.OneIntent a b c d p k r f t u n s = Call.OneIntent a k
-callBy Op.Prewrite a b c d p k r f t u n s = Call.Prewrite (record { txn = a; start = b; primary = p; ttl = c }) d k r
+callBy Op.Prewrite a b c d p k r f t u n s = Call.PrewriteBatch (record { txn = a; start = b; primary = p; ttl = c }) (oneEntry d k r)
 callBy Op.PrewriteBatch a b c d p k r f t u n s = Call.PrewriteBatch (record { txn = a; start = b; primary = p; ttl = c }) s
-callBy Op.Commit a b c d p k r f t u n s = Call.Commit (record { txn = a; start = b; commit = c }) k
+callBy Op.Commit a b c d p k r f t u n s = Call.CommitBatch (record { txn = a; start = b; commit = c }) (oneKey k)
 callBy Op.CommitBatch a b c d p k r f t u n s = Call.CommitBatch (record { txn = a; start = b; commit = c }) s
-callBy Op.Rollback a b c d p k r f t u n s = Call.Rollback a b k
+callBy Op.Rollback a b c d p k r f t u n s = Call.RollbackBatch a b (oneKey k)
 callBy Op.RollbackBatch a b c d p k r f t u n s = Call.RollbackBatch a b s
 callBy Op.OneStep a b c d p k r f t u n s = Call.OneStep (record { txn = a; start = b; commit = c }) s
 callBy Op.Restore a b c d p k r f t u n s = Call.Restore s

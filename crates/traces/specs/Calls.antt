@@ -7,7 +7,9 @@ use Rattle.forms.specs.Bytes.{Bytes}
 use Rattle.forms.specs.Readers.{Reader, _>>=_, just, byte, whole}
 use Rattle.forms.specs.Key.{Key}
 use Rattle.forms.specs.Row.{Row}
+use Rattle.forms.specs.Ones.{oneMutation, oneKey}
 use Rattle.rules.specs.declared.records.Kind.{Kind}
+use Rattle.rules.specs.declared.records.Kind.the-variants.{Put, Delete, Rollback}
 use Rattle.rules.specs.Page.{Bounds, Limits}
 use Rattle.rules.specs.Prewrite.{Head}
 use Rattle.rules.specs.Commit.{Ending}
@@ -15,18 +17,15 @@ use Rattle.traces.specs.declared.op.Op.{Op}
 use Rattle.traces.specs.Ops.{knownOp, opOf}
 use Rattle.traces.specs.Arguments.{number, kind, text, bound, buffer, remaining}
 
--- what a call says: its name, and its arguments as document 01's steps take them
+-- what a call says: its name, and its arguments as document 01's steps take them. A single prewrite, commit or rollback says its batch of one.
 pub data Call : Type 0 where
   Read : (moment : ℕ) → Key → Call
   Page : (moment : ℕ) → Limits → Bounds → (buffer : ℕ) → Call
   IntentPage : (limit : ℕ) → Bounds → (buffer : ℕ) → Call
   ConflictingIntents : (moment : ℕ) → Limits → Bounds → (buffer : ℕ) → Call
   OneIntent : (moment : ℕ) → Key → Call
-  Prewrite : Head → Kind → Key → Row → Call
   PrewriteBatch : Head → (batch : Bytes) → Call
-  Commit : Ending → Key → Call
   CommitBatch : Ending → (batch : Bytes) → Call
-  Rollback : (txn start : ℕ) → Key → Call
   RollbackBatch : (txn start : ℕ) → (batch : Bytes) → Call
   OneStep : Ending → (batch : Bytes) → Call
   Restore : (image : Bytes) → Call
@@ -81,6 +80,15 @@ oneIntentArguments = do
   k ← text
   just (Call.OneIntent m k)
 
+-- "a Delete's row argument is ignored"; no call says Rollback
+abbrev pub rowFor : Kind → Row → Option Row
+rowFor Put r = some r
+rowFor Delete r = none
+rowFor Rollback r = none
+
+abbrev pub oneEntry : Kind → Key → Row → Bytes
+oneEntry d k r = oneMutation (record { key = k; row = rowFor d r })
+
 -- "6 | prewrite | transaction, start, time to live, kind, primary, key, row"
 unfoldable pub prewriteArguments : Reader Call
 prewriteArguments = do
@@ -91,7 +99,7 @@ prewriteArguments = do
   p ← text
   k ← text
   r ← text
-  just (Call.Prewrite (record { txn = t; start = s; primary = p; ttl = l }) d k r)
+  just (Call.PrewriteBatch (record { txn = t; start = s; primary = p; ttl = l }) (oneEntry d k r))
 
 -- "7 | prewrite of a batch | transaction, start, time to live, primary, batch"
 unfoldable pub prewriteBatchArguments : Reader Call
@@ -110,7 +118,7 @@ commitArguments = do
   s ← number
   c ← number
   k ← text
-  just (Call.Commit (record { txn = t; start = s; commit = c }) k)
+  just (Call.CommitBatch (record { txn = t; start = s; commit = c }) (oneKey k))
 
 -- "9 | commit of a key batch | transaction, start, commit, batch"
 unfoldable pub commitBatchArguments : Reader Call
@@ -127,7 +135,7 @@ rollbackArguments = do
   t ← number
   s ← number
   k ← text
-  just (Call.Rollback t s k)
+  just (Call.RollbackBatch t s (oneKey k))
 
 -- "11 | rollback of a key batch | transaction, start, batch"
 unfoldable pub rollbackBatchArguments : Reader Call

@@ -10,7 +10,6 @@ use Rattle.areas.proofs.packing.pack_held.Statement.{statement}
 use Rattle.areas.proofs.packing.pack_held.Tie as tie
 use Rattle.areas.proofs.packing.pack_held.Reads as reads
 use Rattle.areas.proofs.packing.pack_held.Lts as lts
-use Rattle.areas.proofs.bytes.append.Reads as append-reads
 
 cast-at : tie.Need-cast-at
 cast-at c = search needs

@@ -11,7 +11,6 @@ use Rattle.areas.proofs.packing.pack_intent.Statement.{statement}
 use Rattle.areas.proofs.packing.pack_intent.Tie as tie
 use Rattle.areas.proofs.packing.pack_intent.Reads as reads
 use Rattle.areas.proofs.packing.pack_intent.Lts as lts
-use Rattle.areas.proofs.bytes.append.Reads as append-reads
 
 cast-at : tie.Need-cast-at
 cast-at c = search needs

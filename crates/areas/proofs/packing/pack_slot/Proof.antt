@@ -10,7 +10,6 @@ use Rattle.areas.proofs.packing.pack_slot.Statement.{statement}
 use Rattle.areas.proofs.packing.pack_slot.Tie as tie
 use Rattle.areas.proofs.packing.pack_slot.Reads as reads
 use Rattle.areas.proofs.packing.pack_slot.Lts as lts
-use Rattle.areas.proofs.bytes.append.Reads as append-reads
 use Rattle.areas.proofs.packing.pack_intent.Reads as pack-intent-reads
 
 cast-at : tie.Need-cast-at

@@ -10,7 +10,6 @@ use Rattle.areas.proofs.packing.repack.Statement.{statement}
 use Rattle.areas.proofs.packing.repack.Tie as tie
 use Rattle.areas.proofs.packing.repack.Reads as reads
 use Rattle.areas.proofs.packing.repack.Lts as lts
-use Rattle.areas.proofs.bytes.append.Reads as append-reads
 use Rattle.areas.proofs.packing.pack_defaults.Reads as pack-defaults-reads
 use Rattle.areas.proofs.packing.pack_lines.Reads as pack-lines-reads
 

@@ -10,7 +10,6 @@ use Rattle.bench.proofs.changes.copy_area.Statement.{statement}
 use Rattle.bench.proofs.changes.copy_area.Tie as tie
 use Rattle.bench.proofs.changes.copy_area.Reads as reads
 use Rattle.bench.proofs.changes.copy_area.Lts as lts
-use Rattle.areas.proofs.append.Reads as append-reads
 
 append-requires : tie.Need-append-requires
 append-requires c κs = search needs

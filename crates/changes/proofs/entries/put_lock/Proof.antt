@@ -11,7 +11,6 @@ use Rattle.changes.proofs.entries.put_lock.Statement.{statement}
 use Rattle.changes.proofs.entries.put_lock.Tie as tie
 use Rattle.changes.proofs.entries.put_lock.Reads as reads
 use Rattle.changes.proofs.entries.put_lock.Lts as lts
-use Rattle.areas.proofs.append.Reads as append-reads
 
 abbrev Inv-loop : tie.InvT-loop
 Inv-loop area first key txn start ttl primary l₀ old top size more mid s k₀ l k = MakingPlace l₀ first k l

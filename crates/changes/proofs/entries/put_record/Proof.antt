@@ -9,7 +9,6 @@ use Rattle.changes.proofs.entries.put_record.Statement.{statement}
 use Rattle.changes.proofs.entries.put_record.Tie as tie
 use Rattle.changes.proofs.entries.put_record.Reads as reads
 use Rattle.changes.proofs.entries.put_record.Lts as lts
-use Rattle.areas.proofs.append.Reads as append-reads
 
 abbrev Inv-loop : tie.InvT-loop
 Inv-loop area place key l₀ old top size s k₀ l k = MakingPlace l₀ place k l

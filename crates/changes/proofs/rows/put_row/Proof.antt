@@ -10,7 +10,6 @@ use Rattle.changes.proofs.rows.put_row.Statement.{statement}
 use Rattle.changes.proofs.rows.put_row.Tie as tie
 use Rattle.changes.proofs.rows.put_row.Reads as reads
 use Rattle.changes.proofs.rows.put_row.Lts as lts
-use Rattle.areas.proofs.append.Reads as append-reads
 
 abbrev Inv-loop : tie.InvT-loop
 Inv-loop area place key start row l₀ old top size more mid d k₀ l k = MakingRow l₀ place k l

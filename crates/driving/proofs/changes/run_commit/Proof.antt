@@ -1,5 +1,6 @@
 -- `driving::changes::run_commit` meets its contract: the key of the arguments is committed, and its answer told as every changing call's is. Assumes nothing.
 use native.Mathlib.Nat.{add-sub-cancel-left}
+use Rattle.rules.specs.Commit.{commit}
 use Rattle.showing.specs.Told.{told}
 use Rattle.driving.proofs.RunLaws.{settled}
 use borrow.Author.Needs.{needs}
@@ -28,7 +29,7 @@ same-length : tie.Need-same-length
 same-length c = search needs
 
 returns : tie.Need-returns
-unfolding told
+unfolding told commit
 returns c = ((c .before .before .tell-change) .ensures) .tells _ _ (settled (simp add-sub-cancel-left at ((c .before .before .before .before .commit-intent) .ensures)))
 
 pub run-commit-spec : {M : Type 1} → statement M

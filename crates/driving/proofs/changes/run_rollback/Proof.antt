@@ -1,5 +1,6 @@
 -- `driving::changes::run_rollback` meets its contract: the key of the arguments is rolled back, and its answer told as every changing call's is. Assumes nothing.
 use native.Mathlib.Nat.{add-sub-cancel-left}
+use Rattle.rules.specs.Rollback.{rollback}
 use Rattle.showing.specs.Told.{told}
 use Rattle.driving.proofs.RunLaws.{settled}
 use borrow.Author.Needs.{needs}
@@ -31,7 +32,7 @@ same-length-2 : tie.Need-same-length-2
 same-length-2 c = search needs
 
 returns : tie.Need-returns
-unfolding told
+unfolding told rollback
 returns c = ((c .before .before .tell-change) .ensures) .tells _ _ (settled (simp add-sub-cancel-left at ((c .before .before .before .before .before .before .rollback-intent) .ensures)))
 
 pub run-rollback-spec : {M : Type 1} → statement M

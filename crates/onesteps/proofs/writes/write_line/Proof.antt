@@ -11,7 +11,6 @@ use Rattle.onesteps.proofs.writes.write_line.Statement.{statement}
 use Rattle.onesteps.proofs.writes.write_line.Tie as tie
 use Rattle.onesteps.proofs.writes.write_line.Reads as reads
 use Rattle.onesteps.proofs.writes.write_line.Lts as lts
-use Rattle.areas.proofs.append.Reads as append-reads
 use Rattle.calls.proofs.is_free.Reads as is-free-reads
 use Rattle.calls.proofs.kind_for.Reads as kind-for-reads
 

@@ -10,7 +10,6 @@ use Rattle.onesteps.proofs.writes.write_row.Statement.{statement}
 use Rattle.onesteps.proofs.writes.write_row.Tie as tie
 use Rattle.onesteps.proofs.writes.write_row.Reads as reads
 use Rattle.onesteps.proofs.writes.write_row.Lts as lts
-use Rattle.areas.proofs.append.Reads as append-reads
 use Rattle.lines.proofs.store.no_held.Reads as no-held-reads
 use Rattle.onesteps.proofs.writes.past.Reads as past-reads
 

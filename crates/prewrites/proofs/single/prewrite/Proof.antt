@@ -1,21 +1,31 @@
--- `prewrites::single::prewrite` meets its contract: the verdict, and what is done by it (`SingleLaws`).
--- Assumes nothing.
-use Rattle.prewrites.proofs.SingleLaws.{settled-if}
+-- `prewrites::single::prewrite` meets its contract: what the batch of one promises. Assumes nothing.
 use borrow.Author.Needs.{needs}
+use Rattle.forms.proofs.AppendLaws.{grown-part}
+use Rattle.rules.specs.Prewrite.{prewrite}
 use Rattle.prewrites.proofs.single.prewrite.Statement.{statement}
 use Rattle.prewrites.proofs.single.prewrite.Tie as tie
 
-judge-requires : tie.Need-judge-requires
-judge-requires c κs = search needs
+slice-aggregate-one-mutation : tie.Need-slice-aggregate-one-mutation
+slice-aggregate-one-mutation c = search needs
 
-lock-if-requires : tie.Need-lock-if-requires
-lock-if-requires c κs = search needs
+one-mutation-requires : tie.Need-one-mutation-requires
+one-mutation-requires c κs = search needs
+
+array-share-prefix-batch : tie.Need-array-share-prefix-batch
+array-share-prefix-batch c = search needs
+
+slice-aggregate-prewrite-batch : tie.Need-slice-aggregate-prewrite-batch
+slice-aggregate-prewrite-batch c = grown-part (c .before .before .before .one-mutation .ensures)
+
+prewrite-batch-requires : tie.Need-prewrite-batch-requires
+prewrite-batch-requires c κs = search needs
 
 same-length : tie.Need-same-length
 same-length c = search needs
 
 returns : tie.Need-returns
-returns c = settled-if ((c .before .before .before .before .judge) .ensures) ((c .before .before .lock-if) .ensures)
+unfolding prewrite
+returns c = rw (c .before .before .before .before .before .before .one-mutation .ensures .is) at (c .before .before .prewrite-batch .ensures)
 
 pub prewrite-spec : {M : Type 1} → statement M
-prewrite-spec = tie.close (tie.spec judge-requires lock-if-requires same-length returns)
+prewrite-spec = tie.close (tie.spec slice-aggregate-one-mutation one-mutation-requires array-share-prefix-batch slice-aggregate-prewrite-batch prewrite-batch-requires same-length returns)

@@ -10,7 +10,6 @@ use Rattle.rollbacks.proofs.plans.plan_key.Statement.{statement}
 use Rattle.rollbacks.proofs.plans.plan_key.Tie as tie
 use Rattle.rollbacks.proofs.plans.plan_key.Reads as reads
 use Rattle.rollbacks.proofs.plans.plan_key.Lts as lts
-use Rattle.areas.proofs.append.Reads as append-reads
 use Rattle.calls.proofs.is_nothing.Reads as is-nothing-reads
 use Rattle.calls.proofs.is_free.Reads as is-free-reads
 use Rattle.rollbacks.proofs.plans.row_goes.Reads as row-goes-reads

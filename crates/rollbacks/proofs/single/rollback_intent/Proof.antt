@@ -1,37 +1,31 @@
--- `rollbacks::single::rollback_intent` meets its contract: the head, and of a head that passes the steps of the key (`CallLaws`).
--- Assumes nothing.
-use Rattle.calls.proofs.SettledLaws.{is-accepted, is-refusal}
-use Rattle.rollbacks.proofs.CallLaws.{one-head}
+-- `rollbacks::single::rollback_intent` meets its contract: what the batch of one promises. Assumes nothing.
 use borrow.Author.Needs.{needs}
-use mathlib.Core.Path.{sym, _∙_}
+use Rattle.forms.proofs.AppendLaws.{grown-part}
+use Rattle.rules.specs.Rollback.{rollback}
 use Rattle.rollbacks.proofs.single.rollback_intent.Statement.{statement}
 use Rattle.rollbacks.proofs.single.rollback_intent.Tie as tie
 
-zero-step-requires : tie.Need-zero-step-requires
-zero-step-requires c κs = search needs
+slice-aggregate-one-key : tie.Need-slice-aggregate-one-key
+slice-aggregate-one-key c = search needs
 
-accepted-requires : tie.Need-accepted-requires
-accepted-requires c κs = search needs
+one-key-requires : tie.Need-one-key-requires
+one-key-requires c κs = search needs
 
-returns : tie.Need-returns
-returns c = let a = (c .before .before .before .before .before .args) in one-head (c .before .before .before .before .before .pre) (a .txn) (a .start) (a .key .now) ((c .before .before .zero-step) .ensures) (is-refusal _ ((c .before .accepted) .ensures) ((c .if1) .taken))
+array-share-prefix-batch : tie.Need-array-share-prefix-batch
+array-share-prefix-batch c = search needs
 
-rollback-one-requires : tie.Need-rollback-one-requires
-rollback-one-requires c κs = record { made = (c .before .before .before .before .before .before .pre); head-ok = sym ((c .before .before .before .zero-step) .ensures) ∙ is-accepted _ ((c .before .before .accepted) .ensures) ((c .before .if1) .left) }
+slice-aggregate-rollback-intents-batch : tie.Need-slice-aggregate-rollback-intents-batch
+slice-aggregate-rollback-intents-batch c = grown-part (c .before .before .before .one-key .ensures)
+
+rollback-intents-batch-requires : tie.Need-rollback-intents-batch-requires
+rollback-intents-batch-requires c κs = search needs
 
 same-length : tie.Need-same-length
 same-length c = search needs
 
-returns-2 : tie.Need-returns-2
-returns-2 c = search needs
+returns : tie.Need-returns
+unfolding rollback
+returns c = rw (c .before .before .before .before .before .before .one-key .ensures .is) at (c .before .before .rollback-intents-batch .ensures)
 
 pub rollback-intent-spec : {M : Type 1} → statement M
-rollback-intent-spec =
-    tie.close
-    (tie.spec
-    zero-step-requires
-    accepted-requires
-    returns
-    rollback-one-requires
-    same-length
-    returns-2)
+rollback-intent-spec = tie.close (tie.spec slice-aggregate-one-key one-key-requires array-share-prefix-batch slice-aggregate-rollback-intents-batch rollback-intents-batch-requires same-length returns)
