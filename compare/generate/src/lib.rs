@@ -129,18 +129,7 @@ pub fn trace_of(kind: Kind, seed: u64, ops: Ops) -> Bytes {
             maker.push(restore);
             some_calls(&mut maker, 4, if ops.reads_images() { 200 } else { 35 });
         }
-        Kind::Singles => {
-            if maker.random.percent(60) {
-                let restore = maker.sound_restore();
-                maker.push(restore);
-            }
-            for _ in 0..maker.random.between(4, 40) {
-                maker.single_form();
-                if maker.random.percent(25) {
-                    maker.any_call();
-                }
-            }
-        }
+        Kind::Singles => single_forms(&mut maker),
         Kind::Images => {
             for _ in 0..maker.random.between(1, 6) {
                 let restore = maker.restore();
@@ -167,6 +156,20 @@ pub fn trace_of(kind: Kind, seed: u64, ops: Ops) -> Bytes {
 fn some_calls(maker: &mut Maker, least: usize, most: usize) {
     for _ in 0..maker.random.between(least, most) {
         maker.any_call();
+    }
+}
+
+/// Single forms, and now and then another call, from a fresh store or an odd one.
+fn single_forms(maker: &mut Maker) {
+    if maker.random.percent(60) {
+        let restore = maker.sound_restore();
+        maker.push(restore);
+    }
+    for _ in 0..maker.random.between(4, 40) {
+        maker.single_form();
+        if maker.random.percent(25) {
+            maker.any_call();
+        }
     }
 }
 

@@ -192,7 +192,7 @@ pub fn run(driver: &Driver, length: Duration, choice: &Choice) -> bool {
         traces += per_start;
         starts += 1;
         answered += batch.iter().map(|trace| run_trace(trace).len() as u64).sum::<u64>();
-        batch.iter().flat_map(|trace| read_trace(trace).unwrap_or_default()).for_each(|call| counts.take(&call));
+        batch.iter().for_each(|trace| counts.take_all(trace));
     }
     println!(
         "comparison 2, driver against paper, seed {seed}: {traces} traces, {answered} answers, {starts} starts with \
@@ -210,6 +210,10 @@ struct Counts {
 }
 
 impl Counts {
+    fn take_all(&mut self, trace: &[u8]) {
+        read_trace(trace).iter().flatten().for_each(|call| self.take(call));
+    }
+
     fn take(&mut self, call: &Call) {
         *self.ops.entry(call.op()).or_default() += 1;
         let (key, row) = match call {

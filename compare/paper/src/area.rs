@@ -8,12 +8,12 @@
 use crate::bend::{Bend, bent};
 use crate::form::{Entry, key_batch, mutation_batch};
 use crate::run::run_call;
-use crate::store::{Kind, Store};
+use crate::store::{Bytes, Kind, Store};
 use crate::trace::{Call, read_trace};
 
 /// The area's bytes.
 pub const AREA: usize = 65_536;
-/// The place that a rollback of a batch asks for each of its keys, whatever their lengths.
+/// The place that a rollback asks for each of its keys, whatever their lengths.
 const LONGEST_KEY: usize = 48;
 
 /// The area of one store: its first byte past all that came since it was packed.
@@ -61,13 +61,8 @@ fn bytes_of(before: &Store, call: &Call) -> (usize, usize) {
             let entries = mutation_batch(batch).unwrap_or_default();
             same(entries.iter().map(|entry| lock(&entry.key, primary, entry.kind, &entry.row)).sum())
         }
-        // The record of a key with a lock takes the bytes of the lock's key.
-        Call::Rollback { key, .. } => same(if before.lock_of(key).is_some() { 0 } else { key.len() }),
-        Call::RollbackBatch { start, batch, .. } => {
-            let keys = key_batch(batch).unwrap_or_default();
-            let new = keys.iter().filter(|key| before.record_at(key, *start).is_none());
-            (new.map(|key| key.len()).sum(), keys.len() * LONGEST_KEY)
-        }
+        Call::Rollback { start, key, .. } => rolled(before, *start, &[key.clone()]),
+        Call::RollbackBatch { start, batch, .. } => rolled(before, *start, &key_batch(batch).unwrap_or_default()),
         Call::OneStep { batch, .. } => {
             let bytes = |entry: &Entry| entry.key.len() + row(&entry.key, entry.kind, &entry.row);
             same(mutation_batch(batch).unwrap_or_default().iter().map(bytes).sum())
@@ -75,6 +70,12 @@ fn bytes_of(before: &Store, call: &Call) -> (usize, usize) {
         // A commit's record takes the bytes of the lock's key.
         _ => (0, 0),
     }
+}
+
+/// The bytes of the keys that have no Rollback yet, and the place asked for: a rollback's record brings its key anew.
+fn rolled(before: &Store, start: u64, keys: &[Bytes]) -> (usize, usize) {
+    let new = keys.iter().filter(|key| before.record_at(key, start).is_none());
+    (new.map(|key| key.len()).sum(), keys.len() * LONGEST_KEY)
 }
 
 /// The ops of the trace's calls that pack the area anew, in turn.
