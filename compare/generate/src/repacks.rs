@@ -19,9 +19,8 @@ const TRANSACTION: u64 = 7;
 /// The rows that stand have these lengths in turn, and their keys those.
 const ROWS: [usize; 9] = [2, 255, 60, 3, 130, 254, 12, 200, 90];
 const KEYS: [usize; 5] = [6, 48, 7, 20, 33];
-/// What an entry that comes and goes brings at most, as a lock with its row (two keys of 6 bytes, a primary of 48 and a row
-/// of 255) and as a rollback, which asks place for 48 bytes.
-const COMES_AND_GOES: usize = 2 * 6 + 48 + 255 + 48;
+/// The place for which an entry that comes and goes asks, as a lock with its row and as a rollback.
+const COMES_AND_GOES: usize = 399 + 48;
 
 /// The box, its area, and the trace that made them.
 struct Filler {
@@ -177,8 +176,8 @@ impl Filler {
         self.one_step(&entries);
     }
 
-    /// Uses the area up to so many bytes before its end, or a few more, by rows that are prewritten and rolled back, so many
-    /// at a time as the live bytes have room for.
+    /// Uses the area up to so many bytes before its end, or a few more: by rows that are prewritten and rolled back, as many
+    /// at a time as the live bytes have room for, and at last by rollbacks of new keys.
     fn close_gap(&mut self, left: usize) {
         loop {
             let over = self.area.gap().saturating_sub(left);
@@ -187,9 +186,7 @@ impl Filler {
                 0 if over < 20 => return,
                 _ if room == 0 => return,
                 0 => {
-                    // Three keys of 6 bytes and a row.
-                    let (start, key) = (self.tick(), self.key(6));
-                    self.prewrite(start, key.clone(), put(&key, (over - 18).min(255)));
+                    let (start, key) = (self.tick(), self.key(over.min(48)));
                     self.rollback(start, &key);
                 }
                 count => {

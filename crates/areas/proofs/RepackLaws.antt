@@ -1,27 +1,27 @@
 -- The loops that pack the two tables, and the area packed anew: the same box, and place for every call.
 -- Assumes nothing.
-use Prim.Native.Nat.{ℕ, suc, _+_, _-_, _*_, _≤_, _<_}
+use Prim.Native.Nat.{ℕ, _+_, _≤_, _<_}
 use native.Mathlib.Omega.{arith}
 use mathlib.Core.Path.{_≡_, refl, sym, ap, ap₂, _∙_, subst}
 use mathlib.Core.List.{List}
-use lib.ListN.{length, getD, take, set}
+use lib.ListN.{length, getD, set}
 use lib.Seq.{take-all}
-use Rattle.seqs.specs.Tables.{Table, shown}
+use Rattle.seqs.specs.Tables.{shown}
 use Rattle.seqs.proofs.Tables.{table-at, table-wider, shown-same}
-use Rattle.forms.specs.Bytes.{Bytes, bytesAt}
+use Rattle.forms.specs.Bytes.{Bytes}
 use Rattle.rules.specs.Box as box
-use Rattle.rules.specs.Room.{loadOf, bytesOfLines, bytesOfDefaults}
+use Rattle.rules.specs.Room.{bytesOfLines, bytesOfDefaults}
 use Rattle.rules.specs.declared.room.Load.{Load}
 use Rattle.laws.proofs.LoadLaws.{load-fields, load-parts}
 use Rattle.lines.specs.declared.store.Slot.{Slot}
 use Rattle.lines.specs.declared.store.Held.{Held}
 use Rattle.lines.specs.declared.store.Store.{Store}
 use Rattle.lines.specs.View.{lineOf, defaultOf, boxOf, noSlot, noHeld}
-use Rattle.lines.specs.Made.{SlotBelow, HeldBelow, Kept, Built, Made}
+use Rattle.lines.specs.Made.{SlotBelow, HeldBelow, Kept, Made}
 use Rattle.areas.specs.declared.packing.PackedSlot.{PackedSlot}
 use Rattle.areas.specs.declared.packing.PackedHeld.{PackedHeld}
 use Rattle.areas.specs.Areas.{Appended}
-use Rattle.areas.specs.Packs.{Above, sizeOf, rowSize, SlotAsks, SlotPacked, HeldAsks, HeldPacked, LinesAsks, LinesPacked, DefaultsAsks, DefaultsPacked, Repacked}
+use Rattle.areas.specs.Packs.{sizeOf, rowSize, SlotAsks, SlotPacked, HeldAsks, HeldPacked, LinesAsks, LinesPacked, DefaultsAsks, DefaultsPacked, Repacked}
 use Rattle.areas.proofs.AreaLaws.{slot-same, held-same, slot-wider, held-wider}
 use Rattle.areas.proofs.PackLaws.{Framed, Packing, packing-start, packing-at, packing-room, packing-more, packing-table, packing-shows, packing-top}
 
@@ -198,10 +198,3 @@ module _ {st : Store} {area : Bytes} (m : Made st area) where
             shown = shows;
             top-is = top-is;
           })
-
--- ---- `make_place`
-
--- "Room that was freed counts as free at once": what a call of at most 32 entries may add, each a lock and a row of keys and rows in form, has
--- place after `make_place`
-pub call-fits : 32 * (48 + 48 + (48 + 255)) ≤ 16384
-call-fits = omega arith

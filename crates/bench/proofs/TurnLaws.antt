@@ -6,7 +6,7 @@ use native.Mathlib.Omega.{arith}
 use lib.ListN.{length, take, drop}
 use lib.Seq.{take-all}
 use Rattle.forms.specs.Bytes.{Bytes}
-use Rattle.areas.specs.Areas.{Appended}
+use Rattle.forms.specs.Appends.{Appended}
 use Rattle.lines.specs.declared.store.Store.{Store}
 use Rattle.lines.specs.Made.{Made}
 use Rattle.bench.specs.Asks.{TurnAsks}

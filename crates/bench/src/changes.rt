@@ -15,7 +15,7 @@ pub fn copy_area(from: &[u8], to: &mut [u8])
     requires { ⌜ length (now from) ≡ length (now to) ⌝ }
     ensures { λ _. ⌜ now (to .exit) ≡ now (from .entry) ⌝ }
 {
-    areas::append(to, 0, from);
+    forms::append(to, 0, from);
 }
 
 // A Put's prewrite.

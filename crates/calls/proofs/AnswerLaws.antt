@@ -1,28 +1,25 @@
--- What a call does where one of its first steps decides: 6, 5 and the head of a batch, for every reader of entries.
+-- What a call does where one of its first steps decides: 6, 5 and the head of a batch, for every kind of entries.
 -- Assumes nothing.
-use Prim.Native.Nat.{ℕ, _<_}
 use native.Mathlib.Omega.{arith}
 use mathlib.Core.Path.{_≡_, refl, sym, ap, _∙_}
 use mathlib.Core.Bool.{Bool, true, false, not}
-use mathlib.Core.List.{List, []}
-use mathlib.Core.Option.{Option, none, some}
-use borrow.Author.Tests.{not-true, not-false}
+use mathlib.Core.List.{List, [], _∷_}
+use mathlib.Core.Option.{Option}
+use lib.ListN.{length}
+use Rattle.seqs.specs.Tables.{shown}
+use Rattle.seqs.proofs.Tables.{shown-length}
 use Rattle.forms.specs.Bytes.{Bytes}
-use Rattle.forms.specs.Key.{Key}
-use Rattle.forms.specs.Readers.{Reader, piece, isSome}
-use Rattle.forms.specs.Batch.{keys}
-use Rattle.forms.specs.Places.{ahead, firstOf}
-use Rattle.forms.specs.declared.batch.Cursor.{Cursor}
-use Rattle.forms.proofs.BatchLaws.{Judged, keys-judged, ahead-end}
+use Rattle.forms.specs.Places.{Decoded}
+use Rattle.forms.specs.declared.batch.Entry.{Entry}
+use Rattle.forms.specs.declared.batch.Entries.{Entries}
+use Rattle.forms.proofs.BatchLaws.{decoded-bad, decoded-good}
 use Rattle.rules.specs.declared.answers.Answer.{Answer}
 use Rattle.rules.specs.declared.answers.Answer.the-variants.{Accepted, No, Held}
 use Rattle.rules.specs.Answers.{_▸_, need}
 use Rattle.rules.specs.Box.{Box}
 use Rattle.rules.specs.Calls.{Done, settle, ofBatch, nonEmpty}
-use Rattle.laws.proofs.StepLaws.{is-none}
 use Rattle.laws.proofs.SettleLaws.{settle-old, ofBatch-some, ofBatch-none}
 use Rattle.calls.proofs.SettledLaws.{then-refused}
-use Rattle.calls.proofs.BatchLaws.{ahead-some}
 
 -- ---- a first step, and the others
 
@@ -43,29 +40,34 @@ module _ (a v : Answer) (new old : Box) where
 
 -- ---- a batch whose entries go through `steps`, and make the box `new` of the one as it came
 
-module _ {A : Type 0} (o : Option (List A)) (steps : List A → Box → Answer) (new : List A → Box → Box) (b : Box) where
+some-of : {A : Type 0} (xs : List A) → (length xs ≡ 0 → ⊥) → nonEmpty xs ≡ true
+some-of [] n = absurd (n refl)
+some-of (x ∷ xs) n = refl
+
+none-of : {A : Type 0} (xs : List A) → length xs ≡ 0 → nonEmpty xs ≡ false
+none-of [] e = refl
+none-of (x ∷ xs) e = absurd (omega arith)
+
+module _ {A : Type 0} {item : Entry → A} {s : Bytes} {o : Option (List A)} {r : Entries} (d : Decoded item s o r) (steps : List A → Box → Answer) (new : List A → Box → Box) (b : Box) where
   abbrev pub batchCall : List A → Box → Done
   batchCall xs c = settle (need (nonEmpty xs) 5 ▸ steps xs c) (new xs c) c
 
   -- "batch not in form"
-  pub bad-batch : {f : Bool} → f ≡ isSome o → not f ≡ true → ofBatch o batchCall b ≡ record { answer = No 6; box = b }
-  bad-batch {f} e n = ofBatch-none o batchCall b (is-none o (sym e ∙ not-true f n))
+  pub bad-batch : not (r .ok) ≡ true → ofBatch o batchCall b ≡ record { answer = No 6; box = b }
+  bad-batch n = ofBatch-none o batchCall b (decoded-bad d n)
 
-  module _ {key : A → Key} {r : Reader A} {s : Bytes} {c : Cursor} (j : Judged key r s o c) where
+  module _ (good : not (r .ok) ≡ false) where
     abbrev xs : List A
-    xs = ahead r s (c .at) (c .left)
+    xs = shown item (r .count) (r .list)
+
+    by-count : {t : Bool} → nonEmpty xs ≡ t → ofBatch o batchCall b ≡ settle (need t 5 ▸ steps xs b) (new xs b) b
+    by-count e = ofBatch-some o batchCall b xs (decoded-good d good) ∙ ap (λ (t : Bool). settle (need t 5 ▸ steps xs b) (new xs b) b) e
 
     -- "empty batch where one entry is needed"
-    pub empty-batch : c .left ≡ 0 → ofBatch o batchCall b ≡ record { answer = No 5; box = b }
+    pub empty-batch : r .count ≡ 0 → ofBatch o batchCall b ≡ record { answer = No 5; box = b }
     unfolding need _▸_ settle
-    empty-batch z =
-        let e : nonEmpty xs ≡ false = ap nonEmpty (ahead-end (j .cursor) (omega arith)) in
-        ofBatch-some o batchCall b xs (j .is) ∙ ap (λ (t : Bool). settle (need t 5 ▸ steps xs b) (new xs b) b) e
+    empty-batch z = by-count (none-of xs (shown-length (d .listed) item ∙ z))
 
-    pub full-batch : (c .left ≡ 0 → ⊥) → ofBatch o batchCall b ≡ settle (steps (ahead r s (c .at) (c .left)) b) (new (ahead r s (c .at) (c .left)) b) b
+    pub full-batch : (r .count ≡ 0 → ⊥) → ofBatch o batchCall b ≡ settle (steps (shown item (r .count) (r .list)) b) (new (shown item (r .count) (r .list)) b) b
     unfolding need _▸_
-    full-batch n = ofBatch-some o batchCall b xs (j .is) ∙ ap (λ (t : Bool). settle (need t 5 ▸ steps xs b) (new xs b) b) (ahead-some (j .cursor) (omega arith))
-
--- a key batch in form, and its first cursor
-pub keys-here : (s : Bytes) {f : Bool} → f ≡ isSome (keys s) → not f ≡ false → {c : Cursor} → c ≡ firstOf s → Judged (λ k. k) piece s (keys s) c
-keys-here s {f} e n q = keys-judged s q (sym (not-false f n) ∙ e)
+    full-batch n = by-count (some-of xs (λ e. n (sym (shown-length (d .listed) item) ∙ e)))

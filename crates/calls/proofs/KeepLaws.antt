@@ -1,43 +1,15 @@
 -- What the checking pass found at each entry, kept in an array: one entry more, and what stands at the entry that is next.
 -- Assumes nothing.
-use Prim.Native.Nat.{ℕ, suc, _+_, _-_, _≤_, _<_}
+use Prim.Native.Nat.{ℕ, _+_, _<_}
 use native.Mathlib.Omega.{arith}
-use native.Mathlib.Numerals.{add-one}
 use mathlib.Core.Path.{_≡_, refl, sym, ap, _∙_, subst}
 use mathlib.Core.Bool.{Bool, true, false}
-use mathlib.Core.List.{List, [], _∷_}
+use mathlib.Core.List.{List, _∷_}
 use lib.Dec.{ltb}
-use lib.ListN.{length, getD, set, drop, replicate, length-set}
-use lib.Seq.{getD-set-same, getD-set-other, drop-drop}
+use lib.ListN.{length, getD, set, drop, length-set}
+use lib.Seq.{getD-set-same, getD-set-other}
 use borrow.Author.Tests.{ltb-true, ltb-false}
-use Rattle.forms.specs.Bytes.{Bytes}
-use Rattle.forms.specs.Readers.{Reader}
-use Rattle.forms.specs.Places.{ahead}
-use Rattle.forms.specs.declared.batch.Cursor.{Cursor}
-use Rattle.forms.proofs.BatchLaws.{Next}
 use Rattle.calls.specs.Keeps.{Kept}
-
--- ---- the walk's index: i entries are behind, and the others are ahead
-
-pub record Indexed {A : Type 0} (r : Reader A) (s : Bytes) (c : Cursor) (i at left : ℕ) : Type 0 where
-  pub count : i + left ≡ c .left
-  pub rest : drop i (ahead r s (c .at) (c .left)) ≡ ahead r s at left
-
-pub indexed-start : {A : Type 0} (r : Reader A) (s : Bytes) (c : Cursor) → Indexed r s c 0 (c .at) (c .left)
-indexed-start r s c = record { count = omega arith; rest = refl }
-
-drop-next : {A : Type 0} (i : ℕ) (xs : List A) (x : A) (rest : List A) → drop i xs ≡ x ∷ rest → drop (i + 1) xs ≡ rest
-drop-next i xs x rest e = sym (drop-drop 1 i xs) ∙ ap (drop 1) e
-
-module _ {A : Type 0} {r : Reader A} {s : Bytes} {c : Cursor} {i at left : ℕ} (v : Indexed r s c i at left) {ok : Bool} {x : A} {next : ℕ} (n : Next r s at left ok x next) where
-  -- the entry that is next
-  pub indexed-here : drop i (ahead r s (c .at) (c .left)) ≡ x ∷ ahead r s next (left - 1)
-  indexed-here = v .rest ∙ n .is
-
-  pub indexed-more : 0 < left → Indexed r s c (i + 1) next (left - 1)
-  indexed-more more = record { count = omega (arith, v .count); rest = drop-next i _ x _ indexed-here }
-
--- ---- what is kept
 
 module _ {A K : Type 0} (P : A → K → Type 0) (none : K) (xs : List A) where
   pub kept-none : {ks : List K} → length ks ≡ 32 → Kept P none xs 0 ks

@@ -1,7 +1,8 @@
 pub mod EntryLaws
-pub mod BatchLaws
 pub mod SettledLaws
 pub mod WalkLaws
+pub mod PassLaws
+pub mod SeenLaws
 pub mod KeepLaws
 pub mod ShiftLaws
 pub mod ApplyLaws

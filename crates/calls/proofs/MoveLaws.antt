@@ -20,7 +20,6 @@ use Rattle.laws.proofs.StepLaws.{and-left}
 use Rattle.laws.proofs.Sorted.{length-insert}
 use Rattle.laws.proofs.BoxOrder.{rowBefore-less, order-lines}
 use Rattle.laws.proofs.LinePlaces.{stampsBelow, record-place}
-use Rattle.laws.proofs.FrameLaws.{Same}
 use Rattle.lines.specs.Looks.{recordPlace}
 use Rattle.calls.proofs.ShiftLaws.{howMany-insert, Alike}
 

@@ -17,7 +17,7 @@ use Rattle.rules.specs.declared.records.Kind.the-variants.{Put, Delete, Rollbac
 use Rattle.rules.specs.declared.records.Record.{Record}
 use Rattle.rules.specs.declared.room.Load.{Load}
 use Rattle.rules.specs.Calls.{lockAt, kindReady}
-use Rattle.laws.specs.Adds.{noLoad, ofLock, ofRow}
+use Rattle.laws.specs.Adds.{noLoad, ofLock}
 use Rattle.laws.proofs.LoadLaws.{load-fields}
 use Rattle.lines.specs.declared.store.Intent.{Intent}
 use Rattle.lines.specs.declared.keys.Found.{Found}

@@ -1,18 +1,15 @@
 -- The promise of a changing call, made by its ways out: nothing has changed, or the box is another one.
 -- Assumes nothing.
 use mathlib.Core.Bool.{Bool, true, false, not, false≢true}
-use mathlib.Core.Path.{_≡_, refl, sym, _∙_, ap, subst}
+use mathlib.Core.Path.{_≡_, refl, sym, _∙_, ap}
 use Rattle.forms.specs.Bytes.{Bytes}
 use Rattle.rules.specs.declared.answers.Answer.{Answer}
 use Rattle.rules.specs.declared.answers.Answer.the-variants.{Accepted, No, Held}
 use Rattle.rules.specs.Answers.{_▸_}
-use Rattle.rules.specs.Box.{Box}
-use Rattle.rules.specs.Calls.{Done, settle}
-use Rattle.laws.proofs.SettleLaws.{settle-old, settle-new}
+use Rattle.rules.specs.Calls.{Done}
 use Rattle.lines.specs.declared.store.Store.{Store}
 use Rattle.lines.specs.View.{boxOf}
 use Rattle.lines.specs.Made.{Made}
-use Rattle.calls.specs.declared.changed.Changed.{Changed}
 use Rattle.calls.specs.Settled.{isAccepted, Untouched, Settled}
 
 -- ---- accepted, or a refusal

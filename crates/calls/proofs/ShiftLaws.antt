@@ -1,9 +1,9 @@
 -- Places that were found on the box as it came, and what they are on a box of which only lower keys have changed: as many lines, or defaults,
 -- as came or went, so many places on.
 -- Assumes nothing.
-use Prim.Native.Nat.{ℕ, suc, _+_, _-_}
+use Prim.Native.Nat.{ℕ, _+_}
 use native.Mathlib.Omega.{arith}
-use mathlib.Core.Path.{_≡_, refl, ap, sym, _∙_}
+use mathlib.Core.Path.{_≡_, refl, ap, _∙_}
 use mathlib.Core.Bool.{Bool, true, false}
 use mathlib.Core.List.{List, [], _∷_}
 use lib.ListN.{length}
@@ -11,9 +11,8 @@ use Rattle.seqs.specs.Tables.{All}
 use Rattle.forms.specs.Bytes.{ltBytes}
 use Rattle.forms.specs.Key.{Key}
 use Rattle.forms.specs.Batch.{above, ascend}
-use Rattle.forms.proofs.Orders.{ltBytes-not-eq′}
-use Rattle.forms.proofs.AscendLaws.{above-head, above-rest, above-tail, ascend-head}
-use Rattle.rules.specs.Box.{Box, KeyLine, Default, insertBy, putIn}
+use Rattle.forms.proofs.AscendLaws.{above-head, above-tail, ascend-head}
+use Rattle.rules.specs.Box.{Box, insertBy, putIn}
 use Rattle.laws.specs.Places.{oneMore, howMany, linesBefore, pairsBefore}
 use Rattle.laws.proofs.FrameLaws.{Same, same-refl, same-trans}
 

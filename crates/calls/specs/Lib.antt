@@ -3,3 +3,4 @@ pub mod Loads
 pub mod Keeps
 pub mod Walks
 pub mod Frees
+pub mod Weights

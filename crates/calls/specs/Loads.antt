@@ -10,9 +10,9 @@ pub record AddedBy (n cap : ℕ) (l : Load) : Type 0 where
   pub defaults : l .defaults ≤ n
   pub bytes : l .bytes ≤ n * cap
 
--- the sum is a small number
+-- the sum is a small number, even of 32 rows as long as the area
 pub record Summable (a b : Load) : Type 0 where
-  pub lines : a .lines + b .lines ≤ 1048576
-  pub locks : a .locks + b .locks ≤ 1048576
-  pub defaults : a .defaults + b .defaults ≤ 1048576
-  pub bytes : a .bytes + b .bytes ≤ 1048576
+  pub lines : a .lines + b .lines ≤ 16777216
+  pub locks : a .locks + b .locks ≤ 16777216
+  pub defaults : a .defaults + b .defaults ≤ 16777216
+  pub bytes : a .bytes + b .bytes ≤ 16777216

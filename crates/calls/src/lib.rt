@@ -1,10 +1,12 @@
-// What all changing calls share: what they give back, the tests that several of them make of a lock, a row and a kind, and the loads that
-// their entries add and free. specs/Settled.antt has the one promise of every changing call.
+// What all changing calls share: what they give back, the tests that several of them make of a lock, a row and a kind, the terms of a
+// transaction, and the loads that their entries add and free. specs/Settled.antt has the one promise of every changing call.
 pub mod changed;
 pub mod frees;
 pub mod loads;
 pub mod ready;
 pub mod steps;
+pub mod terms;
+pub mod weights;
 
 pub use changed::Changed;
 pub use frees::lock_frees;
@@ -27,3 +29,11 @@ pub use steps::row_argument;
 pub use steps::row_stands;
 pub use steps::same_kind;
 pub use steps::zero_step;
+pub use terms::Terms;
+pub use terms::ending_step;
+pub use weights::Seen;
+pub use weights::Weight;
+pub use weights::left_load;
+pub use weights::no_weight;
+pub use weights::plus_weight;
+pub use weights::refusal;

@@ -35,7 +35,8 @@ use Rattle.lines.specs.declared.store.Store.{Store}
 use Rattle.lines.specs.View.{lockIn, boxOf}
 use Rattle.lines.specs.Looks.{lockedBy, foundOf, historyOf, LookedAt}
 use Rattle.calls.proofs.ReadyLaws.{was-found, was-nothing}
-use Rattle.commits.specs.Checks.{Met, KeyChecked}
+use Rattle.calls.specs.Walks.{Met}
+use Rattle.commits.specs.Checks.{KeyChecked}
 
 -- ---- "or a Put's default is missing"
 
@@ -161,12 +162,12 @@ pub with-is : {st : Store} {area : Bytes} {k : Key} {start stamp : ℕ} {found :
 unfolding historyOf
 with-is v = ap (λ (x : History). x .with) (v .history-is)
 
-module _ {st : Store} {area : Bytes} {h : Ending} {k : Key} {found : Looked} {stored : FoundRow} (m : Met st area h k found stored) where
+module _ {st : Store} {area : Bytes} {k : Key} {start stamp : ℕ} {found : Looked} {stored : FoundRow} (m : Met st area k start stamp found stored) where
   sound-is : found .history .sound ≡ allSound (recordsOf k (boxOf st area .lines))
   unfolding historyOf
   sound-is = ap (λ (x : History). x .sound) (m .looked .history-is)
 
-  newer-is : found .history .newer ≡ allBelow (h .commit) (recordsOf k (boxOf st area .lines))
+  newer-is : found .history .newer ≡ allBelow stamp (recordsOf k (boxOf st area .lines))
   unfolding historyOf
   newer-is = ap (λ (x : History). x .newer) (m .looked .history-is)
 

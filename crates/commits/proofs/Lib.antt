@@ -5,5 +5,4 @@ pub mod EndLaws
 pub mod CheckLaws
 pub mod ApplyLaws
 pub mod PassLaws
-pub mod PastLaws
 pub mod BatchLaws

@@ -4,7 +4,6 @@ pub mod batch;
 pub mod checks;
 pub mod passes;
 pub mod single;
-pub mod terms;
 
 pub use batch::commit_intents_batch;
 pub use single::commit_intent;

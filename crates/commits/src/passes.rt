@@ -2,17 +2,17 @@
 ghost use mathlib.Core.Path.{_≡_};
 ghost use mathlib.Core.Bool.{true};
 ghost use Prim.Native.Nat.{_≤_};
-ghost use Rattle.forms.specs.Readers.{piece};
-ghost use Rattle.forms.specs.Places.{ahead};
+ghost use Rattle.seqs.specs.Tables.{shown};
+ghost use Rattle.forms.specs.Places.{keyAt};
 ghost use Rattle.lines.specs.declared.store.Line.the-variants.{Finished};
 ghost use Rattle.areas.specs.Areas.{primarySize};
-ghost use Rattle.commits.specs.Checks.{endingOf};
-ghost use Rattle.commits.specs.Passes.{CheckAsks, AllChecked, lockLess, ApplyAsks, Applied};
+ghost use Rattle.calls.specs.Walks.{endingOf, PassAsks};
+ghost use Rattle.commits.specs.Passes.{KeysChecked, lockLess, ApplyAsks, Applied};
 use crate::checks::check_key;
 use crate::checks::is_new;
 use crate::checks::record_of;
-use crate::terms::Terms;
-use forms::Cursor;
+use calls::Terms;
+use forms::Entry;
 use lines::FoundRow;
 use lines::Line;
 use lines::Looked;
@@ -27,28 +27,25 @@ pub fn check_all(
     area: &[u8],
     terms: Terms,
     batch: &[u8],
-    first: Cursor,
+    n: usize,
+    list: [Entry; 32],
     founds: [Looked; 32],
     rows: [FoundRow; 32],
 ) -> Answer
-    requires { ⌜ CheckAsks (now area) (now batch) first rows ⌝ }
-    ensures { λ r. ⌜ AllChecked (now (area .entry)) (endingOf terms) (ahead piece (now (batch .entry)) (first .at) (first .left)) (first .left) founds rows r ⌝ }
+    requires { ⌜ PassAsks (now area) (now batch) (terms .start) (terms .commit) n list founds rows ⌝ }
+    ensures { λ r. ⌜ KeysChecked (now (area .entry)) (endingOf terms) (now (batch .entry)) n list founds rows r ⌝ }
 {
-    let mut at = first.at;
-    let mut left = first.left;
     let mut i: usize = 0;
-    while 0 < left {
-        let p = forms::part_at(batch, at);
-        let ka = p.at;
-        let ke = ka + p.len;
+    while i < n {
+        let e = list[i];
+        let ka = e.at;
+        let ke = ka + e.len;
         let found = founds[i];
         let stored = rows[i];
         let answer = check_key(found, stored, area, terms, &batch[ka..ke]);
         if !calls::accepted(answer) {
             return answer;
         }
-        at = ke;
-        left -= 1;
         i += 1;
     }
     Answer::Accepted
@@ -96,21 +93,17 @@ pub fn apply_all(
     area: &[u8],
     terms: Terms,
     batch: &[u8],
-    first: Cursor,
+    n: usize,
+    list: [Entry; 32],
     founds: [Looked; 32],
 ) -> Store
-    requires { ⌜ ApplyAsks store (now area) (endingOf terms) (now batch) first founds ⌝ }
-    ensures { λ r. ⌜ Applied store (now (area .entry)) (endingOf terms) (ahead piece (now (batch .entry)) (first .at) (first .left)) r ⌝ }
+    requires { ⌜ ApplyAsks store (now area) (endingOf terms) (now batch) n list founds ⌝ }
+    ensures { λ r. ⌜ Applied store (now (area .entry)) (endingOf terms) (shown (keyAt (now (batch .entry))) n list) r ⌝ }
 {
     let mut l = store;
-    let mut at = first.at;
-    let mut left = first.left;
     let mut i: usize = 0;
-    while 0 < left {
-        let p = forms::part_at(batch, at);
+    while i < n {
         let found = founds[i];
-        at = p.at + p.len;
-        left -= 1;
         i += 1;
         if is_new(found) {
             let w = record_of(found, terms.commit);

@@ -7,3 +7,4 @@ pub mod RowKinds
 pub mod KeepLaws
 pub mod BuiltLaws
 pub mod WrittenLaws
+pub mod WriteLaws

@@ -20,9 +20,8 @@ use Rattle.lines.specs.declared.store.Store.{Store}
 use Rattle.lines.specs.View.{lineOf, defaultOf, boxOf}
 use Rattle.lines.specs.Made as store
 use Rattle.lines.specs.Made.{SlotBelow, HeldBelow, Built}
-use Rattle.areas.specs.Areas.{Appended}
 use Rattle.areas.specs.Packs.{Above}
-use Rattle.areas.proofs.AreaLaws.{take-lower, Twice}
+use Rattle.areas.proofs.AreaLaws.{take-lower}
 use Rattle.calls.specs.Keeps.{Kept}
 use Rattle.calls.proofs.KeepLaws.{kept-none, kept-more}
 use Rattle.edits.specs.Edits.{Edit, editMap, InTurn}
@@ -38,12 +37,6 @@ use Rattle.edits.proofs.BuiltLaws.{Planned}
 
 pub above-none : (area : Bytes) (top : ℕ) → Above area top area
 above-none area top = record { long = refl; kept = refl }
-
-pub above-appended : {area src area′ : Bytes} {top : ℕ} → Appended area top src area′ → Above area top area′
-above-appended a = record { long = a .long; kept = a .kept }
-
-pub above-twice : {area key more area′ : Bytes} {top : ℕ} → Twice area top key more area′ → Above area top area′
-above-twice t = record { long = t .long; kept = t .kept }
 
 -- what comes above a higher top leaves what lies below the lower one
 pub above-more : {area area′ area″ : Bytes} {low top : ℕ} → Above area low area′ → low ≤ top → Above area′ top area″ → Above area low area″

@@ -1,2 +1,3 @@
 pub mod Edits
 pub mod Seen
+pub mod Writes

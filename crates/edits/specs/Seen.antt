@@ -27,11 +27,18 @@ lineEdits n es = map lineEdit (take n es)
 abbrev pub rowEdits : ℕ → List RowEdit → List (Edit Held)
 rowEdits n es = map rowEdit (take n es)
 
+-- nothing comes or goes at a place
+abbrev pub lineStays : ℕ → LineEdit
+lineStays place = record { gone = false; from = place; comes = false; to = place; slot = noSlot }
+
+abbrev pub rowStays : ℕ → RowEdit
+rowStays place = record { gone = false; from = place; comes = false; to = place; held = noHeld }
+
 abbrev pub noLineEdit : LineEdit
-noLineEdit = record { gone = false; from = 0; comes = false; to = 0; slot = noSlot }
+noLineEdit = lineStays 0
 
 abbrev pub noRowEdit : RowEdit
-noRowEdit = record { gone = false; from = 0; comes = false; to = 0; held = noHeld }
+noRowEdit = rowStays 0
 
 pub record StoreAsks (st : Store) (n : ℕ) (ls : List LineEdit) (rs : List RowEdit) : Type 0 where
   pub lines : EditAsks 1024 32 (st .load .lines) n (lineEdits n ls) (st .lines) ls

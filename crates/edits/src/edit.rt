@@ -23,6 +23,20 @@ pub struct RowEdit {
     pub held: Held,
 }
 
+// What an entry changes, and the area's top after its bytes.
+pub struct Draft {
+    pub line: LineEdit,
+    pub row: RowEdit,
+    pub top: usize,
+}
+
+// What all entries change, and the area's top after their bytes.
+pub struct Plan {
+    pub lines: [LineEdit; 32],
+    pub rows: [RowEdit; 32],
+    pub top: usize,
+}
+
 // Whether what stands at `i` is what goes.
 pub fn goes(gone: bool, from: usize, i: usize) -> bool
     ensures { λ r. ⌜ r ≡ gone && eqb i from ⌝ }

@@ -13,6 +13,7 @@ pub fn edit_rows(store: Store, edits: [RowEdit; 32], n: usize) -> [Held; 1024]
     requires { ⌜ EditAsks 1024 32 (store .load .defaults) n (rowEdits n edits) (store .defaults) edits ⌝ }
     ensures { λ r. ⌜ Edited noHeld 1024 (store .load .defaults) (rowEdits n edits) (store .defaults) r ⌝ }
 {
+    let defaults = store.defaults;
     let load = store.load;
     let count = load.defaults;
     let none = no_held();
@@ -23,7 +24,7 @@ pub fn edit_rows(store: Store, edits: [RowEdit; 32], n: usize) -> [Held; 1024]
     while j < n {
         let e = edits[j];
         if i < e.to {
-            let d = store.defaults[i];
+            let d = defaults[i];
             let leaves = goes(e.gone, e.from, i);
             i += 1;
             if !leaves {
@@ -40,7 +41,7 @@ pub fn edit_rows(store: Store, edits: [RowEdit; 32], n: usize) -> [Held; 1024]
         }
     }
     while i < count {
-        let d = store.defaults[i];
+        let d = defaults[i];
         out[o] = d;
         i += 1;
         o += 1;

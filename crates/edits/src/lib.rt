@@ -4,9 +4,16 @@ pub mod apply;
 pub mod edit;
 pub mod helds;
 pub mod slots;
+pub mod writes;
 
 pub use apply::apply_edits;
+pub use edit::Draft;
 pub use edit::LineEdit;
+pub use edit::Plan;
 pub use edit::RowEdit;
 pub use helds::edit_rows;
 pub use slots::edit_lines;
+pub use writes::line_stays;
+pub use writes::row_stays;
+pub use writes::write_held;
+pub use writes::write_record;

@@ -14,6 +14,7 @@ pub fn edit_lines(store: Store, edits: [LineEdit; 32], n: usize) -> [Slot; 1024]
     requires { ⌜ EditAsks 1024 32 (store .load .lines) n (lineEdits n edits) (store .lines) edits ⌝ }
     ensures { λ r. ⌜ Edited noSlot 1024 (store .load .lines) (lineEdits n edits) (store .lines) r ⌝ }
 {
+    let lines = store.lines;
     let load = store.load;
     let count = load.lines;
     let none = no_slot();
@@ -24,7 +25,7 @@ pub fn edit_lines(store: Store, edits: [LineEdit; 32], n: usize) -> [Slot; 1024]
     while j < n {
         let e = edits[j];
         if i < e.to {
-            let s = store.lines[i];
+            let s = lines[i];
             let leaves = goes(e.gone, e.from, i);
             i += 1;
             if !leaves {
@@ -41,7 +42,7 @@ pub fn edit_lines(store: Store, edits: [LineEdit; 32], n: usize) -> [Slot; 1024]
         }
     }
     while i < count {
-        let s = store.lines[i];
+        let s = lines[i];
         out[o] = s;
         i += 1;
         o += 1;

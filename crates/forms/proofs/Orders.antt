@@ -117,19 +117,6 @@ eqBytes-true a b e = cmp-equal a b (go (cmp a b) e)
     go Equal e = refl
     go Greater e = absurd (false≢true e)
 
-pub eqBytes-same : (a b : Bytes) → a ≡ b → eqBytes a b ≡ true
-eqBytes-same a b e = ap (eqBytes a) (sym e) ∙ eqBytes-refl a
-
-pub eqBytes-false : (a b : Bytes) → eqBytes a b ≡ false → a ≡ b → ⊥
-eqBytes-false a b e q = true≢false (sym (eqBytes-same a b q) ∙ e)
-
-pub eqBytes-ne : (a b : Bytes) → (a ≡ b → ⊥) → eqBytes a b ≡ false
-eqBytes-ne a b n = go (eqBytes a b) refl
-  where
-    go : (t : Bool) → eqBytes a b ≡ t → t ≡ false
-    go true e = absurd (n (eqBytes-true a b e))
-    go false e = refl
-
 pub eqBytes-sym : (a b : Bytes) → eqBytes a b ≡ eqBytes b a
 unfolding eqBytes
 eqBytes-sym a b = go (cmp a b) ∙ sym (ap isEqual (cmp-flip a b))
@@ -153,10 +140,6 @@ pub ltBytes-trans : (a b c : Bytes) → ltBytes a b ≡ true → ltBytes b c ≡
 unfolding ltBytes
 ltBytes-trans a b c p q = ap isLess (cmp-trans a b c (ltBytes-less a b p) (ltBytes-less b c q))
 
-pub ltBytes-asym : (a b : Bytes) → ltBytes a b ≡ true → ltBytes b a ≡ false
-unfolding ltBytes
-ltBytes-asym a b p = ap isLess (cmp-flip a b ∙ ap flip (ltBytes-less a b p))
-
 pub ltBytes-not-eq : (a b : Bytes) → ltBytes a b ≡ true → eqBytes a b ≡ false
 unfolding eqBytes
 ltBytes-not-eq a b p = ap isEqual (ltBytes-less a b p)
@@ -164,9 +147,6 @@ ltBytes-not-eq a b p = ap isEqual (ltBytes-less a b p)
 -- the same, where the greater is named first
 pub ltBytes-not-eq′ : (a b : Bytes) → ltBytes a b ≡ true → eqBytes b a ≡ false
 ltBytes-not-eq′ a b p = eqBytes-sym b a ∙ ltBytes-not-eq a b p
-
-pub ltBytes-ne : (a b : Bytes) → ltBytes a b ≡ true → a ≡ b → ⊥
-ltBytes-ne a b p = eqBytes-false a b (ltBytes-not-eq a b p)
 
 pub eqBytes-not-lt : (a b : Bytes) → eqBytes a b ≡ true → ltBytes a b ≡ false
 eqBytes-not-lt a b e = ap (ltBytes a) (sym (eqBytes-true a b e)) ∙ ltBytes-irrefl a

@@ -2,22 +2,24 @@
 -- Assumes nothing.
 use Prim.Native.Nat.{ℕ, _+_, _≤_, _<_, _^_}
 use mathlib.Core.Path.{_≡_}
-use mathlib.Core.Bool.{Bool, true, false}
+use mathlib.Core.Bool.{Bool, true, false, not}
 use mathlib.Core.List.{List, [], _∷_, _++_}
 use mathlib.Core.Option.{Option, none, some}
-use lib.ListN.{length, take, drop}
-use lib.Dec.{leb}
+use lib.ListN.{length, drop, replicate}
+use lib.Dec.{leb, eqb}
+use Rattle.seqs.specs.Tables.{Table, shown}
 use Rattle.forms.specs.Bytes.{Bytes, bytesAt, ltBytes}
 use Rattle.forms.specs.Readers.{Read, Reader, when, times, piece, whole}
 use Rattle.forms.specs.Numbers.{number, numberOf, digits}
 use Rattle.forms.specs.Key.{Key}
 use Rattle.forms.specs.Row.{integers, texts}
-use Rattle.forms.specs.Batch.{Mutation, mutation, above, ascend}
+use Rattle.forms.specs.Batch.{Mutation, keyIn, mutation, above, ascend}
 use Rattle.forms.specs.declared.number.Number.{Number}
 use Rattle.forms.specs.declared.part.Part.{Part}
 use Rattle.forms.specs.declared.row.Rest.{Rest}
 use Rattle.forms.specs.declared.batch.Entry.{Entry}
-use Rattle.forms.specs.declared.batch.Cursor.{Cursor}
+use Rattle.forms.specs.declared.batch.Step.{Step}
+use Rattle.forms.specs.declared.batch.Entries.{Entries}
 
 -- what was found, and what follows from the place next on; or nothing
 abbrev pub found : {A : Type 0} → Bytes → Bool → A → ℕ → Option (Read A)
@@ -59,26 +61,81 @@ pub record RestAt (s : Bytes) (o : Option Bytes) (r : Rest) : Type 0 where
   pub is : o ≡ when (r .ok) (drop (r .at) s)
   pub within : r .at ≤ length s
 
--- ---- one entry of a mutation batch
+-- ---- one entry of a batch
+
+-- its key, and what it says
+abbrev pub keyAt : Bytes → Entry → Key
+keyAt s e = bytesAt s (e .at) (e .len)
 
 abbrev pub mutationOf : Bytes → Entry → Mutation
-mutationOf s e = record { key = bytesAt s (e .at) (e .len); row = when (e .put) (bytesAt s (e .rowat) (e .rowlen)) }
+mutationOf s e = record { key = keyAt s e; row = when (e .put) (bytesAt s (e .rowat) (e .rowlen)) }
 
-pub record EntryAt (s : Bytes) (at : ℕ) (r : Entry) : Type 0 where
-  pub is : mutation (drop at s) ≡ found s (r .ok) (mutationOf s r) (r .next)
-  pub key-in : r .at + r .len ≤ length s
-  pub row-in : r .rowat + r .rowlen ≤ length s
-  pub next-in : r .next ≤ length s
-  pub key-small : r .len ≤ 255
-  pub row-small : r .rowlen ≤ 255
+-- its places lie in the bytes
+pub record EntryIn (s : Bytes) (e : Entry) : Type 0 where
+  pub key-in : e .at + e .len ≤ length s
+  pub row-in : e .rowat + e .rowlen ≤ length s
+  pub key-small : e .len ≤ 255
+  pub row-small : e .rowlen ≤ 255
 
 abbrev pub noEntry : Entry
-noEntry = record { ok = false; at = 0; len = 0; put = false; rowat = 0; rowlen = 0; next = 0 }
+noEntry = record { at = 0; len = 0; put = false; rowat = 0; rowlen = 0 }
 
--- ---- the judge's walk: the key before, if any
+abbrev pub noStep : Step
+noStep = record { ok = false; entry = noEntry; next = 0 }
 
-abbrev pub prevOf : Bytes → Part → Option Key
-prevOf s p = when (p .ok) (bytesAt s (p .at) (p .len))
+abbrev pub stepOf : Part → Bool → Part → ℕ → Step
+stepOf k put r next = record { ok = k .ok; entry = record { at = k .at; len = k .len; put = put; rowat = r .at; rowlen = r .len }; next = next }
+
+-- what a reader of entries found at a place
+pub record StepAt {A : Type 0} (r : Reader A) (item : Entry → A) (s : Bytes) (at : ℕ) (t : Step) : Type 0 where
+  pub is : r (drop at s) ≡ found s (t .ok) (item (t .entry)) (t .next)
+  pub inside : EntryIn s (t .entry)
+  pub next-in : t .next ≤ length s
+
+-- the entries of a mutation batch are mutations, those of a key batch are keys
+abbrev pub Item : Bool → Type 0
+Item true = Mutation
+Item false = Key
+
+abbrev pub itemAt : (rows : Bool) → Reader (Item rows)
+itemAt true = mutation
+itemAt false = piece
+
+abbrev pub itemKey : (rows : Bool) → Item rows → Key
+itemKey true = keyIn
+itemKey false = λ k. k
+
+abbrev pub itemOf : (rows : Bool) → Bytes → Entry → Item rows
+itemOf true = mutationOf
+itemOf false = keyAt
+
+-- ---- a batch, decoded
+
+-- n entries that are all of the bytes
+unfoldable pub entries : {A : Type 0} → Reader A → ℕ → Bytes → Option (List A)
+entries r n s = whole (times n r) s
+
+-- the first n of a list of 32 entries count, and lie in the bytes
+abbrev pub Listed : Bytes → ℕ → List Entry → Type 0
+Listed s n es = Table (EntryIn s) noEntry 32 n es
+
+-- and their keys ascend, as those of a batch in form do
+pub record InForm (s : Bytes) (n : ℕ) (es : List Entry) : Type 0 where
+  pub listed : Listed s n es
+  pub ascends : ascend (λ k. k) (shown (keyAt s) n es) ≡ true
+
+-- what the bytes say is what the entries that count say, or that they are not in form
+pub record Decoded {A : Type 0} (item : Entry → A) (s : Bytes) (o : Option (List A)) (r : Entries) : Type 0 where
+  pub is : o ≡ when (r .ok) (shown item (r .count) (r .list))
+  pub listed : Listed s (r .count) (r .list)
+
+abbrev pub noEntries : Entries
+noEntries = record { ok = false; count = 0; list = replicate 32 noEntry }
+
+-- ---- the walk over a batch: the key before, if any
+
+abbrev pub prevOf : Bytes → ℕ → Entry → Option Key
+prevOf s i e = when (not (eqb i 0)) (keyAt s e)
 
 abbrev pub aboveHead : Option Key → Key → Bool
 aboveHead none k = true
@@ -87,32 +144,3 @@ aboveHead (some j) k = ltBytes j k
 abbrev pub aboveAll : {A : Type 0} → (A → Key) → Option Key → List A → Bool
 aboveAll key none ms = ascend key ms
 aboveAll key (some k) ms = above key k ms
-
-abbrev pub ifAbove : {A : Type 0} → (A → Key) → Option Key → Option (List A) → Bool
-ifAbove key p none = false
-ifAbove key p (some ms) = aboveAll key p ms
-
--- ---- a cursor on a batch: the entries still to come
-
-abbrev pub listOf : {A : Type 0} → Option (List A) → List A
-listOf none = []
-listOf (some xs) = xs
-
--- n entries that are all of the bytes
-unfoldable pub entries : {A : Type 0} → Reader A → ℕ → Bytes → Option (List A)
-entries r n s = whole (times n r) s
-
-unfoldable pub ahead : {A : Type 0} → Reader A → Bytes → ℕ → ℕ → List A
-ahead r s at left = listOf (entries r left (drop at s))
-
-pub record Ahead {A : Type 0} (r : Reader A) (s : Bytes) (at left : ℕ) : Type 0 where
-  pub within : at ≤ length s
-  pub is : entries r left (drop at s) ≡ some (ahead r s at left)
-
--- at the first entry of a batch that has a count
-abbrev pub cursorIf : Bool → ℕ → Cursor
-cursorIf true n = record { at = 2; left = n }
-cursorIf false n = record { at = 0; left = 0 }
-
-abbrev pub firstOf : Bytes → Cursor
-firstOf s = cursorIf (leb 2 (length s)) (number (take 2 s))

@@ -1,85 +1,49 @@
 // Batches: "2-byte count 0 to 32", then entries whose keys strictly ascend as raw bytes; key and row contents are judged later.
-// A batch is judged whole, once; a cursor then walks it, and part_at or entry_at hand out the places of each entry.
+// A batch is judged and decoded in one walk: the places of its entries, numbers only, which every pass of a call then goes by.
 ghost use mathlib.Core.Path.{_≡_};
-ghost use mathlib.Core.Option.{none};
-ghost use Prim.Native.Nat.{_+_, _≤_};
+ghost use Prim.Native.Nat.{_≤_};
 ghost use lib.ListN.{length, drop};
-ghost use Rattle.forms.specs.Bytes.{bytesAt};
-ghost use Rattle.forms.specs.Readers.{piece, isSome};
-ghost use Rattle.forms.specs.Batch.{keyIn, mutation, mutations, keys};
-ghost use Rattle.forms.specs.Places.{EntryAt, noEntry, noPart, prevOf, aboveHead, ifAbove, entries, firstOf};
+ghost use Rattle.forms.specs.Batch.{mutation, ifAscend, batchOf, mutations, keys};
+ghost use Rattle.forms.specs.Places.{keyAt, mutationOf, EntryIn, noEntry, noPart, noStep, stepOf, StepAt, itemAt, itemKey, itemOf, entries, Decoded, noEntries, prevOf, aboveHead};
 use crate::key::below;
 use crate::number::Width;
 use crate::number::number_at;
 use crate::part::Part;
 use crate::part::part_at;
 
-// The places of one entry of a mutation batch, and where the next begins; not ok, and zeros, where there is none in form.
+// The places of one entry: its key, and a Put's row.
 pub struct Entry {
-    pub ok: bool,
     pub at: usize,
     pub len: usize,
     pub put: bool,
     pub rowat: usize,
     pub rowlen: usize,
+}
+
+// An entry, and where the next begins; not ok, and zeros, where there is none in form.
+pub struct Step {
+    pub ok: bool,
+    pub entry: Entry,
     pub next: usize,
+}
+
+// The entries of a batch; not ok, and none, where it is not in form.
+pub struct Entries {
+    pub ok: bool,
+    pub count: usize,
+    pub list: [Entry; 32],
 }
 
 fn no_entry() -> Entry
     ensures { λ r. ⌜ r ≡ noEntry ⌝ }
 {
     Entry {
-        ok: false,
         at: 0,
         len: 0,
         put: false,
         rowat: 0,
         rowlen: 0,
-        next: 0,
     }
-}
-
-// "for each a key length byte, key, kind byte (1 Put, 2 Delete) and, for a Put only, a row length byte and row"
-pub fn entry_at(s: &[u8], at: usize) -> Entry
-    ensures { λ r. ⌜ EntryAt (now (s .entry)) at r ⌝ }
-{
-    let k = part_at(s, at);
-    if !k.ok {
-        return no_entry();
-    }
-    let e = k.at + k.len;
-    if s.len() <= e {
-        return no_entry();
-    }
-    let b = s[e];
-    let f = e + 1;
-    if b == 1 {
-        let r = part_at(s, f);
-        if !r.ok {
-            return no_entry();
-        }
-        return Entry {
-            ok: true,
-            at: k.at,
-            len: k.len,
-            put: true,
-            rowat: r.at,
-            rowlen: r.len,
-            next: r.at + r.len,
-        };
-    }
-    if b == 2 {
-        return Entry {
-            ok: true,
-            at: k.at,
-            len: k.len,
-            put: false,
-            rowat: 0,
-            rowlen: 0,
-            next: f,
-        };
-    }
-    no_entry()
 }
 
 fn no_part() -> Part
@@ -92,115 +56,170 @@ fn no_part() -> Part
     }
 }
 
-// Whether a key is above the one before it, if there is one.
-fn follows(s: &[u8], prev: Part, at: usize, len: usize) -> bool
-    requires { ⌜ (prev .at + prev .len ≤ length (now s)) × (at + len ≤ length (now s)) ⌝ }
-    ensures { λ r. ⌜ r ≡ aboveHead (prevOf (now (s .entry)) prev) (bytesAt (now (s .entry)) at len) ⌝ }
+fn no_step() -> Step
+    ensures { λ r. ⌜ r ≡ noStep ⌝ }
 {
-    if !prev.ok {
+    Step {
+        ok: false,
+        entry: Entry {
+            at: 0,
+            len: 0,
+            put: false,
+            rowat: 0,
+            rowlen: 0,
+        },
+        next: 0,
+    }
+}
+
+fn no_entries() -> Entries
+    ensures { λ r. ⌜ r ≡ noEntries ⌝ }
+{
+    let none = Entry {
+        at: 0,
+        len: 0,
+        put: false,
+        rowat: 0,
+        rowlen: 0,
+    };
+    Entries {
+        ok: false,
+        count: 0,
+        list: [none; 32],
+    }
+}
+
+// An entry whose key is the part k, and whose row, of a Put, is the part r.
+fn step_of(k: Part, put: bool, r: Part, next: usize) -> Step
+    ensures { λ t. ⌜ t ≡ stepOf k put r next ⌝ }
+{
+    Step {
+        ok: k.ok,
+        entry: Entry {
+            at: k.at,
+            len: k.len,
+            put: put,
+            rowat: r.at,
+            rowlen: r.len,
+        },
+        next: next,
+    }
+}
+
+// "for each a key length byte, key, kind byte (1 Put, 2 Delete) and, for a Put only, a row length byte and row"
+fn mutation_at(s: &[u8], at: usize) -> Step
+    ensures { λ r. ⌜ StepAt mutation (mutationOf (now (s .entry))) (now (s .entry)) at r ⌝ }
+{
+    let k = part_at(s, at);
+    if !k.ok {
+        return no_step();
+    }
+    let e = k.at + k.len;
+    if s.len() <= e {
+        return no_step();
+    }
+    let b = s[e];
+    let f = e + 1;
+    if b == 1 {
+        let r = part_at(s, f);
+        if !r.ok {
+            return no_step();
+        }
+        return step_of(k, true, r, r.at + r.len);
+    }
+    if b == 2 {
+        let none = no_part();
+        return step_of(k, false, none, f);
+    }
+    no_step()
+}
+
+// The same, or "length byte and key".
+fn step_at(s: &[u8], at: usize, rows: bool) -> Step
+    ensures { λ r. ⌜ StepAt (itemAt rows) (itemOf rows (now (s .entry))) (now (s .entry)) at r ⌝ }
+{
+    if rows {
+        return mutation_at(s, at);
+    }
+    let k = part_at(s, at);
+    let none = no_part();
+    step_of(k, false, none, k.at + k.len)
+}
+
+// Whether a key is above the one before it, if there is one.
+fn follows(s: &[u8], i: usize, prev: Entry, e: Entry) -> bool
+    requires { ⌜ (EntryIn (now s) prev) × (EntryIn (now s) e) ⌝ }
+    ensures { λ r. ⌜ r ≡ aboveHead (prevOf (now (s .entry)) i prev) (keyAt (now (s .entry)) e) ⌝ }
+{
+    if i == 0 {
         return true;
     }
     let pa = prev.at;
     let pe = pa + prev.len;
-    let ke = at + len;
+    let at = e.at;
+    let ke = at + e.len;
     below(&s[pa..pe], &s[at..ke])
 }
 
-fn mutations_fit(s: &[u8], count: usize) -> bool
-    requires { ⌜ 2 ≤ length (now s) ⌝ }
-    ensures { λ r. ⌜ r ≡ ifAbove keyIn none (entries mutation count (drop 2 (now (s .entry)))) ⌝ }
+// "Keys strictly ascend", and nothing may follow the last.
+fn read_all(s: &[u8], rows: bool, count: usize) -> Entries
+    requires { ⌜ (2 ≤ length (now s)) × (count ≤ 32) ⌝ }
+    ensures { λ r. ⌜ Decoded (itemOf rows (now (s .entry))) (now (s .entry)) (ifAscend (itemKey rows) (entries (itemAt rows) count (drop 2 (now (s .entry))))) r ⌝ }
 {
+    let mut prev = no_entry();
+    let mut list = [prev; 32];
     let mut at: usize = 2;
-    let mut left = count;
-    let mut prev = no_part();
-    while 0 < left {
-        let e = entry_at(s, at);
-        if !e.ok {
-            return false;
+    let mut i: usize = 0;
+    while i < count {
+        let t = step_at(s, at, rows);
+        if !t.ok {
+            return no_entries();
         }
-        if !follows(s, prev, e.at, e.len) {
-            return false;
+        let e = t.entry;
+        if !follows(s, i, prev, e) {
+            return no_entries();
         }
-        at = e.next;
-        left -= 1;
-        prev = Part {
-            ok: true,
-            at: e.at,
-            len: e.len,
-        };
+        list[i] = e;
+        prev = e;
+        at = t.next;
+        i += 1;
     }
-    at == s.len()
-}
-
-fn keys_fit(s: &[u8], count: usize) -> bool
-    requires { ⌜ 2 ≤ length (now s) ⌝ }
-    ensures { λ r. ⌜ r ≡ ifAbove (λ k. k) none (entries piece count (drop 2 (now (s .entry)))) ⌝ }
-{
-    let mut at: usize = 2;
-    let mut left = count;
-    let mut prev = no_part();
-    while 0 < left {
-        let p = part_at(s, at);
-        if !p.ok {
-            return false;
-        }
-        if !follows(s, prev, p.at, p.len) {
-            return false;
-        }
-        at = p.at + p.len;
-        left -= 1;
-        prev = p;
+    if at != s.len() {
+        return no_entries();
     }
-    at == s.len()
+    Entries {
+        ok: true,
+        count: count,
+        list: list,
+    }
 }
 
 // "count 0 to 32"
 const MOST: u64 = 32;
 
-// "Mutation batch: 2-byte count 0 to 32, then for each ..; Keys strictly ascend"
-pub fn mutations_in_form(batch: &[u8]) -> bool
-    ensures { λ r. ⌜ r ≡ isSome (mutations (now (batch .entry))) ⌝ }
+fn decode(s: &[u8], rows: bool) -> Entries
+    ensures { λ r. ⌜ Decoded (itemOf rows (now (s .entry))) (now (s .entry)) (batchOf (itemKey rows) (itemAt rows) (now (s .entry))) r ⌝ }
 {
-    let n = number_at(batch, 0, Width::Two);
+    let n = number_at(s, 0, Width::Two);
     if !n.ok {
-        return false;
+        return no_entries();
     }
     if MOST < n.value {
-        return false;
+        return no_entries();
     }
-    mutations_fit(batch, n.value as usize)
+    read_all(s, rows, n.value as usize)
+}
+
+// "Mutation batch: 2-byte count 0 to 32, then for each ..; Keys strictly ascend"
+pub fn mutations_of(batch: &[u8]) -> Entries
+    ensures { λ r. ⌜ Decoded (mutationOf (now (batch .entry))) (now (batch .entry)) (mutations (now (batch .entry))) r ⌝ }
+{
+    decode(batch, true)
 }
 
 // "Key batch: 2-byte count 0 to 32, then length byte and key. Keys strictly ascend"
-pub fn keys_in_form(batch: &[u8]) -> bool
-    ensures { λ r. ⌜ r ≡ isSome (keys (now (batch .entry))) ⌝ }
+pub fn keys_of(batch: &[u8]) -> Entries
+    ensures { λ r. ⌜ Decoded (keyAt (now (batch .entry))) (now (batch .entry)) (keys (now (batch .entry))) r ⌝ }
 {
-    let n = number_at(batch, 0, Width::Two);
-    if !n.ok {
-        return false;
-    }
-    if MOST < n.value {
-        return false;
-    }
-    keys_fit(batch, n.value as usize)
-}
-
-// A place in a judged batch: where its next entry begins, and how many are left.
-pub struct Cursor {
-    pub at: usize,
-    pub left: usize,
-}
-
-// At the first entry of a batch.
-pub fn first(batch: &[u8]) -> Cursor
-    ensures { λ r. ⌜ r ≡ firstOf (now (batch .entry)) ⌝ }
-{
-    let n = number_at(batch, 0, Width::Two);
-    if !n.ok {
-        return Cursor { at: 0, left: 0 };
-    }
-    Cursor {
-        at: 2,
-        left: n.value as usize,
-    }
+    decode(batch, false)
 }

@@ -9,12 +9,10 @@ pub mod part;
 pub mod row;
 
 pub use appends::append;
-pub use batch::Cursor;
+pub use batch::Entries;
 pub use batch::Entry;
-pub use batch::entry_at;
-pub use batch::first;
-pub use batch::keys_in_form;
-pub use batch::mutations_in_form;
+pub use batch::keys_of;
+pub use batch::mutations_of;
 pub use key::Order;
 pub use key::below;
 pub use key::compare;

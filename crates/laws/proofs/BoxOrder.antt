@@ -119,12 +119,6 @@ line-else (Standing l) (Finished w) n a = absurd (true≢false a)
 line-else (Finished w) (Standing l) n a = refl
 line-else (Finished v) (Finished w) n a = less-else (v .stamp) (w .stamp) n a
 
-line-apart : (x y : Line) → lineBefore x y ≡ true → sameLine x y ≡ false
-line-apart (Standing l) (Standing m) a = absurd (false≢true a)
-line-apart (Standing l) (Finished w) a = refl
-line-apart (Finished w) (Standing l) a = refl
-line-apart (Finished v) (Finished w) a = less-apart (v .stamp) (w .stamp) a
-
 pub before-trans : (d e f : KeyLine) → before d e ≡ true → before e f ≡ true → before d f ≡ true
 unfolding before
 before-trans d e f = keyed-trans (d .key) (e .key) (f .key) (lineBefore (d .line) (e .line)) (lineBefore (e .line) (f .line)) (lineBefore (d .line) (f .line)) (line-trans (d .line) (e .line) (f .line))
@@ -136,10 +130,6 @@ before-irrefl e = keyed-irrefl (e .key) (lineBefore (e .line) (e .line)) (line-i
 pub before-else : (d e : KeyLine) → samePlace d e ≡ false → before d e ≡ false → before e d ≡ true
 unfolding before samePlace
 before-else d e = keyed-else (d .key) (e .key) (lineBefore (d .line) (e .line)) (lineBefore (e .line) (d .line)) (sameLine (d .line) (e .line)) (line-else (d .line) (e .line))
-
-pub before-apart : (d e : KeyLine) → before d e ≡ true → samePlace d e ≡ false
-unfolding before samePlace
-before-apart d e = keyed-apart (d .key) (e .key) (lineBefore (d .line) (e .line)) (sameLine (d .line) (e .line)) (line-apart (d .line) (e .line))
 
 -- within a key, and between keys
 pub before-same : (d e : KeyLine) → eqBytes (d .key) (e .key) ≡ true → before d e ≡ lineBefore (d .line) (e .line)
@@ -155,10 +145,6 @@ unfolding before
 before-not-above d e = keyed-not-above (d .key) (e .key) (lineBefore (d .line) (e .line))
 
 -- ---- defaults
-
-pub rowBefore-same : (d e : Default) → eqBytes (d .key) (e .key) ≡ true → rowBefore d e ≡ ltb (d .start) (e .start)
-unfolding rowBefore
-rowBefore-same d e = keyed-same (d .key) (e .key) (ltb (d .start) (e .start))
 
 pub rowBefore-less : (d e : Default) → ltBytes (d .key) (e .key) ≡ true → rowBefore d e ≡ true
 unfolding rowBefore
@@ -316,10 +302,3 @@ same-lines = ordered-same before before-trans before-irrefl
 
 pub same-defaults : (ds es : List Default) → ordered rowBefore ds ≡ true → ordered rowBefore es ≡ true → ((d : Default) → In d ds → In d es) → ((d : Default) → In d es → In d ds) → ds ≡ es
 same-defaults = ordered-same rowBefore rowBefore-trans rowBefore-irrefl
-
-pub same-box : (b c : Box) → inOrder b ≡ true → inOrder c ≡ true
-    → ((e : KeyLine) → In e (b .lines) → In e (c .lines)) → ((e : KeyLine) → In e (c .lines) → In e (b .lines))
-    → ((d : Default) → In d (b .defaults) → In d (c .defaults)) → ((d : Default) → In d (c .defaults) → In d (b .defaults)) → b ≡ c
-same-box b c o p f g i j =
-    ap (λ (es : List KeyLine). mk es (b .defaults)) (same-lines (b .lines) (c .lines) (order-lines b o) (order-lines c p) f g)
-    ∙ ap (mk (c .lines)) (same-defaults (b .defaults) (c .defaults) (order-defaults b o) (order-defaults c p) i j)

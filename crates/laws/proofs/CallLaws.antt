@@ -7,38 +7,24 @@ use mathlib.Core.List.{List}
 use mathlib.Core.Option.{Option, none, some}
 use Rattle.forms.specs.Bytes.{Bytes}
 use Rattle.forms.specs.Key.{Key}
-use Rattle.forms.specs.Batch.{Mutation, keyIn, ascend, mutations, keys}
+use Rattle.forms.specs.Batch.{Mutation, mutations, keys}
 use Rattle.rules.specs.declared.answers.Answer.the-variants.{Accepted}
 use Rattle.rules.specs.Answers.{_▸_, need}
-use Rattle.rules.specs.Box.{Box, fresh, inOrder, ordered}
+use Rattle.rules.specs.Box.{Box, fresh}
 use Rattle.rules.specs.Room.{roomFor, fits, loadOf, sumOf}
 use Rattle.rules.specs.Calls.{nonEmpty, zeroStep}
 use Rattle.rules.specs.Prewrite.{Head, headStep, prewriteEntries, prewriteRoom, prewriteSteps, applyPrewrites, prewriteAll, prewriteBatch}
-use Rattle.rules.specs.Commit.{Ending, endingStep, commitKeys, commitSteps, applyCommits, commitAll, commitBatch}
+use Rattle.rules.specs.Commit.{Ending, commitSteps, applyCommits, commitAll, commitBatch}
 use Rattle.rules.specs.Rollback.{rollbackKeys, rollbackRoom, rollbackSteps, applyRollbacks, rollbackAll, rollbackBatch}
-use Rattle.rules.specs.OneStep.{argumentsStep, noneOther, stepEntries, newestStep, stepNew, applySteps, stepApplied, stepArguments, allApplied, someApplied, stepDone, stepAll, oneStep, ofCounted}
-use Rattle.rules.specs.Image.{Image, image}
-use Rattle.rules.specs.Restore.{goodImage, restoreSteps, restoreTo, restore, boxOf}
+use Rattle.rules.specs.OneStep.{stepEntries, newestStep, stepNew, applySteps, stepApplied, stepArguments, allApplied, someApplied, stepDone, stepAll, oneStep, ofCounted}
 use Rattle.laws.proofs.StepLaws.{then-left, then-right, need-true}
 use Rattle.laws.proofs.SettleLaws.{settle-keeps, ofBatch-keeps, then-keeps}
-use Rattle.laws.proofs.FrameLaws.{mutations-ascend, keys-ascend}
-use Rattle.laws.proofs.PrewriteLaws.{prewrites-order}
-use Rattle.laws.proofs.CommitLaws.{commits-order, commits-room}
-use Rattle.laws.proofs.RollbackLaws.{rollbacks-order}
-use Rattle.laws.proofs.OneStepLaws.{steps-check, steps-order}
-use Rattle.laws.proofs.RestoreLaws.{boxOf-order}
-
-abbrev InOrder : Box → Type 0
-InOrder b = inOrder b ≡ true
+use Rattle.laws.proofs.CommitLaws.{commits-room}
 
 abbrev HasRoom : Box → Type 0
 HasRoom b = roomFor b ≡ true
 
 -- ---- a fresh box
-
-pub fresh-order : inOrder fresh ≡ true
-unfolding inOrder ordered fresh
-fresh-order = refl
 
 pub fresh-room : roomFor fresh ≡ true
 unfolding roomFor fits loadOf sumOf fresh
@@ -52,10 +38,6 @@ prewrite-steps h ms b p =
     let q = then-right (headStep h) _ p in
     (then-left _ _ p, then-left _ _ q, need-true _ _ (then-right (prewriteEntries h b ms) _ q))
 
-pub commit-steps : (h : Ending) (ks : List Key) (b : Box) → commitSteps h ks b ≡ Accepted → (endingStep h ≡ Accepted) × (commitKeys h b ks ≡ Accepted)
-unfolding commitSteps
-commit-steps h ks b p = (then-left _ _ p, then-right (endingStep h) _ p)
-
 pub rollback-steps : (txn start : ℕ) (ks : List Key) (b : Box) → rollbackSteps txn start ks b ≡ Accepted → (zeroStep txn start ≡ Accepted) × (rollbackKeys txn start b ks ≡ Accepted) × (roomFor (applyRollbacks start ks b) ≡ true)
 unfolding rollbackSteps rollbackRoom
 rollback-steps txn start ks b p =
@@ -68,42 +50,7 @@ step-new h ms b p =
     let q = then-right (stepEntries h b ms) _ p in
     (then-left _ _ p, then-left _ _ q, need-true _ _ (then-right (newestStep h b ms) _ q))
 
-pub step-arguments : (h : Ending) (ms : List Mutation) (b : Box) → stepArguments h ms b ≡ Accepted → (endingStep h ≡ Accepted) × (argumentsStep ms ≡ Accepted) × (noneOther h b ms ≡ true)
-unfolding stepArguments
-step-arguments h ms b p =
-    let q = then-right (endingStep h) _ p in
-    (then-left _ _ p, then-left _ _ q, need-true _ _ (then-right (argumentsStep ms) _ q))
-
-pub restore-steps : (i : Image) → restoreSteps i ≡ Accepted → (goodImage i ≡ true) × (roomFor (boxOf i) ≡ true)
-unfolding restoreSteps
-restore-steps i p = (need-true _ _ (then-left _ _ p), need-true _ _ (then-right (need (goodImage i) 13) _ p))
-
 -- ---- the order
-
-pub prewriteAll-order : (h : Head) (ms : List Mutation) (b : Box) → ascend keyIn ms ≡ true → inOrder b ≡ true → inOrder (prewriteAll h ms b .box) ≡ true
-unfolding prewriteAll
-prewriteAll-order h ms b a o = settle-keeps InOrder (need (nonEmpty ms) 5 ▸ prewriteSteps h ms b) (applyPrewrites h ms b) b o (λ p. prewrites-order h ms b a (prewrite-steps h ms b (then-right (need (nonEmpty ms) 5) _ p) .1) o)
-
-pub prewriteBatch-order : (h : Head) (s : Bytes) (b : Box) → inOrder b ≡ true → inOrder (prewriteBatch h s b .box) ≡ true
-unfolding prewriteBatch
-prewriteBatch-order h s b o = ofBatch-keeps InOrder (mutations s) (prewriteAll h) b o (λ ms e. prewriteAll-order h ms b (mutations-ascend s ms e) o)
-
-pub commitAll-order : (h : Ending) (ks : List Key) (b : Box) → ascend (λ k. k) ks ≡ true → inOrder b ≡ true → inOrder (commitAll h ks b .box) ≡ true
-unfolding commitAll
-commitAll-order h ks b a o = settle-keeps InOrder (need (nonEmpty ks) 5 ▸ commitSteps h ks b) (applyCommits h ks b) b o (λ p. commits-order h ks b a (commit-steps h ks b (then-right (need (nonEmpty ks) 5) _ p) .1) o)
-
-pub commitBatch-order : (h : Ending) (s : Bytes) (b : Box) → inOrder b ≡ true → inOrder (commitBatch h s b .box) ≡ true
-unfolding commitBatch
-commitBatch-order h s b o = ofBatch-keeps InOrder (keys s) (commitAll h) b o (λ ks e. commitAll-order h ks b (keys-ascend s ks e) o)
-
-module _ (txn start : ℕ) where
-  pub rollbackAll-order : (ks : List Key) (b : Box) → inOrder b ≡ true → inOrder (rollbackAll txn start ks b .box) ≡ true
-  unfolding rollbackAll
-  rollbackAll-order ks b o = settle-keeps InOrder (need (nonEmpty ks) 5 ▸ rollbackSteps txn start ks b) (applyRollbacks start ks b) b o (λ p. rollbacks-order start ks b o)
-
-  pub rollbackBatch-order : (s : Bytes) (b : Box) → inOrder b ≡ true → inOrder (rollbackBatch txn start s b .box) ≡ true
-  unfolding rollbackBatch
-  rollbackBatch-order s b o = ofBatch-keeps InOrder (keys s) (rollbackAll txn start) b o (λ ks e. rollbackAll-order ks b o)
 
 -- what holds of the box as it came, and of the box of a first application, holds after a one-step call
 pub stepDone-keeps : (P : Box → Type 0) (h : Ending) (ms : List Mutation) (b : Box) → P b → (stepArguments h ms b ≡ Accepted → stepNew h ms b ≡ Accepted → P (applySteps h ms b)) → P (stepDone h ms b .box)
@@ -121,23 +68,6 @@ oneStep-keeps P h s b p q = go (mutations s) refl
     go : (o : Option (List Mutation)) → mutations s ≡ o → P (ofCounted o (stepAll h) b .done .box)
     go none e = p
     go (some ms) e = q ms e
-
-pub restore-keeps : (P : Box → Type 0) (s : Bytes) (b : Box) → P b → ((i : Image) → image s ≡ some i → restoreSteps i ≡ Accepted → P (boxOf i)) → P (restore s b .box)
-unfolding restore restoreTo
-restore-keeps P s b p q = go (image s) refl
-  where
-    go : (o : Option Image) → image s ≡ o → P (restoreTo o b .box)
-    go none e = p
-    go (some i) e = settle-keeps P (restoreSteps i) (boxOf i) b p (q i e)
-
-pub stepDone-order : (h : Ending) (ms : List Mutation) (b : Box) → ascend keyIn ms ≡ true → inOrder b ≡ true → inOrder (stepDone h ms b .box) ≡ true
-stepDone-order h ms b a o = stepDone-keeps InOrder h ms b o (λ v p. let q = step-new h ms b p in steps-order h ms b a (steps-check h b ms (q .0) (q .1)) o)
-
-pub oneStep-order : (h : Ending) (s : Bytes) (b : Box) → inOrder b ≡ true → inOrder (oneStep h s b .done .box) ≡ true
-oneStep-order h s b o = oneStep-keeps InOrder h s b o (λ ms e. stepDone-order h ms b (mutations-ascend s ms e) o)
-
-pub restore-order : (s : Bytes) (b : Box) → inOrder b ≡ true → inOrder (restore s b .box) ≡ true
-restore-order s b o = restore-keeps InOrder s b o (λ i e p. boxOf-order i (restore-steps i p .0))
 
 -- ---- the room
 
@@ -168,6 +98,3 @@ module _ (txn start : ℕ) where
 
 pub oneStep-room : (h : Ending) (s : Bytes) (b : Box) → roomFor b ≡ true → roomFor (oneStep h s b .done .box) ≡ true
 oneStep-room h s b r = oneStep-keeps HasRoom h s b r (λ ms e. stepDone-keeps HasRoom h ms b r (λ v p. step-new h ms b p .2))
-
-pub restore-room : (s : Bytes) (b : Box) → roomFor b ≡ true → roomFor (restore s b .box) ≡ true
-restore-room s b r = restore-keeps HasRoom s b r (λ i e p. restore-steps i p .1)

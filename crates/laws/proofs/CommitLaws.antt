@@ -94,21 +94,7 @@ pub commit-old : (h : Ending) (k : Key) (b : Box) (w : Record) → withStart (h 
 unfolding applyCommit commitTo
 commit-old h k b w e = rw e
 
--- "a record of the lock's start and kind, stamped with the commit, replaces the lock"
-pub commit-new : (h : Ending) (k : Key) (b : Box) (l : Lock) → withStart (h .start) (recordsOf k (b .lines)) ≡ none → lockOf k (b .lines) ≡ some l → applyCommit h k b ≡ committed h k l b
-unfolding applyCommit commitTo
-commit-new h k b l e f = rw (e, f)
-
 -- ---- other keys, and the rows of every key
-
-pub commit-defaults : (h : Ending) (k : Key) (b : Box) → applyCommit h k b .defaults ≡ b .defaults
-unfolding applyCommit commitTo
-commit-defaults h k b = go (withStart (h .start) (recordsOf k (b .lines))) (lockOf k (b .lines))
-  where
-    go : (f : Option Record) (o : Option Lock) → commitTo (h .commit) b k f o .defaults ≡ b .defaults
-    go (some w) o = refl
-    go none none = refl
-    go none (some l) = refl
 
 pub commit-only : (h : Ending) (t : ℕ) → batch.Only (λ (k : Key). k) t (applyCommit h)
 unfolding applyCommit commitTo

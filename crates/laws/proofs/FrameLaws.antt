@@ -1,7 +1,7 @@
 -- What two boxes show alike at a key, and what a line or a default that comes or goes leaves of other keys; the keys of a batch that ascends
 -- all differ. Assumes nothing.
 use Prim.Native.Nat.{ℕ}
-use mathlib.Core.Path.{_≡_, refl, sym, _∙_}
+use mathlib.Core.Path.{_≡_, refl, _∙_}
 use mathlib.Core.Bool.{Bool, true, false}
 use mathlib.Core.List.{List, [], _∷_}
 use mathlib.Core.Option.{Option, none, some}
@@ -26,9 +26,6 @@ same-refl b i s = record { records = refl; lock = refl; row = refl }
 
 pub same-trans : (b c d : Box) (i : Key) (s : ℕ) → Same b c i s → Same c d i s → Same b d i s
 same-trans b c d i s v w = record { records = w .records ∙ v .records; lock = w .lock ∙ v .lock; row = w .row ∙ v .row }
-
-pub same-sym : (b c : Box) (i : Key) (s : ℕ) → Same b c i s → Same c b i s
-same-sym b c i s v = record { records = sym (v .records); lock = sym (v .lock); row = sym (v .row) }
 
 -- ---- a change at another key
 

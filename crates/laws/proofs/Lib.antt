@@ -22,5 +22,4 @@ pub mod CallLaws
 pub mod Unrolled
 pub mod ReadLaws
 pub mod KeysLaws
-pub mod Members
 pub mod Singles

@@ -1,28 +1,26 @@
 -- The lines of a key stand together, its standing intent first and then its records by stamp, from the place `linesBefore k es` on. So what a
 -- lookup finds there is the key's lock and records, a lock goes from there, and a lock or a record that comes goes in there or past it.
 -- Assumes nothing.
-use Prim.Native.Nat.{ℕ, zero, suc, _+_, _≤_, _<_}
+use Prim.Native.Nat.{ℕ, zero, suc, _+_, _<_}
 use native.Mathlib.Omega.{arith}
 use mathlib.Core.Path.{_≡_, refl, ap, sym, _∙_, subst}
 use mathlib.Core.Bool.{Bool, true, false, false≢true}
 use mathlib.Core.List.{List, [], _∷_, _++_, map}
 use mathlib.Core.Option.{Option, none, some}
 use lib.Dec.{ltb}
-use lib.ListN.{length, take, drop, getD, length-map}
-use lib.Seq.{getD-drop, drop-cons}
-use borrow.Author.Tests.{le-ltb}
+use lib.ListN.{length, take, drop, getD}
+use lib.Seq.{getD-drop}
 use Rattle.forms.specs.Key.{Key}
 use Rattle.forms.specs.Bytes.{eqBytes, ltBytes}
 use Rattle.forms.proofs.Orders.{eqBytes-refl, eqBytes-true, eqBytes-sym, eqBytes-not-lt, ltBytes-not-eq, ltBytes-not-eq′, ltBytes-else}
 use Rattle.rules.specs.declared.records.Record.{Record}
 use Rattle.rules.specs.Box.{Lock, Line, Standing, Finished, KeyLine, recordsOf, addRecord, lockOf, addLock, lineBefore, before, insertLine, unlessLock, dropLock, ordered, allAfter}
-use Rattle.rules.specs.Calls.{allBelow, stampedAt}
 use Rattle.rules.specs.Read.{keepIf}
 use Rattle.rules.specs.Restore.{allGood}
 use Rattle.laws.specs.Places.{oneMore, howMany, those, linesBefore, finishedAt, linesOf, lockFirst, lockPlace}
 use Rattle.laws.proofs.StepLaws.{and-left, and-right}
-use Rattle.laws.proofs.Sorted.{ordered-first, ordered-rest, ordered-fewer, fewer-drop}
-use Rattle.laws.proofs.BoxOrder.{before-trans, before-irrefl, before-same, before-less, before-not-above, clear-lock, clear-record}
+use Rattle.laws.proofs.Sorted.{ordered-first, ordered-rest}
+use Rattle.laws.proofs.BoxOrder.{before-trans, before-irrefl, before-same, before-less, before-not-above, clear-lock}
 use Rattle.laws.proofs.KeyLaws.{lock-after, stampBefore}
 use Rattle.laws.proofs.PlaceLaws.{howMany-ext, those-hold, none-after, at-place, insert-place}
 use Rattle.laws.proofs.KeyPlaces.{below-down, from-key, past-key, key-split, ltBytes-lt-le}
@@ -66,11 +64,6 @@ key-lines-of k (f ∷ es) o = go (f .key) (f .line) (eqBytes k (f .key)) refl (o
         let n : lockOf k es ≡ none = lock-before k w es (at-key k j (Finished w) es e a) in
         ap (λ (es : List KeyLine). record { key = j; line = Finished w } ∷ es) (free n ih) ∙ first j (Finished w) e ∙ sym (ap (λ (o : Option Lock). linesOf k o (w ∷ recordsOf k es)) n)
 
-pub length-linesOf : (k : Key) (o : Option Lock) (ws : List Record) → length (linesOf k o ws) ≡ lockPlace o + length ws
-unfolding linesOf
-length-linesOf k none ws = length-map ws (finishedAt k) ∙ omega arith
-length-linesOf k (some l) ws = let e = length-map ws (finishedAt k) in omega arith
-
 module _ (k : Key) (es : List KeyLine) (o : ordered before es ≡ true) where
   -- from the key's place on: its lock, its records, and then lines of keys above
   pub lines-from : drop (linesBefore k es) es ≡ linesOf k (lockOf k es) (recordsOf k es) ++ those (λ (e : KeyLine). ltBytes k (e .key)) es
@@ -112,33 +105,6 @@ past-lines k e (f ∷ es) o h = go (past-lines k f es (ordered-rest before e (f 
     go p = (rw (ltBytes-not-eq k (e .key) h) (p .0), rw (ltBytes-not-eq k (e .key) h) (p .1))
 
 -- ---- a lookup
-
--- the lines before the key's place say nothing of it
-pub skip-lines : (k : Key) (es : List KeyLine) (i : ℕ) → ordered before es ≡ true → i ≤ linesBefore k es → (lockOf k (drop i es) ≡ lockOf k es) × (recordsOf k (drop i es) ≡ recordsOf k es)
-unfolding howMany lockOf recordsOf addLock addRecord
-skip-lines k es zero o h = (refl, refl)
-skip-lines k [] (suc i) o h = (refl, refl)
-skip-lines k (e ∷ es) (suc i) o h = go (ltBytes (e .key) k) refl h (λ g. skip-lines k es i (ordered-rest before e es o) g)
-  where
-    go : (t : Bool) → ltBytes (e .key) k ≡ t → suc i ≤ oneMore t (linesBefore k es) → (i ≤ linesBefore k es → (lockOf k (drop i es) ≡ lockOf k es) × (recordsOf k (drop i es) ≡ recordsOf k es))
-        → (lockOf k (drop i es) ≡ addLock (eqBytes k (e .key)) (e .line) (lockOf k es)) × (recordsOf k (drop i es) ≡ addRecord (eqBytes k (e .key)) (e .line) (recordsOf k es))
-    go true p g ih =
-        let n : eqBytes k (e .key) ≡ false = ltBytes-not-eq′ (e .key) k p in
-        let r = ih (omega arith) in
-        (rw n (r .0), rw n (r .1))
-    go false p g ih =
-        let z : linesBefore k es ≡ 0 = none-after before (λ (e : KeyLine). ltBytes (e .key) k) (below-down (λ (e : KeyLine). e .key) before before-not-above k) e es p (ordered-first before e es o) in
-        absurd (omega arith)
-
--- from the key's place on, the first line of another key ends its lines
-pub past-place : (k : Key) (es : List KeyLine) (i : ℕ) (d : KeyLine) → ordered before es ≡ true → linesBefore k es ≤ i → i < length es → eqBytes k (getD es i d .key) ≡ false
-    → (lockOf k (drop i es) ≡ none) × (recordsOf k (drop i es) ≡ [])
-past-place k es i d o h l n =
-    let b : ltBytes (getD es i d .key) k ≡ false = line-below k es o i d l ∙ le-ltb i (linesBefore k es) h in
-    let a : ltBytes k (getD es i d .key) ≡ true = ltBytes-else (getD es i d .key) k (eqBytes-sym (getD es i d .key) k ∙ n) b in
-    let e : drop i es ≡ getD es i d ∷ drop (suc i) es = drop-cons es i d l in
-    let q : ordered before (getD es i d ∷ drop (suc i) es) ≡ true = rw e at (ordered-fewer before (fewer-drop i es) o) in
-    rw e (past-lines k (getD es i d) (drop (suc i) es) q a)
 
 first-lock : (k : Key) (o : Option Lock) (ws : List Record) (rest : List KeyLine) → allGood (λ (e : KeyLine). ltBytes k (e .key)) rest ≡ true → o ≡ lockFirst k (linesOf k o ws ++ rest)
 unfolding lockFirst linesOf addLock allGood
@@ -272,17 +238,3 @@ record-place k w (e ∷ es) o = go (e .key) (e .line) (ltBytes (e .key) k) (eqBy
         more : (t : Bool) → oneMore t (howMany (λ y. before y (finishedAt k w)) es) ≡ linesBefore k es + (lockPlace (lockOf k es) + oneMore t (stampsBelow w (recordsOf k es)))
         more true = omega arith
         more false = ih
-
--- a record comes at its place
-pub record-comes : (k : Key) (w : Record) (es : List KeyLine) (n : ℕ) → ordered before es ≡ true → stampedAt (w .stamp) (recordsOf k es) ≡ none
-    → n ≡ linesBefore k es + (lockPlace (lockOf k es) + stampsBelow w (recordsOf k es))
-    → insertLine (finishedAt k w) es ≡ take n es ++ finishedAt k w ∷ drop n es
-record-comes k w es n o h e =
-    insert-place before before-trans before-irrefl (finishedAt k w) es (clear-record k w es h) o
-    ∙ ap (λ (n : ℕ). take n es ++ finishedAt k w ∷ drop n es) (record-place k w es o ∙ sym e)
-
--- a stamp above all others: past all the key's records
-pub stamps-all : (w : Record) (ws : List Record) → allBelow (w .stamp) ws ≡ true → stampsBelow w ws ≡ length ws
-unfolding allBelow howMany
-stamps-all w [] a = refl
-stamps-all w (v ∷ ws) a = rw (and-left (ltb (v .stamp) (w .stamp)) _ a) (ap suc (stamps-all w ws (and-right (ltb (v .stamp) (w .stamp)) _ a)))

@@ -49,15 +49,9 @@ none-plus a = load-eq (plus noLoad a) a (omega arith)
 pub plus-assoc : (a b c : Load) → plus (plus a b) c ≡ plus a (plus b c)
 plus-assoc a b c = load-eq (plus (plus a b) c) (plus a (plus b c)) (omega arith)
 
-pub plus-comm : (a b : Load) → plus a b ≡ plus b a
-plus-comm a b = load-eq (plus a b) (plus b a) (omega arith)
-
 -- what is left where a part is freed
 pub load-left : (a b f c : Load) → plus a b ≡ plus f c → c ≡ minus (plus a b) f
 load-left a b f c e = let p = load-fields e in load-eq c (minus (plus a b) f) (omega arith)
-
-pub load-less : (a f c : Load) → plus f c ≡ a → c ≡ minus a f
-load-less a f c e = let p = load-fields e in load-eq c (minus a f) (omega arith)
 
 -- one load is at most another
 pub record AtMost (a b : Load) : Type 0 where

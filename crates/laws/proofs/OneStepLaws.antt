@@ -3,14 +3,13 @@
 use Prim.Native.Nat.{ℕ}
 use native.Mathlib.Omega.{arith}
 use mathlib.Core.Path.{_≡_, refl, ap, sym, _∙_}
-use mathlib.Core.Logic.{inl, inr}
-use mathlib.Core.Bool.{Bool, true, false, _&&_}
+use mathlib.Core.Bool.{true, false, _&&_}
 use mathlib.Core.List.{List, [], _∷_, _++_}
 use mathlib.Core.Option.{Option, none, some}
 use lib.Dec.{eqb}
 use borrow.Author.Tests.{eqb-true}
 use Rattle.forms.specs.Bytes.{eqBytes}
-use Rattle.forms.specs.Key.{Key, keyForm}
+use Rattle.forms.specs.Key.{Key}
 use Rattle.forms.specs.Row.{Row}
 use Rattle.forms.specs.Batch.{Mutation, keyIn, ascend}
 use Rattle.rules.specs.declared.answers.Answer.{Answer}
@@ -20,12 +19,11 @@ use Rattle.rules.specs.Answers.{_▸_, need, needOwn}
 use Rattle.rules.specs.Box.{Box, Lock, Finished, KeyLine, Default, holderOf, recordsOf, lockOf, rowOf, insertBy, insertLine, insertDefault, dropLock, dropRow, inOrder, ordered, rowBefore}
 use Rattle.rules.specs.Room.{loadOf, fits, roomFor}
 use Rattle.rules.specs.Sound.{allSound}
-use Rattle.rules.specs.Calls.{kindOf, owns, allBelow, rowArgument, stampedAt, recordFor}
+use Rattle.rules.specs.Calls.{kindOf, owns, allBelow, stampedAt, recordFor}
 use Rattle.rules.specs.Commit.{Ending}
-use Rattle.rules.specs.OneStep.{argumentsStep, stepLock, stepEntry, stepEntries, newestStep, replaceIf, applyStep, applySteps}
+use Rattle.rules.specs.OneStep.{stepLock, stepEntry, stepEntries, newestStep, replaceIf, applyStep, applySteps}
 use Rattle.laws.specs.Adds.{plus, minus, sumLoads, recordLoad, rowLoad, ofRow, replacedBy, defaultsLoad, stepAdds, stepFrees}
 use Rattle.laws.proofs.StepLaws.{then-left, then-right, then-both, need-true, own-true, and-left, and-right, and-false}
-use Rattle.laws.proofs.Sorted.{In}
 use Rattle.laws.proofs.BoxOrder.{ordered-record, ordered-dropLock, ordered-default, ordered-dropRow, order-lines, order-defaults, in-order}
 use Rattle.laws.proofs.KeyLaws.{stampBefore, records-new, insert-last, records-dropLock, lock-record, lock-gone, row-new, row-gone, row-other, row-dropRow}
 use Rattle.laws.proofs.RecordLaws.{eqKind-true, below-stamped}
@@ -65,20 +63,7 @@ step-own h kind l p =
     let o : owns (h .txn) (h .start) l ≡ true = own-true _ _ (then-left _ _ p) in
     (eqb-true _ _ (and-left _ _ o), eqb-true _ _ (and-right (eqb (l .txn) (h .txn)) _ o), eqKind-true _ _ (need-true _ _ (then-right (needOwn (owns (h .txn) (h .start) l) (holderOf l)) _ p)))
 
-pub arguments-in : (ms : List Mutation) (m : Mutation) → argumentsStep ms ≡ Accepted → In m ms → (keyForm (m .key) ≡ true) × (rowArgument (m .row) ≡ true)
-unfolding argumentsStep
-arguments-in (n ∷ ms) m p (inl e) =
-    let p₁ = then-right (need (keyForm (n .key)) 1) _ p in
-    (ap (λ (z : Mutation). keyForm (z .key)) e ∙ need-true _ _ (then-left _ _ p), ap (λ (z : Mutation). rowArgument (z .row)) e ∙ need-true _ _ (then-left _ _ p₁))
-arguments-in (n ∷ ms) m p (inr q) = arguments-in ms m (then-right (need (rowArgument (n .row)) 2) _ (then-right (need (keyForm (n .key)) 1) _ p)) q
-
 -- ---- what an entry makes of the box
-
--- "Each entry gets a record of this start and its kind, stamped with the commit; ..; an own lock goes"
-pub step-is : (h : Ending) (m : Mutation) (b : Box)
-    → applyStep h m b ≡ record { lines = insertLine (record { key = m .key; line = Finished (recordFor (h .start) (h .commit) (kindOf (m .row))) }) (dropLock (m .key) (b .lines)); defaults = replaceIf (m .key) (h .start) (m .row) (b .defaults) }
-unfolding applyStep
-step-is h m b = refl
 
 pub replace-none : (k : Key) (s : ℕ) (row : Option Row) (ds : List Default) → row ≡ none → replaceIf k s row ds ≡ ds
 unfolding replaceIf
@@ -96,10 +81,6 @@ pub replace-other : (i k : Key) (t s : ℕ) (row : Option Row) (ds : List Defaul
 unfolding replaceIf
 replace-other i k t s none ds h = refl
 replace-other i k t s (some r) ds h = row-other i t (record { key = k; start = s; row = r }) (dropRow k s ds) h ∙ row-dropRow i t k s ds h
-
-pub step-rows : (h : Ending) (m : Mutation) (b : Box) (i : Key) (t : ℕ) → eqBytes i (m .key) && eqb t (h .start) ≡ false → rowOf i t (applyStep h m b .defaults) ≡ rowOf i t (b .defaults)
-unfolding applyStep
-step-rows h m b i t a = replace-other i (m .key) t (h .start) (m .row) (b .defaults) a
 
 pub step-only : (h : Ending) (t : ℕ) → batch.Only keyIn t (applyStep h)
 unfolding applyStep

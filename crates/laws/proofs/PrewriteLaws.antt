@@ -2,7 +2,7 @@
 -- it, and that it keeps the order. Assumes nothing.
 use Prim.Native.Nat.{ℕ}
 use mathlib.Core.Path.{_≡_, refl, ap, sym, _∙_}
-use mathlib.Core.Bool.{Bool, true, false, _&&_}
+use mathlib.Core.Bool.{true, false, _&&_}
 use mathlib.Core.List.{List, [], _∷_}
 use mathlib.Core.Option.{Option, none, some}
 use lib.Dec.{eqb}
@@ -16,11 +16,11 @@ use Rattle.rules.specs.declared.answers.Answer.the-variants.{Accepted}
 use Rattle.rules.specs.Answers.{need, needOwn}
 use Rattle.rules.specs.Box.{Box, Lock, Standing, Default, holderOf, recordsOf, lockOf, rowOf, inOrder, ordered, rowBefore, insertLine, insertDefault}
 use Rattle.rules.specs.Sound.{allSound}
-use Rattle.rules.specs.Calls.{kindOf, owns, allBelow, rowArgument, rowStands, sameRow}
+use Rattle.rules.specs.Calls.{kindOf, owns, allBelow, rowArgument, rowStands}
 use Rattle.rules.specs.Prewrite.{Head, lockStep, prewriteEntry, prewriteEntries, lockFor, sameLock, storeIf, lockLine, unlessLocked, applyPrewrite, applyPrewrites}
 use Rattle.laws.proofs.StepLaws.{then-left, then-right, need-true, own-true, and-left, and-right, none-there, and-false}
 use Rattle.laws.proofs.BoxOrder.{ordered-lock, ordered-default, order-lines, order-defaults, in-order}
-use Rattle.laws.proofs.KeyLaws.{lock-other, records-lock, lock-new, row-other, row-new}
+use Rattle.laws.proofs.KeyLaws.{lock-other, records-lock, lock-new, row-other}
 use Rattle.laws.proofs.FrameLaws.{Same, Apart}
 use Rattle.laws.proofs.RecordLaws.{eqKind-true}
 use Rattle.laws.proofs.BatchLaws as batch
@@ -145,23 +145,6 @@ prewrite-lock h b m p = go (lockOf (m .key) (b .lines)) refl (prewrite-passed h 
         → lockOf (m .key) (unlessLocked o (lockLine h m b) b .lines) ≡ some (lockFor h (kindOf (m .row)))
     go none e q = lock-new (m .key) (lockFor h (kindOf (m .row))) (b .lines) e
     go (some l) e q = e ∙ ap {B = Option Lock} some (own-lock h (m .row) _ l q)
-
-same-row : (r : Row) (stored : Option Row) → sameRow r stored ≡ true → stored ≡ some r
-same-row r none e = cc
-same-row r (some q) e = ap {B = Option Row} some (sym (eqBytes-true r q e))
-
-store-new : (k : Key) (s : ℕ) (row : Option Row) (r : Row) (ds : List Default) → row ≡ some r → rowOf k s ds ≡ none → rowOf k s (storeIf k s row ds) ≡ some r
-unfolding storeIf
-store-new k s none r ds e n = cc
-store-new k s (some q) r ds e n = row-new (record { key = k; start = s; row = q }) ds n ∙ e
-
-pub prewrite-row : (h : Head) (b : Box) (m : Mutation) (r : Row) → m .row ≡ some r → prewriteEntry h b m ≡ Accepted → rowOf (m .key) (h .start) (applyPrewrite h m b .defaults) ≡ some r
-unfolding applyPrewrite unlessLocked lockLine
-prewrite-row h b m r e p = go (lockOf (m .key) (b .lines)) (prewrite-passed h b m p .lock)
-  where
-    go : (o : Option Lock) → lockStep h (m .row) (rowOf (m .key) (h .start) (b .defaults)) o ≡ Accepted → rowOf (m .key) (h .start) (unlessLocked o (lockLine h m b) b .defaults) ≡ some r
-    go none q = store-new (m .key) (h .start) (m .row) r (b .defaults) e (free-row h (m .row) _ none q refl)
-    go (some l) q = same-row r _ (rw e at (own-row h (m .row) (rowOf (m .key) (h .start) (b .defaults)) l q))
 
 -- ---- the order
 

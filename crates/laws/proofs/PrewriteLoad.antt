@@ -8,14 +8,13 @@ use mathlib.Core.Option.{Option, none, some}
 use Rattle.forms.specs.Key.{Key}
 use Rattle.forms.specs.Row.{Row}
 use Rattle.forms.specs.Batch.{Mutation, keyIn, ascend}
-use Rattle.rules.specs.Answers.{need}
 use Rattle.rules.specs.Box.{Box, Lock, Standing, Default, lockOf, insertLine}
-use Rattle.rules.specs.Room.{loadOf, fits, roomFor}
+use Rattle.rules.specs.Room.{loadOf}
 use Rattle.rules.specs.Calls.{kindOf}
-use Rattle.rules.specs.Prewrite.{Head, lockFor, storeIf, lockLine, unlessLocked, applyPrewrite, applyPrewrites, prewriteRoom}
+use Rattle.rules.specs.Prewrite.{Head, lockFor, storeIf, lockLine, unlessLocked, applyPrewrite, applyPrewrites}
 use Rattle.laws.specs.Adds.{noLoad, plus, sumLoads, lockLoad, ofRow, defaultsLoad, prewriteAdds}
 use Rattle.laws.proofs.FrameLaws.{Same, ascend-apart, ascend-rest}
-use Rattle.laws.proofs.LoadLaws.{load-eq, load-fields, plus-none, none-plus, load-parts, lines-insert, defaults-insert, sums-same, AtMost, at-most-refl, at-most-trans, at-most-plus}
+use Rattle.laws.proofs.LoadLaws.{load-eq, load-fields, plus-none, none-plus, load-parts, lines-insert, defaults-insert, sums-same}
 use Rattle.laws.proofs.PrewriteLaws.{prewrite-only}
 
 pub store-load : (k : Key) (s : ℕ) (row : Option Row) (ds : List Default) → defaultsLoad (storeIf k s row ds) ≡ plus (ofRow k row) (defaultsLoad ds)
@@ -54,14 +53,3 @@ prewrites-load h (m ∷ ms) b a =
     let e = load-fields (prewrite-load h m b) in
     let f = load-fields (sums-same keyIn (h .start) (prewriteAdds h) (prewriteAdds-same h) (m .key) ms b (applyPrewrite h m b) (ascend-apart keyIn m ms a) (prewrite-only h (h .start) m b)) in
     load-eq (loadOf (applyPrewrites h ms (applyPrewrite h m b))) (plus (loadOf b) (plus (prewriteAdds h b m) (sumLoads (prewriteAdds h b) ms))) (omega arith)
-
--- "Then 11", told from the box as it came
-pub prewrite-room : (h : Head) (ms : List Mutation) (b : Box) → ascend keyIn ms ≡ true → prewriteRoom h ms b ≡ need (fits (plus (loadOf b) (sumLoads (prewriteAdds h b) ms))) 11
-unfolding prewriteRoom roomFor
-prewrite-room h ms b a = rw (prewrites-load h ms b a)
-
--- a prewrite never makes less
-pub prewrites-more : (h : Head) (ms : List Mutation) (b : Box) → AtMost (loadOf b) (loadOf (applyPrewrites h ms b))
-unfolding applyPrewrites
-prewrites-more h [] b = at-most-refl (loadOf b)
-prewrites-more h (m ∷ ms) b = at-most-trans (at-most-plus (loadOf b) _ (loadOf (applyPrewrite h m b)) (prewrite-load h m b)) (prewrites-more h ms (applyPrewrite h m b))

@@ -21,7 +21,7 @@ use Rattle.rules.specs.Commit.{withStart}
 use Rattle.rules.specs.Rollback.{rollbackRecords}
 use Rattle.rules.specs.Restore.{allGood}
 use Rattle.laws.proofs.StepLaws.{then-left, then-right, need-true, and-left, and-right, and-both}
-use Rattle.laws.proofs.Sorted.{In, all-insert}
+use Rattle.laws.proofs.Sorted.{In}
 use Rattle.laws.proofs.BoxOrder.{not-found}
 use Rattle.laws.proofs.KeyLaws.{stampBefore}
 
@@ -37,11 +37,6 @@ eqKind-true Delete Rollback e = cc
 eqKind-true Rollback Put e = cc
 eqKind-true Rollback Delete e = cc
 eqKind-true Rollback Rollback e = refl
-
-pub eqKind-refl : (k : Kind) → eqKind k k ≡ true
-eqKind-refl Put = refl
-eqKind-refl Delete = refl
-eqKind-refl Rollback = refl
 
 -- ---- one sound record
 
@@ -75,9 +70,6 @@ pub sound-in : (ws : List Record) (w : Record) → allSound ws ≡ true → In w
 unfolding allSound
 sound-in (v ∷ ws) w a (inl e) = ap soundRecord e ∙ and-left _ (allSound ws) a
 sound-in (v ∷ ws) w a (inr m) = sound-in ws w (and-right (soundRecord v) _ a) m
-
-pub sound-insert : (w : Record) (ws : List Record) → soundRecord w ≡ true → allSound ws ≡ true → allSound (insertBy stampBefore w ws) ≡ true
-sound-insert w ws h a = sound-all (insertBy stampBefore w ws) ∙ all-insert stampBefore w soundRecord ws h (sym (sound-all ws) ∙ a)
 
 pub below-in : (s : ℕ) (ws : List Record) (w : Record) → allBelow s ws ≡ true → In w ws → w .stamp < s
 unfolding allBelow
@@ -142,13 +134,6 @@ stamped-none s (v ∷ ws) w n (inl e) q =
     let p = not-found (eqb s (v .stamp)) v (stampedAt s ws) n in
     eqb-false s (v .stamp) (p .0) (sym q ∙ ap (λ (z : Record). z .stamp) e)
 stamped-none s (v ∷ ws) w n (inr m) q = stamped-none s ws w (not-found (eqb s (v .stamp)) v (stampedAt s ws) n .1) m q
-
-pub started-none : (s : ℕ) (ws : List Record) (w : Record) → withStart s ws ≡ none → In w ws → w .start ≡ s → ⊥
-unfolding withStart
-started-none s (v ∷ ws) w n (inl e) q =
-    let p = not-found (eqb s (v .start)) v (withStart s ws) n in
-    eqb-false s (v .start) (p .0) (sym q ∙ ap (λ (z : Record). z .start) e)
-started-none s (v ∷ ws) w n (inr m) q = started-none s ws w (not-found (eqb s (v .start)) v (withStart s ws) n .1) m q
 
 -- a record that has come is found by its stamp
 pub stamped-new : (w : Record) (ws : List Record) → stampedAt (w .stamp) ws ≡ none → stampedAt (w .stamp) (insertBy stampBefore w ws) ≡ some w

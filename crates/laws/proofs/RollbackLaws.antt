@@ -8,7 +8,6 @@ use mathlib.Core.List.{List, [], _∷_}
 use mathlib.Core.Option.{Option, none, some}
 use lib.Dec.{eqb}
 use borrow.Author.Tests.{eqb-true}
-use Rattle.forms.specs.Bytes.{eqBytes}
 use Rattle.forms.specs.Key.{Key, keyForm}
 use Rattle.forms.specs.Row.{Row}
 use Rattle.forms.specs.Readers.{isSome}
@@ -19,17 +18,17 @@ use Rattle.rules.specs.declared.records.Record.{Record}
 use Rattle.rules.specs.declared.room.Load.{Load}
 use Rattle.rules.specs.Answers.{_▸_, need, needOwn}
 use Rattle.rules.specs.Box.{Box, Lock, Finished, KeyLine, holderOf, recordsOf, lockOf, rowOf, eqKind, insertBy, insertLine, dropLock, dropRow, inOrder}
-use Rattle.rules.specs.Room.{loadOf, fits, roomFor}
+use Rattle.rules.specs.Room.{loadOf}
 use Rattle.rules.specs.Calls.{owns, lockAt, kindReady, stampedAt, recordFor}
 use Rattle.rules.specs.Commit.{withStart}
-use Rattle.rules.specs.Rollback.{rollbackRecords, rollbackLock, rollbackStep, rollbackKey, rollbackKeys, rollbackTo, applyRollback, applyRollbacks, rollbackRoom}
-use Rattle.laws.specs.Adds.{plus, minus, sumLoads, recordLoad, ofLock, ofRow, ifNew, rollbackAdds, rollbackFrees}
+use Rattle.rules.specs.Rollback.{rollbackRecords, rollbackLock, rollbackStep, rollbackKey, rollbackKeys, rollbackTo, applyRollback, applyRollbacks}
+use Rattle.laws.specs.Adds.{plus, sumLoads, recordLoad, ofLock, ofRow, ifNew, rollbackAdds, rollbackFrees}
 use Rattle.laws.proofs.StepLaws.{then-left, then-right, need-true, own-true, and-left, and-right, not-true, or-false-left, or-false-right, is-none, none-there}
 use Rattle.laws.proofs.BoxOrder.{ordered-record, ordered-dropLock, ordered-dropRow, order-lines, order-defaults, in-order}
-use Rattle.laws.proofs.KeyLaws.{stampBefore, records-new, records-dropLock, lock-record, lock-gone, row-gone, row-dropRow}
+use Rattle.laws.proofs.KeyLaws.{stampBefore, records-new, records-dropLock, lock-record, lock-gone, row-gone}
 use Rattle.laws.proofs.RecordLaws.{eqKind-true, rollback-started, stamped-new}
-use Rattle.laws.proofs.FrameLaws.{Same, same-refl, same-replace, same-dropRow, same-parts, Apart}
-use Rattle.laws.proofs.LoadLaws.{load-eq, load-fields, plus-none, none-plus, load-parts, load-left, lines-insert, lines-dropLock, defaults-dropRow, batch-load}
+use Rattle.laws.proofs.FrameLaws.{Same, same-refl, same-replace, same-dropRow, same-parts}
+use Rattle.laws.proofs.LoadLaws.{load-eq, load-fields, plus-none, none-plus, load-parts, lines-insert, lines-dropLock, defaults-dropRow, batch-load}
 use Rattle.laws.proofs.BatchLaws as batch
 
 -- the box where a key's start is rolled back
@@ -115,14 +114,6 @@ rollback-only start t k b i a = go (stampedAt start (recordsOf k (b .lines)))
     go none =
         same-parts b (record { lines = insertLine x (dropLock k (b .lines)); defaults = b .defaults }) (record { lines = b .lines; defaults = dropRow k start (b .defaults) }) i t
         (same-replace b i t k x a a) (same-dropRow b i t k start a)
-
-pub rollback-rows : (start : ℕ) (k : Key) (b : Box) (i : Key) (t : ℕ) → eqBytes i k && eqb t start ≡ false → rowOf i t (applyRollback start k b .defaults) ≡ rowOf i t (b .defaults)
-unfolding applyRollback rollbackTo
-rollback-rows start k b i t a = go (stampedAt start (recordsOf k (b .lines)))
-  where
-    go : (f : Option Record) → rowOf i t (rollbackTo start b k f .defaults) ≡ rowOf i t (b .defaults)
-    go (some w) = refl
-    go none = row-dropRow i t k start (b .defaults) a
 
 pub rollback-depends : (txn start : ℕ) → batch.Depends (λ (k : Key). k) start (rollbackKey txn start)
 unfolding rollbackKey
@@ -216,14 +207,6 @@ module _ (txn start : ℕ) where
       → (ks : List Key) (b : Box) → ascend (λ k. k) ks ≡ true → rollbackKeys txn start b ks ≡ Accepted → P b → P (applyRollbacks start ks b)
   rollbacks-keep P step ks b a p v = rollbacks-log (λ c done. P c) (λ k c done. step k c) ks b [] a p v
 
-pub rollbacks-order : (start : ℕ) (ks : List Key) (b : Box) → inOrder b ≡ true → inOrder (applyRollbacks start ks b) ≡ true
-unfolding applyRollbacks
-rollbacks-order start [] b o = o
-rollbacks-order start (k ∷ ks) b o = rollbacks-order start ks (applyRollback start k b) (rollback-order start k b o)
-
-pub rollbacks-other : (start t : ℕ) (i : Key) (ks : List Key) (b : Box) → Apart (λ k. k) i ks → Same b (applyRollbacks start ks b) i t
-rollbacks-other start t i ks b f = rw (applyRollbacks-all start ks b) (batch.batch-other (λ (k : Key). k) t (applyRollback start) (rollback-only start t) i ks b f)
-
 -- the box that the whole batch leaves, from the box as it came
 pub rollbacks-load : (start : ℕ) (ks : List Key) (b : Box) → ascend (λ k. k) ks ≡ true → inOrder b ≡ true
     → plus (loadOf b) (sumLoads (rollbackAdds start b) ks) ≡ plus (sumLoads (rollbackFrees start b) ks) (loadOf (applyRollbacks start ks b))
@@ -232,9 +215,3 @@ rollbacks-load start ks b a o =
     rw (applyRollbacks-all start ks b)
     (batch-load (λ (k : Key). k) start (λ c k. Accepted) (λ c d k v. refl) (applyRollback start) (rollback-only start start) (rollbackAdds start) (rollbackFrees start)
     (rollbackAdds-same start) (rollbackFrees-same start) (λ c. inOrder c ≡ true) (λ k c p. rollback-order start k c) (λ k c p. rollback-load start k c) ks b a (batch.checkAll-free ks b) o)
-
--- "Then 11", told from the box as it came
-pub rollback-room : (start : ℕ) (ks : List Key) (b : Box) → ascend (λ k. k) ks ≡ true → inOrder b ≡ true
-    → rollbackRoom start ks b ≡ need (fits (minus (plus (loadOf b) (sumLoads (rollbackAdds start b) ks)) (sumLoads (rollbackFrees start b) ks))) 11
-unfolding rollbackRoom roomFor
-rollback-room start ks b a o = ap (λ (l : Load). need (fits l) 11) (load-left _ _ _ _ (rollbacks-load start ks b a o))

@@ -12,15 +12,13 @@ use Rattle.forms.specs.Key.{Key}
 use Rattle.forms.specs.Batch.{Mutation, mutations, keys}
 use Rattle.rules.specs.declared.answers.Answer.{Answer}
 use Rattle.rules.specs.declared.answers.Answer.the-variants.{Accepted, No, Held}
-use Rattle.rules.specs.Answers.{_▸_, need, Reply, refused, ifPassed}
+use Rattle.rules.specs.Answers.{_▸_, need}
 use Rattle.rules.specs.Box.{Box}
 use Rattle.rules.specs.Calls.{Done, settle, ofBatch, nonEmpty}
 use Rattle.rules.specs.Prewrite.{Head, prewriteAll, prewriteBatch, prewriteSteps, applyPrewrites}
 use Rattle.rules.specs.Commit.{Ending, commitAll, commitBatch, commitSteps, applyCommits}
 use Rattle.rules.specs.Rollback.{rollbackAll, rollbackBatch, rollbackSteps, applyRollbacks}
 use Rattle.rules.specs.OneStep.{oneStep, stepAll, stepDone, stepApplied, thenApplied, ofCounted, countIf, stepArguments, allApplied, someApplied, stepNew, applySteps}
-use Rattle.rules.specs.Image.{Image, image}
-use Rattle.rules.specs.Restore.{restore, restoreTo, restoreSteps, boxOf}
 
 -- ---- settle, ofBatch, ifPassed
 
@@ -33,10 +31,6 @@ settle-answer (Held o) new old = refl
 pub settle-new : (a : Answer) (new old : Box) → a ≡ Accepted → settle a new old ≡ record { answer = Accepted; box = new }
 unfolding settle
 settle-new a new old e = rw e
-
-pub settle-no : (n : ℕ) (a : Answer) (new old : Box) → a ≡ No n → settle a new old ≡ record { answer = No n; box = old }
-unfolding settle
-settle-no n a new old e = rw e
 
 pub settle-old : (a : Answer) (new old : Box) → (a ≡ Accepted → ⊥) → settle a new old ≡ record { answer = a; box = old }
 unfolding settle
@@ -75,16 +69,6 @@ ofBatch-some o call b xs e = rw e
 pub ofBatch-none : {A : Type 0} (o : Option (List A)) (call : List A → Box → Done) (b : Box) → o ≡ none → ofBatch o call b ≡ record { answer = No 6; box = b }
 unfolding ofBatch
 ofBatch-none o call b e = rw e
-
-pub passed-reply : {A : Type 0} (a : Answer) (r : Reply A) → a ≡ Accepted → ifPassed a r ≡ r
-unfolding ifPassed
-passed-reply a r e = rw e
-
-pub refused-reply : {A : Type 0} (a : Answer) (r : Reply A) → (a ≡ Accepted → ⊥) → ifPassed a r ≡ refused a
-unfolding ifPassed
-refused-reply Accepted r n = absurd (n refl)
-refused-reply (No m) r n = refl
-refused-reply (Held o) r n = refl
 
 -- ---- each changing call: a refusal leaves the box
 
@@ -159,23 +143,3 @@ oneStep-refused h s b = go (mutations s)
     go : (o : Option (List Mutation)) → (ofCounted o (stepAll h) b .done .answer ≡ Accepted → ⊥) → ofCounted o (stepAll h) b .count ≡ 0
     go none r = refl
     go (some ms) r = refused-zero (stepDone h ms b .answer) (length ms) r
-
-pub oneStep-count : (h : Ending) (s : Bytes) (b : Box) (ms : List Mutation) → mutations s ≡ some ms → oneStep h s b .done .answer ≡ Accepted → oneStep h s b .count ≡ length ms
-unfolding oneStep ofCounted stepAll countIf
-oneStep-count h s b ms e = go (mutations s) e
-  where
-    go : (o : Option (List Mutation)) → o ≡ some ms → ofCounted o (stepAll h) b .done .answer ≡ Accepted → ofCounted o (stepAll h) b .count ≡ length ms
-    go none q a = cc
-    go (some ns) q a =
-        let p : ns ≡ ms = cc in
-        ap (λ (x : Answer). countIf x (length ns)) a ∙ ap length p
-
--- ---- restore
-
-pub restore-leaves : (s : Bytes) (b : Box) → Leaves b (restore s b)
-unfolding restore restoreTo
-restore-leaves s b = go (image s)
-  where
-    go : (o : Option Image) → Leaves b (restoreTo o b)
-    go none = λ n. refl
-    go (some i) = settle-leaves (restoreSteps i) (boxOf i) b

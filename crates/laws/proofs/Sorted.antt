@@ -6,7 +6,7 @@ use mathlib.Core.Path.{_≡_, refl, ap, sym, _∙_}
 use mathlib.Core.Logic.{_⊎_, inl, inr}
 use mathlib.Core.Bool.{Bool, true, false, true≢false}
 use mathlib.Core.List.{List, [], _∷_}
-use lib.ListN.{length, take, drop}
+use lib.ListN.{length, drop}
 use Rattle.rules.specs.Box.{allAfter, ordered, putIn, insertBy}
 use Rattle.rules.specs.Room.{sumOf}
 use Rattle.rules.specs.Restore.{allGood}
@@ -27,25 +27,10 @@ pub fewer-all : {A : Type 0} (xs : List A) → Fewer xs xs
 fewer-all [] = empty
 fewer-all (x ∷ xs) = kept (fewer-all xs)
 
-pub fewer-in : {A : Type 0} {ys xs : List A} → Fewer ys xs → (z : A) → In z ys → In z xs
-fewer-in empty z h = h
-fewer-in (gone p) z h = inr (fewer-in p z h)
-fewer-in (kept p) z (inl e) = inl e
-fewer-in (kept p) z (inr h) = inr (fewer-in p z h)
-
 pub fewer-drop : {A : Type 0} (n : ℕ) (xs : List A) → Fewer (drop n xs) xs
 fewer-drop zero xs = fewer-all xs
 fewer-drop (suc n) [] = empty
 fewer-drop (suc n) (x ∷ xs) = gone (fewer-drop n xs)
-
-pub fewer-take : {A : Type 0} (n : ℕ) (xs : List A) → Fewer (take n xs) xs
-fewer-take zero xs = fewer-none xs
-  where
-    fewer-none : {A : Type 0} (xs : List A) → Fewer [] xs
-    fewer-none [] = empty
-    fewer-none (x ∷ xs) = gone (fewer-none xs)
-fewer-take (suc n) [] = empty
-fewer-take (suc n) (x ∷ xs) = kept (fewer-take n xs)
 
 -- ---- one more, at its place
 

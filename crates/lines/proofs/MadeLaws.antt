@@ -3,27 +3,21 @@
 -- Assumes nothing.
 use Prim.Native.Nat.{ℕ, zero, suc, _<_}
 use native.Mathlib.Omega.{arith}
-use mathlib.Core.Path.{_≡_, refl, sym, ap, _∙_}
-use mathlib.Core.Bool.{Bool, true, false}
+use mathlib.Core.Path.{_≡_, sym, ap, _∙_}
+use mathlib.Core.Bool.{Bool, true}
 use mathlib.Core.List.{List, [], _∷_}
 use lib.ListN.{length, getD}
 use Rattle.seqs.proofs.Tables.{shown-length, shown-at}
 use Rattle.forms.specs.Bytes.{Bytes}
-use Rattle.forms.specs.Key.{Key, keyForm}
-use Rattle.rules.specs.declared.records.Kind.{Kind}
-use Rattle.rules.specs.declared.records.Kind.the-variants.{Put, Delete, Rollback}
-use Rattle.rules.specs.declared.records.Record.{Record}
+use Rattle.forms.specs.Key.{keyForm}
 use Rattle.rules.specs.Box as box
-use Rattle.rules.specs.Read.{walk, oneRecord, showRow}
 use Rattle.rules.specs.Restore.{allGood}
 use Rattle.rules.specs.Room.{fits, roomFor}
-use Rattle.rules.specs.Sound.{soundRecord}
 use Rattle.rules.proofs.RoomLaws.{fits-out, fits-in}
 use Rattle.laws.proofs.StepLaws.{and-left, and-right}
 use Rattle.lines.specs.declared.store.Store.{Store}
 use Rattle.lines.specs.View.{keyOf, lineOf, defaultOf, boxOf, noSlot, noHeld}
 use Rattle.lines.specs.Made.{Built, Made}
-use Rattle.lines.specs.Looks.{sees, seesIf, rowSeen}
 
 -- ---- room
 
@@ -61,16 +55,3 @@ module _ {st : Store} {area : Bytes} (b : Built st area) (i : ℕ) where
   default-key h =
       sym (ap (λ (d : box.Default). keyForm (d .key)) (shown-at (b .defaults) (defaultOf area) i h))
       ∙ good-at (λ (d : box.Default). keyForm (d .key)) (boxOf st area .defaults) i (defaultOf area noHeld) (omega (arith, shown-length (b .defaults) (defaultOf area))) (b .kept .keys .defaults)
-
--- ---- a read
-
-pub walk-sees : (k : Key) (ds : List box.Default) (ws : List Record) → walk k ds ws ≡ rowSeen k ds (sees ws)
-unfolding walk sees oneRecord
-walk-sees k ds [] = refl
-walk-sees k ds (w ∷ ws) = go (soundRecord w) (w .kind) (walk-sees k ds ws)
-  where
-    go : (b : Bool) (kind : Kind) → walk k ds ws ≡ rowSeen k ds (sees ws) → oneRecord b kind (showRow (box.rowOf k (w .start) ds)) (walk k ds ws) ≡ rowSeen k ds (seesIf b kind (w .start) (sees ws))
-    go true Put h = refl
-    go true Delete h = refl
-    go true Rollback h = h
-    go false kind h = refl

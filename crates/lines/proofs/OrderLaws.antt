@@ -1,21 +1,20 @@
 -- Lines and defaults in order, from a place on: what is not below a key stays so, and what is past a key or a pair says nothing of it.
 -- Assumes nothing.
-use Prim.Native.Nat.{ℕ, zero, suc}
+use Prim.Native.Nat.{ℕ, suc}
 use mathlib.Core.Path.{_≡_, refl, sym, ap, ap₂, _∙_}
-use mathlib.Core.Bool.{Bool, true, false, _&&_, true≢false, and-comm}
+use mathlib.Core.Bool.{Bool, true, false, _&&_, true≢false}
 use mathlib.Core.List.{List, [], _∷_}
-use mathlib.Core.Option.{Option, none, some}
+use mathlib.Core.Option.{none}
 use lib.Dec.{eqb}
 use lib.ListN.{drop}
 use borrow.Author.Tests.{eqb-true, eqb-false, eq-eqb, ne-eqb}
 use Rattle.seqs.specs.Tables.{All, leading, moreIf}
 use Rattle.seqs.proofs.Leading.{leading-none}
 use Rattle.seqs.proofs.Alls.{all-weaken}
-use Rattle.forms.specs.Bytes.{Bytes, eqBytes, ltBytes}
+use Rattle.forms.specs.Bytes.{eqBytes, ltBytes}
 use Rattle.forms.specs.Key.{Key}
-use Rattle.forms.proofs.Orders.{eqBytes-sym, eqBytes-refl, ltBytes-else, ltBytes-le-lt, ltBytes-not-eq, ltBytes-asym, ltBytes-less}
+use Rattle.forms.proofs.Orders.{eqBytes-sym, ltBytes-else, ltBytes-le-lt, ltBytes-not-eq}
 use Rattle.rules.specs.Box as box
-use Rattle.rules.specs.declared.records.Record.{Record}
 use Rattle.laws.proofs.StepLaws.{and-left, and-right, and-both}
 use Rattle.laws.proofs.Sorted.{fewer-drop, ordered-fewer, ordered-first, ordered-rest, after-down}
 use Rattle.laws.proofs.BoxOrder.{before-not-above, before-trans, before-irrefl, rowBefore-irrefl, rowBefore-trans, rowBefore-else, rowBefore-apart}

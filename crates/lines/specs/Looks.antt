@@ -12,17 +12,16 @@ use Rattle.forms.specs.Key.{Key}
 use Rattle.forms.specs.Row.{Row}
 use Rattle.forms.specs.Readers.{when}
 use Rattle.rules.specs.declared.answers.Answer.{Answer}
-use Rattle.rules.specs.declared.answers.Answer.the-variants.{No}
 use Rattle.rules.specs.declared.records.Kind.{Kind}
 use Rattle.rules.specs.declared.records.Kind.the-variants.{Put, Delete, Rollback}
 use Rattle.rules.specs.declared.records.Record.{Record}
-use Rattle.rules.specs.Answers.{_▸_, need, Reply, nothing, refused}
+use Rattle.rules.specs.Answers.{_▸_, need}
 use Rattle.rules.specs.Box as box
 use Rattle.rules.specs.Sound.{soundRecord, allSound}
 use Rattle.rules.specs.Calls.{allBelow, stampedAt, recordFor}
 use Rattle.rules.specs.Commit.{withStart}
 use Rattle.rules.specs.Rollback.{rollbackRecords}
-use Rattle.rules.specs.Read.{newestFirst, showRow}
+use Rattle.rules.specs.Read.{newestFirst}
 use Rattle.laws.specs.Places.{howMany, linesBefore, pairsBefore, finishedAt}
 use Rattle.lines.specs.View.{lockIn, boxOf}
 use Rattle.lines.specs.Made.{Built}
@@ -78,12 +77,6 @@ seesIf false kind start older = newest.Unsound
 unfoldable pub sees : List Record → Newest
 sees [] = newest.Nothing
 sees (w ∷ ws) = seesIf (soundRecord w) (w .kind) (w .start) (sees ws)
-
--- what a read answers then: "Put, its default must exist and decode (9), shown"
-abbrev pub rowSeen : Key → List box.Default → Newest → Reply Row
-rowSeen k ds newest.Nothing = nothing
-rowSeen k ds newest.Unsound = refused (No 9)
-rowSeen k ds (newest.Row start) = showRow (box.rowOf k start ds)
 
 unfoldable pub historyOf : ℕ → ℕ → List Record → History
 historyOf start stamp ws = record {

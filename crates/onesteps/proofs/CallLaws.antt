@@ -1,30 +1,34 @@
 -- The ways out of `commit_batch`: "6; 3; each entry in turn 1, 2", what the checks decide, and the applied batch.
 -- Assumes nothing.
-use Prim.Native.Nat.{ℕ, _≤_}
+use Prim.Native.Nat.{ℕ, _+_, _≤_, _<_}
 use native.Mathlib.Omega.{arith}
 use mathlib.Core.Path.{_≡_, refl, sym, ap, _∙_, subst}
-use mathlib.Core.Bool.{Bool, true, false, not}
-use mathlib.Core.List.{List}
-use mathlib.Core.Option.{Option, some}
-use lib.ListN.{length}
-use borrow.Author.Tests.{not-true, not-false}
+use mathlib.Core.Bool.{true, false, not}
+use mathlib.Core.List.{List, [], _∷_}
+use mathlib.Core.Option.{Option}
+use lib.ListN.{length, getD, length-append}
+use Rattle.seqs.specs.Tables.{shown}
+use Rattle.seqs.proofs.Tables.{shown-length}
 use Rattle.forms.specs.Bytes.{Bytes}
-use Rattle.forms.specs.Readers.{isSome}
-use Rattle.forms.specs.Batch.{Mutation, keyIn, mutation, mutations}
-use Rattle.forms.specs.Places.{ahead, firstOf}
-use Rattle.forms.specs.declared.batch.Cursor.{Cursor}
-use Rattle.forms.proofs.BatchLaws.{Judged, mutations-judged, ahead-length}
+use Rattle.forms.specs.Batch.{Mutation, keyIn, ascend, mutations}
+use Rattle.forms.specs.Places.{mutationOf, noEntry, Decoded}
+use Rattle.forms.specs.declared.batch.Entry.{Entry}
+use Rattle.forms.specs.declared.batch.Entries.{Entries}
+use Rattle.forms.proofs.BatchLaws.{decoded-bad, decoded-good, mutations-in-form, mutations-by-keys}
 use Rattle.rules.specs.declared.answers.Answer.{Answer}
 use Rattle.rules.specs.declared.answers.Answer.the-variants.{Accepted, No, Held}
 use Rattle.rules.specs.Answers.{_▸_, need}
 use Rattle.rules.specs.Box as box
 use Rattle.rules.specs.Room.{loadOf}
-use Rattle.rules.specs.Calls.{Done}
+use Rattle.rules.specs.Calls.{Done, kindOf, recordFor}
 use Rattle.rules.specs.Commit.{Ending, endingStep}
-use Rattle.rules.specs.OneStep.{Counted, argumentsStep, noneOther, allApplied, applySteps, stepNew, stepApplied, stepArguments, thenApplied, countIf, stepDone, stepAll, ofCounted, oneStep}
-use Rattle.laws.proofs.StepLaws.{is-none}
+use Rattle.rules.specs.OneStep.{Counted, argumentsStep, noneOther, allApplied, applyStep, applySteps, stepNew, stepApplied, stepArguments, thenApplied, countIf, stepDone, stepAll, ofCounted, oneStep}
+use Rattle.laws.proofs.StepLaws.{then-left}
 use Rattle.laws.proofs.ChainLaws.{call-on}
 use Rattle.laws.proofs.CallLaws.{step-new}
+use Rattle.laws.proofs.FrameLaws.{ascend-apart}
+use Rattle.laws.proofs.BatchLaws.{checkAll}
+use Rattle.laws.proofs.OneStepLaws.{stepCheck, step-passed, step-records, steps-other}
 use Rattle.lines.specs.declared.store.Store.{Store}
 use Rattle.lines.specs.declared.places.FoundRow.{FoundRow}
 use Rattle.lines.specs.declared.keys.Looked.{Looked}
@@ -32,20 +36,17 @@ use Rattle.lines.specs.View.{boxOf}
 use Rattle.lines.specs.Made.{Made}
 use Rattle.lines.proofs.MadeLaws.{made-room}
 use Rattle.areas.specs.Packs.{Placed}
-use Rattle.calls.specs.Keeps.{Kept}
+use Rattle.calls.specs.Walks.{noLook, noFound, LookedAll, RowsFound}
 use Rattle.calls.proofs.SettledLaws.{then-refused, settled-same, settled-new}
-use Rattle.surveys.specs.declared.cuts.Cut.{Cut}
-use Rattle.surveys.specs.Surveys.{LookedAll, RowsFound}
-use Rattle.surveys.proofs.CutLaws.{KeptCuts}
-use Rattle.stepchecks.specs.Checks.{noLooked, noFound}
 use Rattle.stepchecks.specs.Verdicts.{JudgeAsks, laterDone, Fresh, Decided}
+use Rattle.stepchecks.specs.declared.verdict.Room.{Room}
 use Rattle.stepchecks.specs.declared.verdict.Verdict.{Verdict}
+use Rattle.stepchecks.specs.declared.verdict.Verdict.the-variants.{Stays, Applies}
 use Rattle.onesteps.specs.Writes.{SpotAt, RowAt}
 use Rattle.onesteps.specs.Applies.{ApplyAsks, Shows}
-use Rattle.onesteps.specs.Counts.{Counts, AllAsks, laterCounted}
+use Rattle.onesteps.specs.Counts.{Counts, StepAsks, laterCounted}
 use Rattle.onesteps.specs.declared.batch.Stepped.{Stepped}
-use Rattle.onesteps.proofs.SpotLaws.{surveyed, new-checks, spots-are, rows-are}
-use Rattle.onesteps.proofs.ApplyLaws.{steps-differ}
+use Rattle.onesteps.proofs.SpotLaws.{new-checks, spots-are, rows-are}
 
 -- nothing has changed
 counts-same : {st : Store} {area : Bytes} {d : Counted} {a : Answer} {n : ℕ} → Made st area → d ≡ record { done = record { answer = a; box = boxOf st area }; count = n } → Counts st area d (record { store = st; answer = a; count = n }) area
@@ -53,27 +54,23 @@ counts-same m e = record { settled = settled-same m (ap (λ (x : Counted). x .do
 
 -- ---- "6; 3; each entry in turn 1, 2"
 
--- a mutation batch in form, and its first cursor
-pub batch-here : (s : Bytes) {f : Bool} → f ≡ isSome (mutations s) → not f ≡ false → {c : Cursor} → c ≡ firstOf s → Judged keyIn mutation s (mutations s) c
-batch-here s {f} e n q = mutations-judged s q (sym (not-false f n) ∙ e)
-
 out-counted : (v : Answer) (b : box.Box) (d : Done) (n : ℕ) → (v ≡ Accepted → ⊥) → _≡_ {A = Counted} (record { done = thenApplied v b d; count = countIf (thenApplied v b d .answer) n }) (record { done = record { answer = v; box = b }; count = 0 })
 unfolding thenApplied countIf
 out-counted Accepted b d n f = absurd (f refl)
 out-counted (No k) b d n f = refl
 out-counted (Held o) b d n f = refl
 
-module _ {st : Store} {area : Bytes} (made : Made st area) (h : Ending) (s : Bytes) where
-  pub not-form : {f : Bool} → f ≡ isSome (mutations s) → not f ≡ true → Counts st area (oneStep h s (boxOf st area)) (record { store = st; answer = No 6; count = 0 }) area
+module _ {st : Store} {area : Bytes} (made : Made st area) (h : Ending) {s : Bytes} {r : Entries} (d : Decoded (mutationOf s) s (mutations s) r) where
+  pub not-form : not (r .ok) ≡ true → Counts st area (oneStep h s (boxOf st area)) (record { store = st; answer = No 6; count = 0 }) area
   unfolding oneStep ofCounted
-  not-form {f} e n = counts-same made (ap (λ (o : Option (List Mutation)). ofCounted o (stepAll h) (boxOf st area)) (is-none (mutations s) (sym e ∙ not-true f n)))
+  not-form n = counts-same made (ap (λ (o : Option (List Mutation)). ofCounted o (stepAll h) (boxOf st area)) (decoded-bad d n))
 
-  module _ {c : Cursor} (j : Judged keyIn mutation s (mutations s) c) where
+  module _ (good : not (r .ok) ≡ false) where
     abbrev b : box.Box
     b = boxOf st area
 
     abbrev ms : List Mutation
-    ms = ahead mutation s (c .at) (c .left)
+    ms = shown (mutationOf s) (r .count) (r .list)
 
     abbrev later : Done
     later = stepApplied (allApplied h b ms) h ms b
@@ -81,7 +78,7 @@ module _ {st : Store} {area : Bytes} (made : Made st area) (h : Ending) (s : Byt
     one-is : {v : Answer} → stepArguments h ms b ≡ v → oneStep h s b ≡ record { done = thenApplied v b later; count = countIf (thenApplied v b later .answer) (length ms) }
     unfolding oneStep ofCounted stepAll stepDone
     one-is e =
-        ap (λ (o : Option (List Mutation)). ofCounted o (stepAll h) b) (j .is)
+        ap (λ (o : Option (List Mutation)). ofCounted o (stepAll h) b) (decoded-good d good)
         ∙ ap (λ (x : Answer). record { done = thenApplied x b later; count = countIf (thenApplied x b later .answer) (length ms) }) e
 
     one-out : {v : Answer} → stepArguments h ms b ≡ v → (v ≡ Accepted → ⊥) → Counts st area (oneStep h s b) (record { store = st; answer = v; count = 0 }) area
@@ -92,70 +89,87 @@ module _ {st : Store} {area : Bytes} (made : Made st area) (h : Ending) (s : Byt
       unfolding stepArguments
       head-out n = one-out (sym (then-refused a (argumentsStep ms ▸ need (noneOther h b ms) 9) n ∙ ap (λ (x : Answer). x ▸ argumentsStep ms ▸ need (noneOther h b ms) 9) e)) n
 
-      module _ (p : a ≡ Accepted) {v : Answer} (f : v ≡ argumentsStep (ahead mutation s (c .at) (c .left))) where
+      module _ (p : a ≡ Accepted) {v : Answer} (f : v ≡ argumentsStep (shown (mutationOf s) (r .count) (r .list))) where
         pub arguments-out : (v ≡ Accepted → ⊥) → Counts st area (oneStep h s (boxOf st area)) (record { store = st; answer = v; count = 0 }) area
         unfolding stepArguments
         arguments-out n = one-out (sym (call-on v a (endingStep h) _ e p (then-refused v (need (noneOther h b ms) 9) n ∙ ap (λ (x : Answer). x ▸ need (noneOther h b ms) 9) f))) n
 
-        pub batch-asks : v ≡ Accepted → AllAsks st area s c
-        batch-asks q = record { made = made; cursor = j .cursor; few = j .few; ascends = j .ascends; arguments = sym f ∙ q }
+        pub batch-asks : v ≡ Accepted → StepAsks st area s (r .count) (r .list)
+        batch-asks q = record { all = record { made = made; form = mutations-in-form d good }; arguments = sym f ∙ q }
 
-        pub batch-all : v ≡ Accepted → {r : Stepped} {area′ : Bytes} → Counts st area (laterCounted h (ahead mutation s (c .at) (c .left)) (boxOf st area)) r area′ → Counts st area (oneStep h s (boxOf st area)) r area′
+        pub batch-all : v ≡ Accepted → {t : Stepped} {area′ : Bytes} → Counts st area (laterCounted h (shown (mutationOf s) (r .count) (r .list)) (boxOf st area)) t area′ → Counts st area (oneStep h s (boxOf st area)) t area′
         unfolding stepArguments laterDone
-        batch-all q {r} {area′} k = subst (λ (d : Counted). Counts st area d r area′) (sym (one-is (sym (call-on (need (noneOther h b ms) 9) a (endingStep h) _ e p (call-on (need (noneOther h b ms) 9) v (argumentsStep ms) _ f q refl))))) k
+        batch-all q {t} {area′} k = subst (λ (x : Counted). Counts st area x t area′) (sym (one-is (sym (call-on (need (noneOther h b ms) 9) a (endingStep h) _ e p (call-on (need (noneOther h b ms) 9) v (argumentsStep ms) _ f q refl))))) k
+
+-- ---- the box that a batch leaves is another one: the first entry's key has one record more
+
+first-check : (h : Ending) (m : Mutation) (ms : List Mutation) (b : box.Box) → checkAll (stepCheck h) b (m ∷ ms) ≡ Accepted → stepCheck h b m ≡ Accepted
+unfolding checkAll
+first-check h m ms b p = then-left _ _ p
+
+one-more : (h : Ending) (m : Mutation) (ms : List Mutation) (b : box.Box) → ascend keyIn (m ∷ ms) ≡ true → stepCheck h b m ≡ Accepted → box.inOrder b ≡ true
+    → length (box.recordsOf (m .key) (applySteps h (m ∷ ms) b .lines)) ≡ length (box.recordsOf (m .key) (b .lines)) + 1
+unfolding applySteps
+one-more h m ms b asc p o =
+    ap length (steps-other h (h .start) (m .key) ms (applyStep h m b) (ascend-apart keyIn m ms asc) .records ∙ step-records h m b o (step-passed h b m p .newest))
+    ∙ length-append (box.recordsOf (m .key) (b .lines)) (recordFor (h .start) (h .commit) (kindOf (m .row)) ∷ [])
+
+steps-differ : (h : Ending) (ms : List Mutation) (b : box.Box) → 0 < length ms → ascend keyIn ms ≡ true → checkAll (stepCheck h) b ms ≡ Accepted → box.inOrder b ≡ true → applySteps h ms b ≡ b → ⊥
+steps-differ h [] b n asc p o e = absurd (omega arith)
+steps-differ h (m ∷ ms) b n asc p o e = omega (arith, one-more h m ms b asc (first-check h m ms b p) o, ap (λ (x : box.Box). length (box.recordsOf (m .key) (x .lines))) e)
 
 -- ---- what the checks decide
 
-module _ {st : Store} {area batch : Bytes} {c : Cursor} (a : AllAsks st area batch c) (h : Ending) where
-  pub all-judge : {cs : List Cut} → KeptCuts keyIn batch (ahead mutation batch (c .at) (c .left)) (c .left) cs → {founds : List Looked} → LookedAll st area batch (h .start) (h .commit) (c .left) cs founds
-      → {rows : List FoundRow} → RowsFound st area batch (h .start) (c .left) cs rows → JudgeAsks st area batch h c founds rows
-  all-judge w l r = record { made = a .made; cursor = a .cursor; few = a .few; ascends = a .ascends; arguments = a .arguments; surveyed = surveyed h w (a .few) l r }
-
-module _ {st : Store} {area batch : Bytes} {h : Ending} {c : Cursor} {founds : List Looked} {rows : List FoundRow} (k : JudgeAsks st area batch h c founds rows) {r : Verdict} (d : Decided h (boxOf st area) (ahead mutation batch (c .at) (c .left)) r) where
+module _ {st : Store} {area s : Bytes} {n : ℕ} {es : List Entry} (a : StepAsks st area s n es) (h : Ending) {founds : List Looked} (f : LookedAll st area s (h .start) (h .commit) n es founds)
+    {rows : List FoundRow} (w : RowsFound st area s (h .start) n es rows) where
   abbrev was : box.Box
   was = boxOf st area
 
   abbrev entries : List Mutation
-  entries = ahead mutation batch (c .at) (c .left)
+  entries = shown (mutationOf s) n es
 
-  pub all-old : not (r .fresh) ≡ true → {n : ℕ} → n ≡ countIf (r .answer) (c .left) → Counts st area (laterCounted h (ahead mutation batch (c .at) (c .left)) (boxOf st area)) (record { store = st; answer = r .answer; count = n }) area
-  all-old f {n} e =
-      counts-same (k .made)
-      (ap (λ (x : Done). record { done = x; count = countIf (x .answer) (length entries) }) (d .old (not-true (r .fresh) f))
-      ∙ ap (λ (i : ℕ). record { done = record { answer = r .answer; box = was }; count = i }) (ap (countIf (r .answer)) (ahead-length (k .cursor)) ∙ sym e))
+  abbrev pub all-judge : JudgeAsks area s h n es founds rows (st .load)
+  all-judge = record { st = st; made = a .all .made; load-is = refl; form = a .all .form; arguments = a .arguments; surveyed = record { looks = f; stored = w } }
 
-  module _ (f : not (r .fresh) ≡ false) where
-    fresh : Fresh h was entries r
-    fresh = d .new (not-false (r .fresh) f)
+  count-is : length entries ≡ n
+  count-is = shown-length (a .all .form .listed) (mutationOf s)
 
-    pub all-place : Made st area × (r .need ≤ 16384)
-    all-place = (k .made, fresh .need-small)
+  module _ {v : Verdict} (d : Decided h (boxOf st area) (shown (mutationOf s) n es) v) where
+    pub all-old : {x : Answer} → v ≡ Stays x → {c : ℕ} → c ≡ countIf x n → Counts st area (laterCounted h (shown (mutationOf s) n es) (boxOf st area)) (record { store = st; answer = x; count = c }) area
+    all-old {x} e g =
+        let q : laterDone h entries was ≡ record { answer = x; box = was } = subst (Decided h was entries) e d in
+        counts-same (a .all .made)
+        (ap (λ (y : Done). record { done = y; count = countIf (y .answer) (length entries) }) q
+        ∙ ap (λ (i : ℕ). record { done = record { answer = x; box = was }; count = i }) (ap (countIf x) count-is ∙ sym g))
 
-    module _ {st′ : Store} {area′ : Bytes} (p : Placed st area (r .need) st′ area′) where
-      pub all-apply : ApplyAsks st′ area′ batch h c founds rows (r .after)
-      all-apply = record {
-        write = record {
+    module _ {room : Room} (e : v ≡ Applies room) where
+      fresh : Fresh h was entries room
+      fresh = subst (Decided h was entries) e d
+
+      pub all-place : Made st area × (room .need ≤ 16384)
+      all-place = (a .all .made, fresh .need-small)
+
+      module _ {st′ : Store} {area′ : Bytes} (p : Placed st area (room .need) st′ area′) where
+        pub all-apply : ApplyAsks st′ area′ s h n es founds rows (room .after)
+        all-apply = record {
           built = p .made .built;
-          cursor = k .cursor;
-          few = k .few;
-          arguments = k .arguments;
-          spots = subst (λ (x : box.Box). Kept (SpotAt x h) noLooked entries (c .left) founds) (sym (p .shown)) (spots-are (k .surveyed) (fresh .passes));
-          rows = subst (λ (x : box.Box). Kept (RowAt x h) noFound entries (c .left) rows) (sym (p .shown)) (rows-are (k .surveyed));
+          form = a .all .form;
+          arguments = a .arguments;
+          spots = subst (λ (x : box.Box). (j : ℕ) → j < n → SpotAt x h (mutationOf s (getD es j noEntry)) (getD founds j noLook)) (sym (p .shown)) (spots-are (a .all .form .listed) f (fresh .passes));
+          rows = subst (λ (x : box.Box). (j : ℕ) → j < n → RowAt x h (mutationOf s (getD es j noEntry)) (getD rows j noFound)) (sym (p .shown)) (rows-are w);
           room = omega (arith, p .room, fresh .need-is);
-        };
-        ascends = k .ascends;
-        passes = ap (stepNew h entries) (p .shown) ∙ fresh .passes;
-        after-is = fresh .after-is ∙ ap (λ (x : box.Box). loadOf (applySteps h entries x)) (sym (p .shown));
-      }
+          passes = ap (stepNew h entries) (p .shown) ∙ fresh .passes;
+          after-is = fresh .after-is ∙ ap (λ (x : box.Box). loadOf (applySteps h entries x)) (sym (p .shown));
+        }
 
-      pub all-new : {s : Store} {area″ : Bytes} → Shows (applySteps h (ahead mutation batch (c .at) (c .left)) (boxOf st′ area′)) s area″
-          → Counts st area (laterCounted h (ahead mutation batch (c .at) (c .left)) (boxOf st area)) (record { store = s; answer = Accepted; count = c .left }) area″
-      unfolding countIf
-      all-new {s} {area″} v =
-          let shown : boxOf s area″ ≡ applySteps h entries was = v .shown ∙ ap (applySteps h entries) (p .shown) in
-          record {
-            settled =
-                settled-new (made-room (v .built) shown (step-new h entries was (fresh .passes) .2)) (fresh .done-is ∙ ap (λ (x : box.Box). record { answer = Accepted; box = x }) (sym shown))
-                (λ q. steps-differ h entries was (fresh .some) (k .ascends) (new-checks h was entries (fresh .passes)) (k .made .built .kept .sorted) (sym shown ∙ q));
-            count-is = sym (ap (λ (x : Done). countIf (x .answer) (length entries)) (fresh .done-is) ∙ ahead-length (k .cursor));
-          }
+        pub all-new : {t : Store} {area″ : Bytes} → Shows (applySteps h (shown (mutationOf s) n es) (boxOf st′ area′)) t area″
+            → Counts st area (laterCounted h (shown (mutationOf s) n es) (boxOf st area)) (record { store = t; answer = Accepted; count = n }) area″
+        unfolding countIf
+        all-new {t} {area″} g =
+            let is : boxOf t area″ ≡ applySteps h entries was = g .shown ∙ ap (applySteps h entries) (p .shown) in
+            record {
+              settled =
+                  settled-new (made-room (g .built) is (step-new h entries was (fresh .passes) .2)) (fresh .done-is ∙ ap (λ (x : box.Box). record { answer = Accepted; box = x }) (sym is))
+                  (λ q. steps-differ h entries was (fresh .some) (mutations-by-keys s n es ∙ a .all .form .ascends) (new-checks h was entries (fresh .passes)) (a .all .made .built .kept .sorted) (sym is ∙ q));
+              count-is = sym (ap (λ (x : Done). countIf (x .answer) (length entries)) (fresh .done-is) ∙ count-is);
+            }

@@ -1,21 +1,18 @@
 // The call.
 ghost use mathlib.Core.Path.{_≡_};
-ghost use Rattle.forms.specs.Batch.{mutation};
-ghost use Rattle.forms.specs.Places.{ahead};
-ghost use Rattle.rules.specs.OneStep.{countIf, applySteps, oneStep};
+ghost use Rattle.seqs.specs.Tables.{shown};
+ghost use Rattle.forms.specs.Places.{mutationOf};
+ghost use Rattle.rules.specs.OneStep.{countIf, oneStep};
 ghost use Rattle.lines.specs.View.{boxOf};
 ghost use Rattle.lines.specs.Made.{Made};
-ghost use Rattle.stepchecks.specs.Checks.{endingOf};
-ghost use Rattle.onesteps.specs.Applies.{ApplyAsks, Shows};
-ghost use Rattle.onesteps.specs.Counts.{AllAsks, laterCounted, Counts};
-use crate::writes::write_all;
-use forms::Cursor;
-use lines::FoundRow;
-use lines::Looked;
+ghost use Rattle.calls.specs.Walks.{endingOf};
+ghost use Rattle.onesteps.specs.Counts.{StepAsks, laterCounted, Counts};
+use crate::writes::apply_all;
+use calls::Terms;
+use forms::Entry;
 use lines::Store;
 use rules::Answer;
-use rules::Load;
-use stepchecks::Terms;
+use stepchecks::Verdict;
 
 // The store after a one-step batch, what the call answers, and "The count is the number of entries".
 pub struct Stepped {
@@ -35,53 +32,42 @@ fn count_if(answer: Answer, n: usize) -> usize
     }
 }
 
-// The applying pass: every entry is written down, and then one walk over each table makes all edits.
-fn apply_all(
+// The steps of a batch in form whose head and arguments have passed: what its keys meet in the store as it came, the checks, and the
+// applying pass.
+fn step_all(
     store: Store,
     area: &mut [u8],
     terms: Terms,
     batch: &[u8],
-    first: Cursor,
-    founds: [Looked; 32],
-    stored: [FoundRow; 32],
-    after: Load,
-) -> Store
-    requires { ⌜ ApplyAsks store (now area) (now batch) (endingOf terms) first founds stored after ⌝ }
-    ensures { λ r. ⌜ Shows (applySteps (endingOf terms) (ahead mutation (now (batch .entry)) (first .at) (first .left)) (boxOf store (now (area .entry)))) r (now (area .exit)) ⌝ }
+    n: usize,
+    list: [Entry; 32],
+) -> Stepped
+    requires { ⌜ StepAsks store (now area) (now batch) n list ⌝ }
+    ensures { λ r. ⌜ Counts store (now (area .entry)) (laterCounted (endingOf terms) (shown (mutationOf (now (batch .entry))) n list) (boxOf store (now (area .entry)))) r (now (area .exit)) ⌝ }
 {
-    let plan = write_all(store, area, terms, batch, first, founds, stored);
-    let lines = plan.lines;
-    let rows = plan.rows;
-    edits::apply_edits(store, lines, rows, first.left, after, plan.top)
-}
-
-// The steps of a batch in form whose head and arguments have passed: what its keys meet in the store as it came, the checks, and the
-// applying pass.
-fn step_all(store: Store, area: &mut [u8], terms: Terms, batch: &[u8], first: Cursor) -> Stepped
-    requires { ⌜ AllAsks store (now area) (now batch) first ⌝ }
-    ensures { λ r. ⌜ Counts store (now (area .entry)) (laterCounted (endingOf terms) (ahead mutation (now (batch .entry)) (first .at) (first .left)) (boxOf store (now (area .entry)))) r (now (area .exit)) ⌝ }
-{
-    let n = first.left;
-    let cuts = surveys::entry_cuts(batch, first);
-    let founds = surveys::look_all(store, area, batch, cuts, n, terms.start, terms.commit);
-    let stored = surveys::find_rows(store, area, batch, cuts, n, terms.start);
-    let verdict = stepchecks::judge(store, area, terms, batch, first, founds, stored);
-    let answer = verdict.answer;
-    if !verdict.fresh {
-        let count = count_if(answer, n);
-        return Stepped {
-            store: store,
-            answer: answer,
-            count: count,
-        };
-    }
-    let placed = areas::make_place(store, area, verdict.need);
-    let after = verdict.after;
-    let applied = apply_all(placed, area, terms, batch, first, founds, stored, after);
-    Stepped {
-        store: applied,
-        answer: Answer::Accepted,
-        count: n,
+    let founds = surveys::look_all(store, area, batch, list, n, terms.start, terms.commit);
+    let stored = surveys::find_rows(store, area, batch, list, n, terms.start);
+    let load = store.load;
+    let verdict = stepchecks::judge(area, terms, batch, n, list, founds, stored, load);
+    match verdict {
+        Verdict::Stays(answer) => {
+            let count = count_if(answer, n);
+            Stepped {
+                store: store,
+                answer: answer,
+                count: count,
+            }
+        }
+        Verdict::Applies(room) => {
+            let placed = areas::make_place(store, area, room.need);
+            let after = room.after;
+            let applied = apply_all(placed, area, terms, batch, n, list, founds, stored, after);
+            Stepped {
+                store: applied,
+                answer: Answer::Accepted,
+                count: n,
+            }
+        }
     }
 }
 
@@ -97,20 +83,20 @@ pub fn commit_batch(
     requires { ⌜ Made store (now area) ⌝ }
     ensures { λ r. ⌜ Counts store (now (area .entry)) (oneStep (record { txn = txn; start = start; commit = commit }) (now (batch .entry)) (boxOf store (now (area .entry)))) r (now (area .exit)) ⌝ }
 {
-    if !forms::mutations_in_form(batch) {
+    let entries = forms::mutations_of(batch);
+    if !entries.ok {
         return Stepped {
             store: store,
             answer: Answer::No(6),
             count: 0,
         };
     }
-    let first = forms::first(batch);
     let terms = Terms {
         txn: txn,
         start: start,
         commit: commit,
     };
-    let head = stepchecks::ending_step(terms);
+    let head = calls::ending_step(terms);
     if !calls::accepted(head) {
         return Stepped {
             store: store,
@@ -118,7 +104,9 @@ pub fn commit_batch(
             count: 0,
         };
     }
-    let answer = stepchecks::check_arguments(batch, first);
+    let list = entries.list;
+    let n = entries.count;
+    let answer = stepchecks::check_arguments(batch, n, list);
     if !calls::accepted(answer) {
         return Stepped {
             store: store,
@@ -126,5 +114,5 @@ pub fn commit_batch(
             count: 0,
         };
     }
-    step_all(store, area, terms, batch, first)
+    step_all(store, area, terms, batch, n, list)
 }

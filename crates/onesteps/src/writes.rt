@@ -1,58 +1,23 @@
 // "Each entry gets a record of this start and its kind, stamped with the commit; a Put's row is stored and replaces one already stored at
-// this start; an own lock goes": written down as edits, at places of the store as it came.
+// this start; an own lock goes": written down as edits, at places of the store as it came, and all made at once.
 ghost use mathlib.Core.Path.{_≡_};
 ghost use Prim.Native.Nat.{_≤_};
-ghost use Rattle.edits.specs.Seen.{noLineEdit, noRowEdit};
-ghost use Rattle.stepchecks.specs.Checks.{endingOf};
-ghost use Rattle.onesteps.specs.Writes.{LineAsks, LineWritten, pastOf, RowAsks, RowWritten, WriteAsks, Wrote};
-use edits::LineEdit;
+ghost use Rattle.seqs.specs.Tables.{shown};
+ghost use Rattle.forms.specs.Places.{mutationOf};
+ghost use Rattle.rules.specs.OneStep.{applySteps};
+ghost use Rattle.lines.specs.View.{boxOf};
+ghost use Rattle.calls.specs.Walks.{endingOf};
+ghost use Rattle.onesteps.specs.Writes.{pastOf, EntryAsks, Drafted};
+ghost use Rattle.onesteps.specs.Applies.{ApplyAsks, Shows};
+use calls::Terms;
+use edits::Draft;
 use edits::RowEdit;
-use forms::Cursor;
+use forms::Entry;
 use lines::FoundRow;
-use lines::Held;
-use lines::Line;
 use lines::Looked;
-use lines::Slot;
 use lines::Store;
-use lines::store::no_held;
-use lines::store::no_slot;
+use rules::Load;
 use rules::Record;
-use stepchecks::Terms;
-
-// "Each entry gets a record of this start and its kind, stamped with the commit; ..; an own lock goes." The record's key comes at the top.
-fn write_line(
-    area: &mut [u8],
-    top: usize,
-    terms: Terms,
-    key: &[u8],
-    put: bool,
-    found: Looked,
-) -> LineEdit
-    requires { ⌜ LineAsks (now area) top (now key) ⌝ }
-    ensures { λ r. ⌜ LineWritten (now (area .entry)) top (endingOf terms) (now (key .entry)) put found r (now (area .exit)) ⌝ }
-{
-    areas::append(area, top, key);
-    let kind = calls::kind_for(put);
-    let lock = found.lock;
-    let free = calls::is_free(lock);
-    LineEdit {
-        gone: !free,
-        from: found.first,
-        comes: true,
-        to: found.place,
-        slot: Slot {
-            at: top as u16,
-            len: key.len() as u8,
-            used: true,
-            line: Line::Finished(Record {
-                stamp: terms.commit,
-                start: terms.start,
-                commit: terms.commit,
-                kind: kind,
-            }),
-        },
-    }
-}
 
 // The place past a row, where it is stored.
 fn past(ok: bool, place: usize) -> usize
@@ -65,137 +30,97 @@ fn past(ok: bool, place: usize) -> usize
     place
 }
 
-// An edit of the defaults, and the top after its bytes.
-pub struct RowPlan {
-    pub edit: RowEdit,
-    pub top: usize,
-}
-
-// "a Put's row is stored and replaces one already stored at this start." The default's key and its row come at the top.
-fn write_row(
+// One entry: its record comes and the key's lock goes; a Put's row comes, and one that is stored at this start goes.
+fn write_entry(
     area: &mut [u8],
     top: usize,
     terms: Terms,
+    found: Looked,
+    stored: FoundRow,
     key: &[u8],
     put: bool,
     row: &[u8],
-    stored: FoundRow,
-) -> RowPlan
-    requires { ⌜ RowAsks (now area) top (now key) put (now row) stored ⌝ }
-    ensures { λ r. ⌜ RowWritten (now (area .entry)) top (terms .start) (now (key .entry)) put (now (row .entry)) stored r (now (area .exit)) ⌝ }
+) -> Draft
+    requires { ⌜ EntryAsks (now area) top (now key) put (now row) stored ⌝ }
+    ensures { λ r. ⌜ Drafted (now (area .entry)) top (endingOf terms) (now (key .entry)) put (now (row .entry)) found stored r (now (area .exit)) ⌝ }
 {
+    let kind = calls::kind_for(put);
+    let w = Record {
+        stamp: terms.commit,
+        start: terms.start,
+        commit: terms.commit,
+        kind: kind,
+    };
+    let line = edits::write_record(area, top, key, found, w);
+    let mid = top + key.len();
     if !put {
-        let none = no_held();
-        return RowPlan {
-            edit: RowEdit {
-                gone: false,
-                from: stored.place,
-                comes: false,
-                to: stored.place,
-                held: none,
-            },
-            top: top,
+        let still = edits::row_stays(stored.place);
+        return Draft {
+            line: line,
+            row: still,
+            top: mid,
         };
     }
-    areas::append(area, top, key);
-    let mid = top + key.len();
-    areas::append(area, mid, row);
+    let held = edits::write_held(area, mid, terms.start, key, row);
     let to = past(stored.ok, stored.place);
-    RowPlan {
-        edit: RowEdit {
+    Draft {
+        line: line,
+        row: RowEdit {
             gone: stored.ok,
             from: stored.place,
             comes: true,
             to: to,
-            held: Held {
-                at: top as u16,
-                len: key.len() as u8,
-                used: true,
-                start: terms.start,
-                rowat: mid as u16,
-                rowlen: row.len() as u8,
-            },
+            held: held,
         },
-        top: mid + row.len(),
+        top: mid + key.len() + row.len(),
     }
 }
 
-fn no_line_edit() -> LineEdit
-    ensures { λ r. ⌜ r ≡ noLineEdit ⌝ }
-{
-    let none = no_slot();
-    LineEdit {
-        gone: false,
-        from: 0,
-        comes: false,
-        to: 0,
-        slot: none,
-    }
-}
-
-fn no_row_edit() -> RowEdit
-    ensures { λ r. ⌜ r ≡ noRowEdit ⌝ }
-{
-    let none = no_held();
-    RowEdit {
-        gone: false,
-        from: 0,
-        comes: false,
-        to: 0,
-        held: none,
-    }
-}
-
-// The edits of all entries, and the top after their bytes.
-pub struct Plan {
-    pub lines: [LineEdit; 32],
-    pub rows: [RowEdit; 32],
-    pub top: usize,
-}
-
-// Every entry's bytes and edits. Of the store it reads the top alone.
-pub fn write_all(
+// The applying pass: every entry is written down, and then one walk over each table makes all edits.
+pub fn apply_all(
     store: Store,
     area: &mut [u8],
     terms: Terms,
     batch: &[u8],
-    first: Cursor,
+    n: usize,
+    list: [Entry; 32],
     founds: [Looked; 32],
     stored: [FoundRow; 32],
-) -> Plan
-    requires { ⌜ WriteAsks store (now area) (now batch) (endingOf terms) first founds stored ⌝ }
-    ensures { λ r. ⌜ Wrote store (now (area .entry)) (now (batch .entry)) (endingOf terms) first r (now (area .exit)) ⌝ }
+    after: Load,
+) -> Store
+    requires { ⌜ ApplyAsks store (now area) (now batch) (endingOf terms) n list founds stored after ⌝ }
+    ensures { λ r. ⌜ Shows (applySteps (endingOf terms) (shown (mutationOf (now (batch .entry))) n list) (boxOf store (now (area .entry)))) r (now (area .exit)) ⌝ }
 {
-    let no_line = no_line_edit();
-    let no_row = no_row_edit();
-    let mut lines = [no_line; 32];
-    let mut rows = [no_row; 32];
+    let stays = edits::line_stays(0);
+    let still = edits::row_stays(0);
+    let mut lines = [stays; 32];
+    let mut rows = [still; 32];
     let mut top = store.top;
-    let mut at = first.at;
-    let mut left = first.left;
     let mut i: usize = 0;
-    while 0 < left {
-        let e = forms::entry_at(batch, at);
+    while i < n {
+        let e = list[i];
         let ka = e.at;
         let ke = ka + e.len;
         let ra = e.rowat;
         let re = ra + e.rowlen;
-        let found = founds[i];
-        let line = write_line(area, top, terms, &batch[ka..ke], e.put, found);
-        lines[i] = line;
         let d = stored[i];
-        let mid = top + e.len;
-        let plan = write_row(area, mid, terms, &batch[ka..ke], e.put, &batch[ra..re], d);
-        let row = plan.edit;
+        let f = founds[i];
+        let draft = write_entry(
+            area,
+            top,
+            terms,
+            f,
+            d,
+            &batch[ka..ke],
+            e.put,
+            &batch[ra..re],
+        );
+        let line = draft.line;
+        lines[i] = line;
+        let row = draft.row;
         rows[i] = row;
-        top = plan.top;
-        at = e.next;
-        left -= 1;
+        top = draft.top;
         i += 1;
     }
-    Plan {
-        lines: lines,
-        rows: rows,
-        top: top,
-    }
+    edits::apply_edits(store, lines, rows, n, after, top)
 }

@@ -4,7 +4,7 @@ use Prim.Native.Nat.{ℕ, _+_, _-_, _≤_, _<_}
 use native.Mathlib.Numerals.{add-one}
 use native.Mathlib.Omega.{arith}
 use mathlib.Core.Path.{_≡_, refl, sym, ap, _∙_, subst}
-use mathlib.Core.Bool.{Bool, true, false}
+use mathlib.Core.Bool.{Bool, true}
 use mathlib.Core.List.{List, [], _∷_, _++_, append-nil, append-assoc, map, map-append}
 use lib.ListN.{length, getD, take, drop, length-append, length-map, take-append-drop}
 use lib.Seq.{take-suc, take-take, getD-take, length-take-le}
@@ -166,6 +166,3 @@ module _ {A : Type 0} {st : Store} {area : Bytes} {f : Spot → A} {bytes : A �
 -- "a byte, 1 if more, else 0"
 pub more-is : (t : Bool) → t ≡ true → 1 ≡ moreByte t
 more-is t e = sym (ap moreByte e)
-
-pub more-not : (t : Bool) → t ≡ false → 0 ≡ moreByte t
-more-not t e = sym (ap moreByte e)

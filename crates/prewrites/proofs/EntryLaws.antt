@@ -3,7 +3,7 @@
 use Prim.Native.Nat.{ℕ, _≤_}
 use native.Mathlib.Omega.{arith}
 use mathlib.Core.Path.{_≡_, refl, sym, ap, _∙_}
-use mathlib.Core.Bool.{Bool, true, false, not}
+use mathlib.Core.Bool.{true}
 use mathlib.Core.Option.{Option, none, some}
 use lib.ListN.{length}
 use Rattle.forms.specs.Bytes.{Bytes, bytesAt}
@@ -14,16 +14,15 @@ use Rattle.forms.specs.Batch.{Mutation}
 use Rattle.forms.proofs.KeyLaws.{key-bounds}
 use Rattle.forms.proofs.RowLaws.{row-bounds}
 use Rattle.rules.specs.declared.answers.Answer.{Answer}
-use Rattle.rules.specs.declared.answers.Answer.the-variants.{Accepted, No}
+use Rattle.rules.specs.declared.answers.Answer.the-variants.{Accepted}
 use Rattle.rules.specs.declared.room.Load.{Load}
-use Rattle.rules.specs.Answers.{_▸_, need}
-use Rattle.rules.specs.Box.{Box, recordsOf, lockOf, rowOf}
+use Rattle.rules.specs.Box.{Box, Lock, recordsOf, rowOf}
 use Rattle.rules.specs.Sound.{allSound}
 use Rattle.rules.specs.Calls.{allBelow, rowArgument}
-use Rattle.rules.specs.Prewrite.{Head, lockStep, prewriteEntry, unlessLocked}
+use Rattle.rules.specs.Prewrite.{Head, prewriteEntry, unlessLocked}
 use Rattle.laws.specs.Adds.{noLoad, plus, lockLoad, ofRow, prewriteAdds}
 use Rattle.laws.proofs.LoadLaws.{load-fields}
-use Rattle.laws.proofs.ChainLaws.{out, on, denied, granted}
+use Rattle.laws.proofs.StepLaws.{passed}
 use Rattle.lines.specs.declared.keys.Locked.{Locked}
 use Rattle.lines.specs.declared.keys.Locked.the-variants.{Nobody, By}
 use Rattle.lines.specs.declared.keys.Looked.{Looked}
@@ -34,8 +33,11 @@ use Rattle.lines.specs.declared.places.FoundRow.{FoundRow}
 use Rattle.lines.specs.View.{boxOf}
 use Rattle.lines.specs.Looks.{lockedBy, historyOf}
 use Rattle.calls.specs.Loads.{Summable}
-use Rattle.prewrites.specs.Checks.{addsOf, AddsAsks, Added, Found, Refused, EntrySeen}
-use Rattle.prewrites.specs.declared.checks.Seen.{Seen}
+use Rattle.calls.specs.Walks.{Met}
+use Rattle.calls.specs.Weights.{Refused}
+use Rattle.calls.specs.declared.weights.Weight.{Weight}
+use Rattle.calls.specs.declared.weights.Seen.{Seen}
+use Rattle.prewrites.specs.Checks.{addsOf, entrySteps, WeightAsks, Weighs, EntrySeen}
 
 -- ---- what it adds
 
@@ -48,94 +50,74 @@ rows-small k (some r) short h e =
     let s = h r refl in
     (omega arith, omega arith, omega arith, omega arith)
 
-module _ {key primary : Bytes} {row : Option Row} (p : AddsAsks key primary row) {a b : Load} (l : a ≡ lockLoad key primary) (m : b ≡ ofRow key row) where
+module _ {key primary : Bytes} {row : Option Row} (p : WeightAsks key primary row) {a b : Load} (l : a ≡ lockLoad key primary) (m : b ≡ ofRow key row) where
   pub parts-add : Summable a b
   parts-add =
       let z = load-fields l in
       let s = rows-small key row (p .key-short) (p .row-short) m in
       omega arith
 
-  pub new-adds : {lock : Locked} {r : Load} → lock ≡ Nobody → r ≡ plus a b → Added key primary row lock r
+  pub new-weighs : {lock : Locked} {r free : Load} → free ≡ noLoad → lock ≡ Nobody → r ≡ plus a b → Weighs key primary row lock (record { added = r; freed = free })
   unfolding unlessLocked
-  new-adds {lock} {r} e q = record {
-    is = λ area. q ∙ ap (λ (x : Load). plus x b) l ∙ ap (plus (lockLoad key primary)) m ∙ ap (λ (x : Locked). addsOf key primary row (lockedBy area x)) (sym e);
-    small =
+  new-weighs {lock} {r} f e q = record {
+    added-is = λ area. q ∙ ap (λ (x : Load). plus x b) l ∙ ap (plus (lockLoad key primary)) m ∙ ap (λ (x : Locked). addsOf key primary row (lockedBy area x)) (sym e);
+    freed-is = f;
+    light =
         let z = load-fields l in
         let y = load-fields q in
+        let x = load-fields f in
         let s = rows-small key row (p .key-short) (p .row-short) m in
-        omega arith;
+        record { added = omega arith; freed = omega arith };
   }
 
-pub old-adds : {key primary : Bytes} {row : Option Row} {lock : Locked} {i : Intent} {r : Load} → lock ≡ By i → r ≡ noLoad → Added key primary row lock r
+pub old-weighs : {key primary : Bytes} {row : Option Row} {lock : Locked} {i : Intent} {free : Load} → free ≡ noLoad → lock ≡ By i → Weighs key primary row lock (record { added = free; freed = free })
 unfolding unlessLocked
-old-adds {key} {primary} {row} e q = record {
-  is = λ area. q ∙ ap (λ (x : Locked). addsOf key primary row (lockedBy area x)) (sym e);
-  small = let z = load-fields q in omega arith;
+old-weighs {key} {primary} {row} f e = record {
+  added-is = λ area. f ∙ ap (λ (x : Locked). addsOf key primary row (lockedBy area x)) (sym e);
+  freed-is = f;
+  light = let x = load-fields f in record { added = omega arith; freed = omega arith };
 }
 
 -- ---- the ways out of its check
 
-pub adds-asks : {key primary : Bytes} (put : Bool) (row : Row) → keyForm key ≡ true → keyForm primary ≡ true → rowArgument (when put row) ≡ true → AddsAsks key primary (when put row)
-adds-asks {key} {primary} put row k p r = record {
-  key-short = key-bounds key k .short;
-  primary-short = key-bounds primary p .short;
-  row-short = λ q e. row-bounds q (ap rowArgument (sym e) ∙ r) .short;
-}
+module _ (h : Head) (area : Bytes) (m : Mutation) (found : Looked) (stored : FoundRow) {a : Answer}
+    (e : a ≡ entrySteps h m (found .history .sound) (found .history .below) (when (stored .ok) (bytesAt area (stored .at) (stored .len))) (lockedBy area (found .lock))) where
+  answer-is : (st : Store) → Met st area (m .key) (h .start) 0 found stored → a ≡ prewriteEntry h (boxOf st area) m
+  unfolding prewriteEntry historyOf
+  answer-is st f =
+      let b = boxOf st area in
+      let ws = recordsOf (m .key) (b .lines) in
+      e ∙ ap (λ (x : History). entrySteps h m (x .sound) (x .below) (when (stored .ok) (bytesAt area (stored .at) (stored .len))) (lockedBy area (found .lock))) (f .looked .history-is)
+      ∙ ap (λ (o : Option Row). entrySteps h m (allSound ws) (allBelow (h .start) ws) o (lockedBy area (found .lock))) (f .row .is)
+      ∙ ap (entrySteps h m (allSound ws) (allBelow (h .start) ws) (rowOf (m .key) (h .start) (b .defaults))) (f .looked .lock-is)
 
-module _ (h : Head) (area : Bytes) (m : Mutation) (found : Looked) (stored : FoundRow) where
-  refused-is : {n : ℕ} {r : Seen} → Refused n r → ((st : Store) → Found st area (m .key) (h .start) found stored → No n ≡ prewriteEntry h (boxOf st area) m) → EntrySeen h area m found stored r
-  refused-is {n} {r} v e st f = record {
-    answer-is = v .answer-is ∙ e st f;
-    added-is = λ q. absurd (no-pass (sym (v .answer-is) ∙ q));
-    small = let z = load-fields (v .added-is) in omega arith;
+  pub entry-refused : (a ≡ Accepted → ⊥) → {r : Seen} → Refused a r → EntrySeen h area m found stored r
+  entry-refused n v st f =
+      let y = load-fields (ap (λ (w : Weight). w .added) (v .weight-is)) in
+      let z = load-fields (ap (λ (w : Weight). w .freed) (v .weight-is)) in
+      record {
+        answer-is = v .answer-is ∙ answer-is st f;
+        added-is = λ q. absurd (n (sym (v .answer-is) ∙ q));
+        freed-is = λ q. absurd (n (sym (v .answer-is) ∙ q));
+        light = record { added = omega arith; freed = omega arith };
+      }
+
+  pub weight-asks : a ≡ Accepted → keyForm (h .primary) ≡ true → WeightAsks (m .key) (h .primary) (m .row)
+  weight-asks p k =
+      let s = sym e ∙ p in
+      let key : keyForm (m .key) ≡ true = search passed in
+      let row : rowArgument (m .row) ≡ true = search passed in
+      record {
+        key-short = key-bounds (m .key) key .short;
+        primary-short = key-bounds (h .primary) k .short;
+        row-short = λ q r. row-bounds q (ap rowArgument (sym r) ∙ row) .short;
+      }
+
+  pub entry-checked : {w : Weight} → Weighs (m .key) (h .primary) (m .row) (found .lock) w → EntrySeen h area m found stored (record { answer = a; weight = w })
+  unfolding prewriteAdds
+  entry-checked w st f = record {
+    answer-is = answer-is st f;
+    added-is = λ p. w .added-is area ∙ ap (addsOf (m .key) (h .primary) (m .row)) (f .looked .lock-is);
+    freed-is = λ p. w .freed-is;
+    light = w .light;
   }
-    where
-      no-pass : No n ≡ Accepted → ⊥
-      no-pass q =
-          let z : _≡_ {A = ℕ} 0 1 = cc in
-          omega arith
-
-  module _ {k : Bool} (key-is : k ≡ keyForm (m .key)) where
-    pub bad-key : not k ≡ true → {r : Seen} → Refused 1 r → EntrySeen h area m found stored r
-    unfolding prewriteEntry
-    bad-key n v = refused-is v (λ st f. out _ 1 _ (denied _ _ key-is n))
-
-    module _ (key-ok : not k ≡ false) {t : Bool} (row-is : t ≡ rowArgument (m .row)) where
-      pub bad-row : not t ≡ true → {r : Seen} → Refused 2 r → EntrySeen h area m found stored r
-      unfolding prewriteEntry
-      bad-row n v = refused-is v (λ st f. on _ 1 _ _ (granted _ _ key-is key-ok) (out _ 2 _ (denied _ _ row-is n)))
-
-      module _ (row-ok : not t ≡ false) where
-        past-arguments : (b : Box) {a : Answer} → a ≡ need (allSound (recordsOf (m .key) (b .lines))) 9 ▸ need (allBelow (h .start) (recordsOf (m .key) (b .lines))) 8 ▸ lockStep h (m .row) (rowOf (m .key) (h .start) (b .defaults)) (lockOf (m .key) (b .lines)) → a ≡ prewriteEntry h b m
-        unfolding prewriteEntry
-        past-arguments b e = on _ 1 _ _ (granted _ _ key-is key-ok) (on _ 2 _ _ (granted _ _ row-is row-ok) e)
-
-        sound-is : (st : Store) → Found st area (m .key) (h .start) found stored → found .history .sound ≡ allSound (recordsOf (m .key) (boxOf st area .lines))
-        unfolding historyOf
-        sound-is st f = ap (λ (x : History). x .sound) (f .looked .history-is)
-
-        below-is : (st : Store) → Found st area (m .key) (h .start) found stored → found .history .below ≡ allBelow (h .start) (recordsOf (m .key) (boxOf st area .lines))
-        unfolding historyOf
-        below-is st f = ap (λ (x : History). x .below) (f .looked .history-is)
-
-        pub bad-record : not (found .history .sound) ≡ true → {r : Seen} → Refused 9 r → EntrySeen h area m found stored r
-        bad-record n v = refused-is v (λ st f. past-arguments (boxOf st area) (out _ 9 _ (denied _ _ (sound-is st f) n)))
-
-        module _ (sound-ok : not (found .history .sound) ≡ false) where
-          pub too-new : not (found .history .below) ≡ true → {r : Seen} → Refused 8 r → EntrySeen h area m found stored r
-          too-new n v = refused-is v (λ st f. past-arguments (boxOf st area) (on _ 9 _ _ (granted _ _ (sound-is st f) sound-ok) (out _ 8 _ (denied _ _ (below-is st f) n))))
-
-          pub entry-checked : not (found .history .below) ≡ false → {a : Answer} → a ≡ lockStep h (m .row) (when (stored .ok) (bytesAt area (stored .at) (stored .len))) (lockedBy area (found .lock))
-              → {l : Load} → Added (m .key) (h .primary) (m .row) (found .lock) l → EntrySeen h area m found stored (record { answer = a; added = l })
-          unfolding prewriteAdds
-          entry-checked below-ok {a} q {l} w st f =
-              let b = boxOf st area in
-              record {
-                answer-is =
-                    past-arguments b
-                    (on _ 9 _ _ (granted _ _ (sound-is st f) sound-ok)
-                    (on _ 8 _ _ (granted _ _ (below-is st f) below-ok)
-                    (q ∙ ap (λ (o : Option Row). lockStep h (m .row) o (lockedBy area (found .lock))) (f .row .is) ∙ ap (lockStep h (m .row) (rowOf (m .key) (h .start) (b .defaults))) (f .looked .lock-is))));
-                added-is = λ p. w .is area ∙ ap (addsOf (m .key) (h .primary) (m .row)) (f .looked .lock-is);
-                small = w .small;
-              }

@@ -1,11 +1,8 @@
 pub mod LockLaws
 pub mod EntryLaws
-pub mod KeptLaws
-pub mod CheckLaws
-pub mod PassLaws
 pub mod WriteLaws
 pub mod DraftLaws
-pub mod EditLaws
 pub mod DraftingLaws
-pub mod AllLaws
+pub mod ApplyLaws
+pub mod PassLaws
 pub mod BatchLaws

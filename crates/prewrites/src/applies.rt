@@ -1,68 +1,59 @@
-// The applying pass over a batch.
-ghost use Rattle.forms.specs.Batch.{mutation};
-ghost use Rattle.forms.specs.Places.{ahead};
+// The applying pass over a batch, up to the walks that make the edits.
 ghost use Rattle.prewrites.specs.Checks.{headOf};
-ghost use Rattle.prewrites.specs.Applies.{ApplyAsks, Applied};
+ghost use Rattle.prewrites.specs.Drafts.{DraftsAsk, AllDrafted};
 use crate::drafts::draft_entry;
-use crate::drafts::line_stays;
-use crate::drafts::row_stays;
 use crate::heads::Terms;
-use forms::Cursor;
+use crate::parts::key_of;
+use crate::parts::row_of;
+use edits::Plan;
+use forms::Entry;
 use lines::FoundRow;
 use lines::Looked;
-use lines::Store;
-use rules::Load;
 
-// Each entry is written down at the places that were found in the store as it came; then all edits of a table are made in one walk.
-pub fn apply_all(
-    store: Store,
+// Every entry in turn, written down at the places that were found in the store as it came.
+pub fn draft_all(
     area: &mut [u8],
+    top: usize,
     terms: Terms,
     primary: &[u8],
     batch: &[u8],
-    first: Cursor,
+    n: usize,
+    list: [Entry; 32],
     founds: [Looked; 32],
     rows: [FoundRow; 32],
-    load: Load,
-) -> Store
-    requires { ⌜ ApplyAsks store (now area) (headOf terms (now primary)) (now batch) first founds rows load ⌝ }
-    ensures { λ r. ⌜ Applied store (now (area .entry)) (headOf terms (now (primary .entry))) (ahead mutation (now (batch .entry)) (first .at) (first .left)) r (now (area .exit)) ⌝ }
+) -> Plan
+    requires { ⌜ DraftsAsk (headOf terms (now primary)) (now area) top (now batch) n list founds rows ⌝ }
+    ensures { λ r. ⌜ AllDrafted (headOf terms (now (primary .entry))) (now (area .entry)) top (now (batch .entry)) n list founds rows r (now (area .exit)) ⌝ }
 {
-    let stays = line_stays(0);
-    let mut lines = [stays; 32];
-    let still = row_stays(0);
-    let mut defaults = [still; 32];
-    let mut top = store.top;
-    let mut at = first.at;
-    let mut left = first.left;
+    let none = edits::line_stays(0);
+    let nothing = edits::row_stays(0);
+    let mut plan = Plan {
+        lines: [none; 32],
+        rows: [nothing; 32],
+        top: top,
+    };
     let mut i: usize = 0;
-    while 0 < left {
-        let e = forms::entry_at(batch, at);
-        let ka = e.at;
-        let ke = ka + e.len;
-        let ra = e.rowat;
-        let re = ra + e.rowlen;
-        let f = founds[i];
-        let s = rows[i];
+    while i < n {
+        let e = list[i];
+        let key = key_of(batch, e);
+        let row = row_of(batch, e);
         let d = draft_entry(
             area,
-            top,
-            f,
-            s,
+            plan.top,
+            founds[i],
+            rows[i],
             terms,
             primary,
-            &batch[ka..ke],
+            key,
             e.put,
-            &batch[ra..re],
+            row,
         );
         let line = d.line;
-        lines[i] = line;
-        let row = d.row;
-        defaults[i] = row;
-        top = d.top;
-        at = e.next;
-        left -= 1;
+        plan.lines[i] = line;
+        let held = d.row;
+        plan.rows[i] = held;
+        plan.top = d.top;
         i += 1;
     }
-    edits::apply_edits(store, lines, defaults, first.left, load, top)
+    plan
 }

@@ -1,73 +1,67 @@
 // Prewrite of a batch.
-ghost use Rattle.forms.specs.Batch.{mutation};
-ghost use Rattle.forms.specs.Places.{ahead};
+ghost use mathlib.Core.Path.{_≡_};
+ghost use mathlib.Core.Bool.{true};
+ghost use Rattle.seqs.specs.Tables.{shown};
+ghost use Rattle.forms.specs.Key.{keyForm};
+ghost use Rattle.forms.specs.Places.{mutationOf};
 ghost use Rattle.rules.specs.Prewrite.{prewriteBatch};
 ghost use Rattle.lines.specs.View.{boxOf};
 ghost use Rattle.lines.specs.Made.{Made};
 ghost use Rattle.calls.specs.Settled.{Settled};
+ghost use Rattle.calls.specs.Walks.{AllAsks};
 ghost use Rattle.prewrites.specs.Checks.{headOf};
-ghost use Rattle.prewrites.specs.Applies.{AllAsks, allDone};
-use crate::applies::apply_all;
+ghost use Rattle.prewrites.specs.Applies.{allDone};
+use crate::applies::draft_all;
 use crate::heads::Terms;
 use crate::heads::head_step;
 use crate::passes::check_all;
 use calls::Changed;
-use forms::Cursor;
+use forms::Entry;
 use lines::Store;
 use rules::Answer;
 
-// The steps of a batch that is in form and not empty, its head passed: "per entry ascending ..; Then 11", and the applying pass. Where no
-// entry adds a line each is locked already, and nothing changes.
+// The steps of a batch that is in form and not empty, its head passed: "per entry ascending ..; Then 11", and the applying pass:
+// the entries' edits, after a repack where the area wants one for their bytes, and one walk over each table that makes them all.
 fn prewrite_all(
     store: Store,
     area: &mut [u8],
     terms: Terms,
     primary: &[u8],
     batch: &[u8],
-    first: Cursor,
+    n: usize,
+    list: [Entry; 32],
 ) -> Changed
-    requires { ⌜ AllAsks store (now area) (headOf terms (now primary)) (now batch) first ⌝ }
-    ensures { λ r. ⌜ Settled store (now (area .entry)) (allDone (headOf terms (now (primary .entry))) (ahead mutation (now (batch .entry)) (first .at) (first .left)) (boxOf store (now (area .entry)))) r (now (area .exit)) ⌝ }
+    requires { ⌜ (AllAsks store (now area) (now batch) n list) × (keyForm (now primary) ≡ true) ⌝ }
+    ensures { λ r. ⌜ Settled store (now (area .entry)) (allDone (headOf terms (now (primary .entry))) (shown (mutationOf (now (batch .entry))) n list) (boxOf store (now (area .entry)))) r (now (area .exit)) ⌝ }
 {
-    let cuts = surveys::entry_cuts(batch, first);
-    let n = first.left;
-    let founds = surveys::look_all(store, area, batch, cuts, n, terms.start, 0);
-    let rows = surveys::find_rows(store, area, batch, cuts, n, terms.start);
-    let checked = check_all(founds, rows, area, terms, primary, batch, first);
-    let answer = checked.answer;
-    if !calls::accepted(answer) {
+    let founds = surveys::look_all(store, area, batch, list, n, terms.start, 0);
+    let rows = surveys::find_rows(store, area, batch, list, n, terms.start);
+    let load = store.load;
+    let v = check_all(area, terms, primary, batch, n, list, founds, rows, load);
+    if !v.moves {
+        let answer = v.answer;
         return Changed {
             store: store,
             answer: answer,
         };
     }
-    let load = store.load;
-    let added = checked.added;
-    let after = calls::plus_load(load, added);
-    if !rules::load_fits(after) {
-        return Changed {
-            store: store,
-            answer: Answer::No(11),
-        };
-    }
-    if added.lines == 0 {
-        return Changed {
-            store: store,
-            answer: Answer::Accepted,
-        };
-    }
-    let placed = areas::make_place(store, area, added.bytes);
-    let applied = apply_all(
-        placed,
+    let after = v.load;
+    let need = n * 399;
+    let placed = areas::make_place(store, area, need);
+    let plan = draft_all(
         area,
+        placed.top,
         terms,
         primary,
         batch,
-        first,
+        n,
+        list,
         founds,
         rows,
-        after,
     );
+    let ls = plan.lines;
+    let rs = plan.rows;
+    let applied = edits::apply_edits(placed, ls, rs, n, after, plan.top);
     Changed {
         store: applied,
         answer: Answer::Accepted,
@@ -87,30 +81,20 @@ pub fn prewrite_batch(
     requires { ⌜ Made store (now area) ⌝ }
     ensures { λ r. ⌜ Settled store (now (area .entry)) (prewriteBatch (headOf (record { txn = txn; start = start; ttl = ttl }) (now (primary .entry))) (now (batch .entry)) (boxOf store (now (area .entry)))) r (now (area .exit)) ⌝ }
 {
-    if !forms::mutations_in_form(batch) {
-        return Changed {
-            store: store,
-            answer: Answer::No(6),
-        };
-    }
-    let first = forms::first(batch);
-    if first.left == 0 {
-        return Changed {
-            store: store,
-            answer: Answer::No(5),
-        };
-    }
+    let entries = forms::mutations_of(batch);
+    let n = entries.count;
     let terms = Terms {
         txn: txn,
         start: start,
         ttl: ttl,
     };
-    let answer = head_step(terms, primary);
+    let answer = head_step(entries.ok, n, terms, primary);
     if !calls::accepted(answer) {
         return Changed {
             store: store,
             answer: answer,
         };
     }
-    prewrite_all(store, area, terms, primary, batch, first)
+    let list = entries.list;
+    prewrite_all(store, area, terms, primary, batch, n, list)
 }

@@ -9,14 +9,15 @@ ghost use Rattle.rules.specs.Calls.{kindOf};
 ghost use Rattle.rules.specs.Prewrite.{sameLock, lockStep};
 ghost use Rattle.lines.specs.View.{lockIn};
 ghost use Rattle.lines.specs.Looks.{lockedBy, LockBelow};
-ghost use Rattle.prewrites.specs.Checks.{headOf, entryOf, AddsAsks, Added, EntryAsks, Refused, EntrySeen};
+ghost use Rattle.prewrites.specs.Checks.{headOf, entryOf, entrySteps, WeightAsks, Weighs, EntryAsks, EntrySeen};
 use crate::heads::Terms;
+use calls::Seen;
+use calls::Weight;
 use lines::FoundRow;
 use lines::Intent;
 use lines::Locked;
 use lines::Looked;
 use rules::Answer;
-use rules::Load;
 
 // "own lock with any other field": primary, time to live or kind differs from the call's.
 fn same_lock(l: Intent, area: &[u8], terms: Terms, primary: &[u8], put: bool) -> bool
@@ -72,39 +73,61 @@ fn check_lock(
     }
 }
 
-// What an entry adds: where the key has no lock, its lock and a Put's row.
-fn adds(lock: Locked, key: &[u8], primary: &[u8], put: bool, row: &[u8]) -> Load
-    requires { ⌜ AddsAsks (now key) (now primary) (when put (now row)) ⌝ }
-    ensures { λ r. ⌜ Added (now (key .entry)) (now (primary .entry)) (when put (now (row .entry))) lock r ⌝ }
+// What an entry adds: where the key has no lock, its lock and a Put's row. It frees nothing.
+fn weight_of(lock: Locked, key: &[u8], primary: &[u8], put: bool, row: &[u8]) -> Weight
+    requires { ⌜ WeightAsks (now key) (now primary) (when put (now row)) ⌝ }
+    ensures { λ r. ⌜ Weighs (now (key .entry)) (now (primary .entry)) (when put (now (row .entry))) lock r ⌝ }
 {
+    let none = calls::no_load();
     match lock {
         Locked::Nobody => {
             let a = calls::lock_load(key, primary);
             let b = calls::row_load(key, put, row);
-            calls::plus_load(a, b)
+            let added = calls::plus_load(a, b);
+            Weight {
+                added: added,
+                freed: none,
+            }
         }
-        Locked::By(_) => calls::no_load(),
+        Locked::By(_) => Weight {
+            added: none,
+            freed: none,
+        },
     }
 }
 
-// What the check of an entry, or of all entries, says: the answer, and what would be added.
-pub struct Seen {
-    pub answer: Answer,
-    pub added: Load,
-}
-
-fn refusal(n: u8) -> Seen
-    ensures { λ r. ⌜ Refused n r ⌝ }
+// "per entry ascending: 1, 2; each record of the key sound (9); any record stamp at or above start, 8; ..": by what was found at the key.
+fn entry_step(
+    sound: bool,
+    below: bool,
+    lock: Locked,
+    stored: FoundRow,
+    area: &[u8],
+    terms: Terms,
+    primary: &[u8],
+    key: &[u8],
+    put: bool,
+    row: &[u8],
+) -> Answer
+    requires { ⌜ (LockBelow (length (now area)) lock) × (stored .at + stored .len ≤ length (now area)) ⌝ }
+    ensures { λ r. ⌜ r ≡ entrySteps (headOf terms (now (primary .entry))) (entryOf (now (key .entry)) put (now (row .entry))) sound below (when (stored .ok) (bytesAt (now (area .entry)) (stored .at) (stored .len))) (lockedBy (now (area .entry)) lock) ⌝ }
 {
-    let added = calls::no_load();
-    Seen {
-        answer: Answer::No(n),
-        added: added,
+    if !forms::key_in_form(key) {
+        return Answer::No(1);
     }
+    if !calls::row_argument(put, row) {
+        return Answer::No(2);
+    }
+    if !sound {
+        return Answer::No(9);
+    }
+    if !below {
+        return Answer::No(8);
+    }
+    check_lock(lock, stored, area, terms, primary, put, row)
 }
 
-// "per entry ascending: 1, 2; each record of the key sound (9); any record stamp at or above start, 8; ..": of what was found at the key,
-// and not of the store, so that no table is handed on.
+// The same of what was found, and not of the store, so that no table is handed on; and what the entry would add.
 pub fn check_entry(
     found: Looked,
     stored: FoundRow,
@@ -115,27 +138,28 @@ pub fn check_entry(
     put: bool,
     row: &[u8],
 ) -> Seen
-    requires { ⌜ EntryAsks (now area) (headOf terms (now primary)) (now key) found stored ⌝ }
+    requires { ⌜ EntryAsks (now area) (now primary) found stored ⌝ }
     ensures { λ r. ⌜ EntrySeen (headOf terms (now (primary .entry))) (now (area .entry)) (entryOf (now (key .entry)) put (now (row .entry))) found stored r ⌝ }
 {
-    if !forms::key_in_form(key) {
-        return refusal(1);
-    }
-    if !calls::row_argument(put, row) {
-        return refusal(2);
-    }
-    let history = found.history;
-    if !history.sound {
-        return refusal(9);
-    }
-    if !history.below {
-        return refusal(8);
-    }
     let lock = found.lock;
-    let answer = check_lock(lock, stored, area, terms, primary, put, row);
-    let added = adds(lock, key, primary, put, row);
+    let answer = entry_step(
+        found.history.sound,
+        found.history.below,
+        lock,
+        stored,
+        area,
+        terms,
+        primary,
+        key,
+        put,
+        row,
+    );
+    if !calls::accepted(answer) {
+        return calls::refusal(answer);
+    }
+    let weight = weight_of(lock, key, primary, put, row);
     Seen {
         answer: answer,
-        added: added,
+        weight: weight,
     }
 }

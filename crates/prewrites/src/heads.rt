@@ -1,5 +1,8 @@
 // What a prewrite says of its transaction.
 ghost use mathlib.Core.Path.{_≡_};
+ghost use mathlib.Core.Bool.{not};
+ghost use lib.Dec.{eqb};
+ghost use Rattle.rules.specs.Answers.{_▸_, need};
 ghost use Rattle.rules.specs.Prewrite.{headStep};
 ghost use Rattle.prewrites.specs.Checks.{headOf};
 use rules::Answer;
@@ -11,10 +14,16 @@ pub struct Terms {
     pub ttl: u64,
 }
 
-// "transaction, start 3; primary 1; time to live 3"
-pub fn head_step(terms: Terms, primary: &[u8]) -> Answer
-    ensures { λ r. ⌜ r ≡ headStep (headOf terms (now (primary .entry))) ⌝ }
+// "batch 6, 5; transaction, start 3; primary 1; time to live 3", of a batch that was decoded
+pub fn head_step(ok: bool, n: usize, terms: Terms, primary: &[u8]) -> Answer
+    ensures { λ r. ⌜ r ≡ need ok 6 ▸ need (not (eqb n 0)) 5 ▸ headStep (headOf terms (now (primary .entry))) ⌝ }
 {
+    if !ok {
+        return Answer::No(6);
+    }
+    if n == 0 {
+        return Answer::No(5);
+    }
     if terms.txn == 0 {
         return Answer::No(3);
     }

@@ -5,6 +5,7 @@ pub mod batch;
 pub mod checks;
 pub mod drafts;
 pub mod heads;
+pub mod parts;
 pub mod passes;
 pub mod single;
 

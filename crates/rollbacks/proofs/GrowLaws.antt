@@ -1,8 +1,7 @@
--- What a rollback makes of the tallies: lines never get fewer; where no line comes nothing changes, and where one comes the box is another.
+-- What a rollback makes of the tallies: where no line comes nothing changes, and where one comes the box is another.
 -- Assumes nothing.
-use Prim.Native.Nat.{ℕ, _≤_}
+use Prim.Native.Nat.{ℕ}
 use native.Mathlib.Omega.{arith}
-use native.Mathlib.Nat.{le-trans}
 use mathlib.Core.Path.{_≡_, refl, ap, _∙_}
 use mathlib.Core.Bool.{true}
 use mathlib.Core.List.{List, [], _∷_}
@@ -11,55 +10,31 @@ use Rattle.forms.specs.Key.{Key}
 use Rattle.forms.specs.Row.{Row}
 use Rattle.forms.specs.Batch.{ascend}
 use Rattle.rules.specs.declared.records.Record.{Record}
-use Rattle.rules.specs.declared.room.Load.{Load}
 use Rattle.rules.specs.Box.{Box, Lock, recordsOf, lockOf, rowOf, inOrder}
 use Rattle.rules.specs.Room.{loadOf}
 use Rattle.rules.specs.Calls.{stampedAt}
 use Rattle.rules.specs.Rollback.{rollbackTo, applyRollback, applyRollbacks}
 use Rattle.laws.specs.Adds.{plus, sumLoads, recordLoad, ofLock, ofRow, ifNew, rollbackAdds, rollbackFrees}
 use Rattle.laws.proofs.LoadLaws.{load-fields}
-use Rattle.laws.proofs.RollbackLaws.{rollback-order, rollback-load, rollbacks-load}
+use Rattle.laws.proofs.RollbackLaws.{rollbacks-load}
 
 -- ---- one key
 
--- at most its lock's line goes, and a lock with it
-record Goes (start : ℕ) (b : Box) (k : Key) : Type 0 where
-  lines : rollbackFrees start b k .lines ≡ rollbackFrees start b k .locks
-  fewer : rollbackFrees start b k .lines ≤ rollbackAdds start b k .lines
-  locks : rollbackAdds start b k .locks ≡ 0
-
-goes : (start : ℕ) (b : Box) (k : Key) → Goes start b k
+-- a line that goes is a lock's, and no lock comes
+goes : (start : ℕ) (b : Box) (k : Key) → (rollbackFrees start b k .lines ≡ rollbackFrees start b k .locks) × (rollbackAdds start b k .locks ≡ 0)
 unfolding rollbackAdds rollbackFrees ifNew ofLock ofRow
-goes start b k = go (stampedAt start (recordsOf k (b .lines))) refl
+goes start b k = (frees (stampedAt start (recordsOf k (b .lines))) (lockOf k (b .lines)) (rowOf k start (b .defaults)), adds (stampedAt start (recordsOf k (b .lines))))
   where
-    parts : (o : Option Lock) (r : Option Row) → (plus (ofLock k o) (ofRow k r) .lines ≡ plus (ofLock k o) (ofRow k r) .locks) × (plus (ofLock k o) (ofRow k r) .lines ≤ 1)
-    parts none none = (refl, omega arith)
-    parts none (some q) = (refl, omega arith)
-    parts (some l) none = (refl, omega arith)
-    parts (some l) (some q) = (refl, omega arith)
+    frees : (f : Option Record) (o : Option Lock) (r : Option Row) → ifNew f (plus (ofLock k o) (ofRow k r)) .lines ≡ ifNew f (plus (ofLock k o) (ofRow k r)) .locks
+    frees (some w) o r = refl
+    frees none none none = refl
+    frees none none (some q) = refl
+    frees none (some l) none = refl
+    frees none (some l) (some q) = refl
 
-    adds : Option Record → Load
-    adds f = ifNew f (recordLoad k)
-
-    frees : Option Record → Load
-    frees f = ifNew f (plus (ofLock k (lockOf k (b .lines))) (ofRow k (rowOf k start (b .defaults))))
-
-    go : (f : Option Record) → stampedAt start (recordsOf k (b .lines)) ≡ f → Goes start b k
-    go (some w) e =
-        let x = load-fields (ap adds e) in
-        let y = load-fields (ap frees e) in
-        record { lines = omega arith; fewer = omega arith; locks = omega arith }
-    go none e =
-        let x = load-fields (ap adds e) in
-        let y = load-fields (ap frees e) in
-        let p = parts (lockOf k (b .lines)) (rowOf k start (b .defaults)) in
-        record { lines = omega (arith, p .0); fewer = omega (arith, p .1); locks = omega arith }
-
-pub rollback-grows : (start : ℕ) (k : Key) (b : Box) → inOrder b ≡ true → loadOf b .lines ≤ loadOf (applyRollback start k b) .lines
-rollback-grows start k b o =
-    let p = load-fields (rollback-load start k b o) in
-    let g = goes start b k in
-    omega (arith, p .lines, g .fewer)
+    adds : (f : Option Record) → ifNew f (recordLoad k) .locks ≡ 0
+    adds (some w) = refl
+    adds none = refl
 
 none-comes : (start : ℕ) (k : Key) (b : Box) → rollbackAdds start b k .lines ≡ 0 → applyRollback start k b ≡ b
 unfolding rollbackAdds applyRollback rollbackTo ifNew
@@ -70,11 +45,6 @@ none-comes start k b e = go (stampedAt start (recordsOf k (b .lines))) e
     go none q = absurd (omega arith)
 
 -- ---- all keys
-
-pub rollbacks-grow : (start : ℕ) (ks : List Key) (b : Box) → inOrder b ≡ true → loadOf b .lines ≤ loadOf (applyRollbacks start ks b) .lines
-unfolding applyRollbacks
-rollbacks-grow start [] b o = omega arith
-rollbacks-grow start (k ∷ ks) b o = le-trans (rollback-grows start k b o) (rollbacks-grow start ks (applyRollback start k b) (rollback-order start k b o))
 
 pub rolled-already : (start : ℕ) (ks : List Key) (b : Box) → sumLoads (rollbackAdds start b) ks .lines ≡ 0 → applyRollbacks start ks b ≡ b
 unfolding applyRollbacks sumLoads
@@ -90,7 +60,7 @@ all-go start [] b = (refl, refl)
 all-go start (k ∷ ks) b =
     let g = goes start b k in
     let ih = all-go start ks b in
-    (omega (arith, g .lines, ih .0), omega (arith, g .locks, ih .1))
+    (omega (arith, g .0, ih .0), omega (arith, g .1, ih .1))
 
 -- a Rollback that comes is one record more than there were
 pub rolled-new : (start : ℕ) (ks : List Key) (b : Box) → ascend (λ k. k) ks ≡ true → inOrder b ≡ true → loadOf (applyRollbacks start ks b) ≡ loadOf b → sumLoads (rollbackAdds start b) ks .lines ≡ 0

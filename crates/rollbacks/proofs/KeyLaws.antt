@@ -19,13 +19,11 @@ use Rattle.rules.specs.Rollback.{rollbackLock, rollbackStep}
 use Rattle.laws.proofs.StepLaws.{and-both, and-false, and-false-right}
 use Rattle.laws.proofs.ChainLaws.{out, on, last-out, last-on, own-out, own-on, denies, grants, denied, granted}
 use Rattle.lines.specs.declared.store.Intent.{Intent}
-use Rattle.lines.specs.declared.keys.Found.{Found}
-use Rattle.lines.specs.declared.keys.Found.the-variants as found
 use Rattle.lines.specs.declared.keys.Locked.{Locked}
 use Rattle.lines.specs.declared.keys.Locked.the-variants.{Nobody, By}
 use Rattle.lines.specs.View.{lockIn}
-use Rattle.lines.specs.Looks.{lockedBy, foundOf}
-use Rattle.calls.proofs.ReadyLaws.{when-some, was-found, was-nothing}
+use Rattle.lines.specs.Looks.{lockedBy}
+use Rattle.calls.proofs.ReadyLaws.{when-some}
 
 -- ---- a record stamped with this start
 
@@ -93,15 +91,3 @@ module _ (txn start : ℕ) (area : Bytes) (lock : Locked) where
 
       pub all-ready : not k ≡ false → Accepted ≡ rollbackLock txn start stored (lockedBy area lock)
       all-ready p = go-on (last-on _ 9 (granted _ _ ready p))
-
--- ---- the record, or else the lock
-
-module _ (txn start : ℕ) (area : Bytes) (lock : Locked) (at : Found) where
-  pub at-record : (ok : Bool) (row : Row) {w : Record} → at ≡ found.Is w → {a : Answer} → ((area : Bytes) (txn : ℕ) (row : Row) → a ≡ rollbackStep txn start (when ok row) (lockedBy area lock) (some w))
-      → (o : Option Record) → at ≡ foundOf o → a ≡ rollbackStep txn start (when ok row) (lockedBy area lock) o
-  at-record ok row e q o f = q area txn row ∙ ap (rollbackStep txn start (when ok row) (lockedBy area lock)) (sym (was-found o (sym f ∙ e)))
-
-  pub at-lock : (stored : Option Row) → at ≡ found.Nothing → {a : Answer} → a ≡ rollbackLock txn start stored (lockedBy area lock)
-      → (o : Option Record) → at ≡ foundOf o → a ≡ rollbackStep txn start stored (lockedBy area lock) o
-  unfolding rollbackStep
-  at-lock stored e q o f = q ∙ ap (rollbackStep txn start stored (lockedBy area lock)) (sym (was-nothing o (sym f ∙ e)))

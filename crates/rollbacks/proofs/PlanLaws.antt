@@ -1,9 +1,9 @@
 -- The applying pass of a batch, one key: what its edits do is its rollback.
 -- Assumes nothing.
-use Prim.Native.Nat.{ℕ, _+_}
+use Prim.Native.Nat.{ℕ, _+_, _≤_}
 use native.Mathlib.Omega.{arith}
-use mathlib.Core.Path.{_≡_, refl, sym, ap, _∙_, subst}
-use mathlib.Core.Bool.{Bool, true, false, not, true≢false}
+use mathlib.Core.Path.{_≡_, refl, sym, ap, ap₂, _∙_, subst}
+use mathlib.Core.Bool.{Bool, true, false, not, false≢true}
 use mathlib.Core.List.{List}
 use mathlib.Core.Option.{Option, none, some}
 use lib.ListN.{length}
@@ -12,7 +12,6 @@ use Rattle.forms.specs.Bytes.{Bytes}
 use Rattle.forms.specs.Key.{Key}
 use Rattle.forms.specs.Row.{Row}
 use Rattle.forms.specs.Readers.{isSome}
-use Rattle.forms.proofs.KeyLaws.{key-bounds}
 use Rattle.rules.specs.declared.records.Kind.the-variants.{Rollback}
 use Rattle.rules.specs.declared.records.Record.{Record}
 use Rattle.rules.specs.Box.{Box, Lock, KeyLine, Default, recordsOf, lockOf, rowOf, inOrder, insertLine, dropLock, dropRow}
@@ -24,22 +23,21 @@ use Rattle.laws.proofs.FrameLaws.{Same}
 use Rattle.laws.proofs.LoadLaws.{load-fields}
 use Rattle.laws.proofs.Unrolled.{rollback-adds-new, rollback-adds-old}
 use Rattle.laws.proofs.RollbackLaws.{rollback-old, rollback-new}
-use Rattle.lines.specs.declared.store.Line.the-variants.{Finished}
 use Rattle.lines.specs.declared.keys.Looked.{Looked}
 use Rattle.lines.specs.declared.places.FoundRow.{FoundRow}
-use Rattle.lines.specs.View.{lineOf}
-use Rattle.lines.specs.Looks.{lockedBy, foundOf}
-use Rattle.areas.specs.Areas.{Appended}
+use Rattle.lines.specs.Looks.{foundOf}
+use Rattle.edits.specs.Seen.{lineStays, rowStays}
+use Rattle.edits.specs.Writes.{RecordWritten}
 use Rattle.edits.specs.declared.edit.LineEdit.{LineEdit}
 use Rattle.edits.specs.declared.edit.RowEdit.{RowEdit}
+use Rattle.edits.specs.declared.edit.Draft.{Draft}
 use Rattle.edits.proofs.LineKinds.{LinesAre, line-none, line-unlocked, line-ended}
 use Rattle.edits.proofs.RowKinds.{DefaultsAre, row-none, row-absent, row-dropped}
 use Rattle.edits.proofs.KeepLaws.{LineKept, RowKept}
-use Rattle.edits.proofs.WrittenLaws.{above-none, above-appended}
-use Rattle.rollbacks.specs.declared.plans.KeyPlan.{KeyPlan}
-use Rattle.rollbacks.specs.Plans.{Spot, goesIf, stillBy, PlaceAsks, KeyKept, KeyPlanned}
+use Rattle.edits.proofs.WrittenLaws.{above-none}
+use Rattle.rollbacks.specs.Plans.{Spot, goesIf, KeyKept, KeyPlanned}
 
--- ---- one key
+-- ---- what the rollback of a key makes of a box that shows the same at it
 
 module _ (start : ℕ) (b : Box) (k : Key) where
   -- it has its Rollback
@@ -62,19 +60,18 @@ module _ (start : ℕ) (b : Box) (k : Key) where
     rows-new c v = ap (λ (x : Box). x .defaults) (rollback-new start k c (ap (stampedAt start) (v .records) ∙ e))
 
 never : {X : Type 0} → false ≡ true → X
-never e = absurd (true≢false (sym e))
+never e = absurd (false≢true e)
 
-module _ {area : Bytes} {top : ℕ} {k : Key} {stored : FoundRow} (a : PlaceAsks area top k stored) (start : ℕ) (found : Looked) {f : Bool} (nothing : (o : Option Record) → found .history .at ≡ foundOf o → f ≡ not (isSome o)) where
-  abbrev mark : Record
-  mark = recordFor start start Rollback
+-- ---- the edits, by what was found
 
+module _ {start : ℕ} {k : Key} {found : Looked} {stored : FoundRow} {f : Bool} (nothing : (o : Option Record) → found .history .at ≡ foundOf o → f ≡ not (isSome o)) where
   module _ (b : Box) (s : Spot start b k found stored) where
     at-here : f ≡ not (isSome (stampedAt start (recordsOf k (b .lines))))
     at-here = nothing (stampedAt start (recordsOf k (b .lines))) (s .at-is)
 
   -- "accepted and unchanged"
-  module _ (n : not f ≡ true) where
-    still-kept : (b : Box) → inOrder b ≡ true → Spot start b k found stored → (o : Option Record) → stampedAt start (recordsOf k (b .lines)) ≡ o → f ≡ not (isSome o) → KeyKept start b area top k (stillBy (found .first) (stored .place) top)
+  module _ {area : Bytes} {top : ℕ} (n : not f ≡ true) where
+    still-kept : (b : Box) → inOrder b ≡ true → Spot start b k found stored → (o : Option Record) → stampedAt start (recordsOf k (b .lines)) ≡ o → f ≡ not (isSome o) → KeyKept start b area top k (record { line = lineStays (found .first); row = rowStays (stored .place); top = top })
     still-kept b ob s none e q = never (sym (ap not q) ∙ n)
     still-kept b ob s (some w) e q = record {
       line = record { below = λ c. never c; does = line-none (λ (k : Key). k) start (applyRollback start) b ob (lines-still start b k w e) refl refl (s .first-is) };
@@ -82,35 +79,25 @@ module _ {area : Bytes} {top : ℕ} {k : Key} {stored : FoundRow} (a : PlaceAsks
       bytes = omega (arith, load-fields (rollback-adds-old start b k w e) .bytes);
     }
 
-    still-is : KeyPlanned start area top k found stored (stillBy (found .first) (stored .place) top) area
-    still-is = record { above = above-none area top; up = omega arith; room = omega arith; each = λ b ob s. still-kept b ob s (stampedAt start (recordsOf k (b .lines))) refl (at-here b s) }
-
-    pub key-still : {r : KeyPlan} → r ≡ stillBy (found .first) (stored .place) top → KeyPlanned start area top k found stored r area
-    key-still {r} e = subst (λ (x : KeyPlan). KeyPlanned start area top k found stored x area) (sym e) still-is
+    pub key-still : {line : LineEdit} → line ≡ lineStays (found .first) → {row : RowEdit} → row ≡ rowStays (stored .place) → KeyPlanned start area top k found stored (record { line = line; row = row; top = top }) area
+    key-still l r =
+        subst (λ (x : Draft). KeyPlanned start area top k found stored x area) (sym (ap₂ (λ (x : LineEdit) (y : RowEdit). record { line = x; row = y; top = top }) l r))
+        (record { above = above-none area top; up = omega arith; room = omega arith; each = λ b ob s. still-kept b ob s (stampedAt start (recordsOf k (b .lines))) refl (at-here b s) })
 
   -- "Lock and its row go, a Rollback record comes"
-  module _ (n : not f ≡ false) {area′ : Bytes} (p : Appended area top k area′) {free : Bool} (free-is : (area : Bytes) → free ≡ not (isSome (lockedBy area (found .lock)))) where
-    abbrev line : LineEdit
-    line = record { gone = not free; from = found .first; comes = true; to = found .place; slot = record { at = top; len = length k; used = true; line = Finished (recordFor start start Rollback) } }
-
-    shows : lineOf area′ (line .slot) ≡ finishedAt k (recordFor start start Rollback)
-    shows = ap (λ (j : Key). finishedAt j (recordFor start start Rollback)) (p .stands)
-
+  module _ {area : Bytes} {top : ℕ} (n : not f ≡ false) {line : LineEdit} {area′ : Bytes} (w : RecordWritten area top k found (recordFor start start Rollback) line area′) where
     module _ (b : Box) (ob : inOrder b ≡ true) (s : Spot start b k found stored) where
       new-here : stampedAt start (recordsOf k (b .lines)) ≡ none
       new-here = none-there _ (sym (at-here b s) ∙ not-false f n)
 
-      locked-is : free ≡ not (isSome (lockOf k (b .lines)))
-      locked-is = free-is area ∙ ap not (s .lock-is area)
-
-      line-does : (o : Option Lock) → lockOf k (b .lines) ≡ o → free ≡ not (isSome o) → LineKept (λ (k : Key). k) start (applyRollback start) b area′ (top + length k) k line
+      line-does : (o : Option Lock) → lockOf k (b .lines) ≡ o → line .gone ≡ isSome o → LineKept (λ (k : Key). k) start (applyRollback start) b area′ (top + length k) k line
       line-does none e q = record {
-        below = λ c. record { key-below = omega arith; line-below = tt; in-use = refl };
-        does = line-unlocked (λ (k : Key). k) start (applyRollback start) b ob mark new-here refl shows (s .place-is) (lines-new start b k new-here) e (ap not q);
+        below = λ c. w .below;
+        does = line-unlocked (λ (k : Key). k) start (applyRollback start) b ob (recordFor start start Rollback) new-here (w .comes-is) (w .shows) (w .to-is ∙ s .place-is) (lines-new start b k new-here) e q;
       }
       line-does (some m) e q = record {
-        below = λ c. record { key-below = omega arith; line-below = tt; in-use = refl };
-        does = line-ended (λ (k : Key). k) start (applyRollback start) b ob mark new-here refl shows (s .place-is) m (lines-new start b k new-here) e (ap not q) (s .first-is);
+        below = λ c. w .below;
+        does = line-ended (λ (k : Key). k) start (applyRollback start) b ob (recordFor start start Rollback) new-here (w .comes-is) (w .shows) (w .to-is ∙ s .place-is) m (lines-new start b k new-here) e q (w .from-is ∙ s .first-is);
       }
 
       row-does : (t : Bool) (o : Option Row) → rowOf k start (b .defaults) ≡ o → t ≡ isSome o → RowKept (λ (k : Key). k) start (applyRollback start) b area′ (top + length k) k (goesIf t (stored .place))
@@ -119,13 +106,13 @@ module _ {area : Bytes} {top : ℕ} {k : Key} {stored : FoundRow} (a : PlaceAsks
       row-does false none e q = record { below = λ c. never c; does = row-absent (λ (k : Key). k) start (applyRollback start) b ob (rows-new start b k new-here) e refl refl (s .row-is) }
       row-does false (some r) e q = never q
 
-    pub key-planned : {row : RowEdit} → row ≡ goesIf (stored .ok) (stored .place) → KeyPlanned start area top k found stored (record { line = record { gone = not free; from = found .first; comes = true; to = found .place; slot = record { at = top; len = length k; used = true; line = Finished (record { stamp = start; start = start; commit = start; kind = Rollback }) } }; row = row; top = top + length k }) area′
-    key-planned {row} e = record {
-      above = above-appended p;
+    pub key-planned : length k ≤ 48 → {row : RowEdit} → row ≡ goesIf (stored .ok) (stored .place) → KeyPlanned start area top k found stored (record { line = line; row = row; top = top + length k }) area′
+    key-planned short {row} e = record {
+      above = w .above;
       up = omega arith;
-      room = omega (arith, key-bounds k (a .form) .short);
+      room = omega arith;
       each = λ b ob s. record {
-        line = line-does b ob s (lockOf k (b .lines)) refl (locked-is b ob s);
+        line = line-does b ob s (lockOf k (b .lines)) refl (w .gone-is area ∙ s .lock-is area);
         row = subst (λ (x : RowEdit). RowKept (λ (k : Key). k) start (applyRollback start) b area′ (top + length k) k x) (sym e) (row-does b ob s (stored .ok) (rowOf k start (b .defaults)) refl (s .stored-is));
         bytes = omega (arith, load-fields (rollback-adds-new start b k (new-here b ob s)) .bytes);
       };

@@ -1,17 +1,17 @@
-// The check of one key, by what the lookups found of it.
+// The check of one key, by what the lookups found at it: its answer, and what it would add and free.
 ghost use mathlib.Core.Path.{_≡_};
-ghost use mathlib.Core.Option.{Option, some};
+ghost use mathlib.Core.Option.{some};
 ghost use Prim.Native.Nat.{ℕ, _+_, _≤_};
 ghost use lib.ListN.{length};
-ghost use Rattle.forms.specs.Bytes.{Bytes, bytesAt};
+ghost use Rattle.forms.specs.Bytes.{Bytes};
 ghost use Rattle.forms.specs.Row.{Row};
 ghost use Rattle.forms.specs.Readers.{when};
 ghost use Rattle.rules.specs.Rollback.{rollbackStep, rollbackLock};
-ghost use Rattle.lines.specs.Looks.{lockedBy, foundOf};
-ghost use Rattle.rollbacks.specs.Checks.{Refused, KeyAsks, KeySeen};
-use crate::weights::Weight;
-use crate::weights::no_weight;
-use crate::weights::weight_of;
+ghost use Rattle.lines.specs.Looks.{lockedBy};
+ghost use Rattle.calls.specs.Frees.{FreesAsks};
+ghost use Rattle.rollbacks.specs.Checks.{rowIn, Weighs, StepAsks, StepSeen, KeySeen};
+use calls::Seen;
+use calls::Weight;
 use lines::Found;
 use lines::FoundRow;
 use lines::Locked;
@@ -44,7 +44,7 @@ fn check_stamped(w: Record, lock: Locked, ok: bool, start: u64) -> Answer
 // "another's lock 7; Put lock without decoding default 9; Delete lock or no lock with a default 9; kind Rollback 9"
 fn check_lock(lock: Locked, stored: FoundRow, area: &[u8], txn: u64, start: u64) -> Answer
     requires { ⌜ stored .at + stored .len ≤ length (now area) ⌝ }
-    ensures { λ r. ⌜ r ≡ rollbackLock txn start (when (stored .ok) (bytesAt (now (area .entry)) (stored .at) (stored .len))) (lockedBy (now (area .entry)) lock) ⌝ }
+    ensures { λ r. ⌜ r ≡ rollbackLock txn start (rowIn (now (area .entry)) stored) (lockedBy (now (area .entry)) lock) ⌝ }
 {
     match lock {
         Locked::Nobody => {
@@ -66,30 +66,54 @@ fn check_lock(lock: Locked, stored: FoundRow, area: &[u8], txn: u64, start: u64)
     }
 }
 
-// The record at this start, or else the lock.
-fn check_at(at: Found, lock: Locked, stored: FoundRow, area: &[u8], txn: u64, start: u64) -> Answer
-    requires { ⌜ stored .at + stored .len ≤ length (now area) ⌝ }
-    ensures { λ r. ⌜ ((o : Option Record) → at ≡ foundOf o → r ≡ rollbackStep txn start (when (stored .ok) (bytesAt (now (area .entry)) (stored .at) (stored .len))) (lockedBy (now (area .entry)) lock) o) ⌝ }
+// "Lock and its row go, a Rollback record comes": what that adds and frees.
+fn weigh(key: &[u8], lock: Locked, stored: FoundRow) -> Weight
+    requires { ⌜ FreesAsks (now key) (stored .ok) (stored .len) ⌝ }
+    ensures { λ r. ⌜ Weighs (now (key .entry)) lock stored r ⌝ }
 {
-    match at {
-        Found::Is(w) => check_stamped(w, lock, stored.ok, start),
-        Found::Nothing => check_lock(lock, stored, area, txn, start),
+    let added = calls::record_load(key);
+    let a = calls::lock_frees(key, lock);
+    let b = calls::row_frees(key, stored.ok, stored.len);
+    let freed = calls::plus_load(a, b);
+    Weight {
+        added: added,
+        freed: freed,
     }
 }
 
-// What the check of a key finds: its answer, and what it would add and free.
-pub struct Seen {
-    pub answer: Answer,
-    pub weight: Weight,
-}
-
-fn refusal(answer: Answer) -> Seen
-    ensures { λ r. ⌜ Refused answer r ⌝ }
+// The record at this start, or else the lock. A key that has its Rollback adds and frees nothing.
+fn check_at(
+    at: Found,
+    lock: Locked,
+    stored: FoundRow,
+    area: &[u8],
+    txn: u64,
+    start: u64,
+    key: &[u8],
+) -> Seen
+    requires { ⌜ StepAsks (now area) (now key) stored ⌝ }
+    ensures { λ r. ⌜ StepSeen txn start (now (area .entry)) (now (key .entry)) at lock stored r ⌝ }
 {
-    let weight = no_weight();
-    Seen {
-        answer: answer,
-        weight: weight,
+    match at {
+        Found::Is(w) => {
+            let answer = check_stamped(w, lock, stored.ok, start);
+            let none = calls::no_weight();
+            Seen {
+                answer: answer,
+                weight: none,
+            }
+        }
+        Found::Nothing => {
+            let answer = check_lock(lock, stored, area, txn, start);
+            if !calls::accepted(answer) {
+                return calls::refusal(answer);
+            }
+            let weight = weigh(key, lock, stored);
+            Seen {
+                answer: Answer::Accepted,
+                weight: weight,
+            }
+        }
     }
 }
 
@@ -102,26 +126,18 @@ pub fn check_key(
     start: u64,
     key: &[u8],
 ) -> Seen
-    requires { ⌜ KeyAsks (now area) start (now key) found stored ⌝ }
+    requires { ⌜ stored .at + stored .len ≤ length (now area) ⌝ }
     ensures { λ r. ⌜ KeySeen txn start (now (area .entry)) (now (key .entry)) found stored r ⌝ }
 {
     if !forms::key_in_form(key) {
-        return refusal(Answer::No(1));
+        return calls::refusal(Answer::No(1));
     }
     let history = found.history;
     let rolls = history.rolls;
     if !calls::accepted(rolls) {
-        return refusal(rolls);
+        return calls::refusal(rolls);
     }
-    let lock = found.lock;
     let at = history.at;
-    let answer = check_at(at, lock, stored, area, txn, start);
-    if !calls::accepted(answer) {
-        return refusal(answer);
-    }
-    let weight = weight_of(key, at, lock, stored);
-    Seen {
-        answer: Answer::Accepted,
-        weight: weight,
-    }
+    let lock = found.lock;
+    check_at(at, lock, stored, area, txn, start, key)
 }

@@ -1,40 +1,33 @@
 // The checking pass over a batch of keys.
-ghost use Rattle.forms.specs.Readers.{piece};
-ghost use Rattle.forms.specs.Places.{ahead};
-ghost use Rattle.rollbacks.specs.Passes.{WalkAsks, AllSeen};
-use crate::checks::Seen;
+ghost use Rattle.calls.specs.Walks.{PassAsks};
+ghost use Rattle.rollbacks.specs.Checks.{KeysSeen};
 use crate::checks::check_key;
-use crate::weights::no_weight;
-use crate::weights::plus_weight;
-use forms::Cursor;
+use calls::Seen;
+use forms::Entry;
 use lines::FoundRow;
 use lines::Looked;
 use rules::Answer;
 
-// Every key on the store as it came, by what the surveys found, the whole list for one key before the next.
+// Every key by what was found at it in the store as it came, the whole list for one key before the next.
 pub fn check_all(
     area: &[u8],
     txn: u64,
     start: u64,
     batch: &[u8],
-    first: Cursor,
+    n: usize,
+    list: [Entry; 32],
     founds: [Looked; 32],
     rows: [FoundRow; 32],
 ) -> Seen
-    requires { ⌜ WalkAsks (now area) start (now batch) first founds rows ⌝ }
-    ensures { λ r. ⌜ AllSeen txn start (now (area .entry)) (ahead piece (now (batch .entry)) (first .at) (first .left)) (first .left) founds rows r ⌝ }
+    requires { ⌜ PassAsks (now area) (now batch) start start n list founds rows ⌝ }
+    ensures { λ r. ⌜ KeysSeen txn start (now (area .entry)) (now (batch .entry)) n list founds rows r ⌝ }
 {
-    let mut at = first.at;
-    let mut left = first.left;
+    let mut weight = calls::no_weight();
     let mut i: usize = 0;
-    let mut weight = no_weight();
-    while 0 < left {
-        let p = forms::part_at(batch, at);
-        let ka = p.at;
-        let ke = ka + p.len;
-        let found = founds[i];
-        let stored = rows[i];
-        let seen = check_key(found, stored, area, txn, start, &batch[ka..ke]);
+    while i < n {
+        let e = list[i];
+        let key = lines::part(batch, e.at, e.len);
+        let seen = check_key(founds[i], rows[i], area, txn, start, key);
         let answer = seen.answer;
         if !calls::accepted(answer) {
             return Seen {
@@ -43,9 +36,7 @@ pub fn check_all(
             };
         }
         let more = seen.weight;
-        weight = plus_weight(weight, more);
-        at = ke;
-        left -= 1;
+        weight = calls::plus_weight(weight, more);
         i += 1;
     }
     Seen {

@@ -7,9 +7,9 @@ use native.Mathlib.Nat.{zero-add, suc-add, le-of-lt}
 use mathlib.Core.Path.{_≡_, refl, sym, ap, ap₂, _∙_}
 use mathlib.Core.List.{List, [], _∷_, _++_, map, map-append, append-assoc}
 use lib.ListN.{length, getD, take, drop, set, replicate, length-map, List·getD-map, length-append, length-drop, length-set, length-replicate, drop-of-length-le}
-use lib.Seq.{length-take-le, getD-take, take-nil, drop-cons, drop-at, drop-drop, slice, take-at, take-take, length-slice, take-append-add, drop-append-add, take-set-lt, drop-set-lt}
+use lib.Seq.{length-take-le, getD-take, take-nil, drop-cons, drop-at, drop-drop, slice, take-at, take-take, length-slice, take-append-add, drop-append-add, take-set-lt, drop-set-lt, take-suc-set}
 use Rattle.seqs.specs.Tables.{All, Table, shown, insertAt, removeAt, moveTo, inserted}
-use Rattle.seqs.proofs.Alls.{all-at, all-append, all-cons, all-take, all-drop, all-insert, all-remove, all-weaken, map-same}
+use Rattle.seqs.proofs.Alls.{all-at, all-none, all-append, all-cons, all-take, all-drop, all-insert, all-remove, all-weaken, map-same}
 
 module _ {A : Type 0} where
   drop-take-add : (i m : ℕ) (l : List A) → drop i (take (i + m) l) ≡ take m (drop i l)
@@ -160,6 +160,10 @@ module _ {A B : Type 0} (f : A → B) (l : List A) where
   unfolding shown
   shown-set i n x h = ap (map f) (take-set-lt n l i x h) ∙ map-set f i x (take n l)
 
+  pub shown-added : (n : ℕ) (x : A) → n < length l → shown f (n + 1) (set l n x) ≡ shown f n l ++ (f x ∷ [])
+  unfolding shown
+  shown-added n x h = rw (add-one, take-suc-set l n x h) (map-append f (take n l) (x ∷ []))
+
 -- two ways of showing that agree where P holds
 pub shown-same : {A B : Type 0} (f g : A → B) (P : A → Type 0) → ((x : A) → P x → f x ≡ g x) → (n : ℕ) (l : List A) → All P (take n l) → shown f n l ≡ shown g n l
 unfolding shown
@@ -189,6 +193,10 @@ module _ {A : Type 0} {P : A → Type 0} {empty : A} {size n : ℕ} {l : List A}
     shown-drop i h =
         let g : i < length (shown f n l) = omega (arith, shown-length) in
         drop-cons (shown f n l) i (f empty) g ∙ ap (λ (e : B). e ∷ drop (suc i) (shown f n l)) (shown-at i h)
+
+    -- what is left from i on: an element and what is left after it
+    pub shown-next : (i : ℕ) → i < n → drop i (shown f n l) ≡ f (getD l i empty) ∷ drop (i + 1) (shown f n l)
+    shown-next i h = shown-drop i h ∙ ap (λ (j : ℕ). f (getD l i empty) ∷ drop j (shown f n l)) (sym (add-one i))
 
     pub shown-past : (i : ℕ) → n ≤ i → drop i (shown f n l) ≡ []
     shown-past i h = let g : length (shown f n l) ≤ i = omega (arith, shown-length) in drop-of-length-le (shown f n l) g
@@ -226,6 +234,18 @@ module _ {A : Type 0} {P : A → Type 0} {empty : A} {size n : ℕ} {l : List A}
       holds = rw (take-set-lt n l i x h) (all-set P i x (take n l) p (t .holds));
       rest = drop-set-lt n l i x h ∙ t .rest;
     }
+
+  -- one more comes past those that count
+  pub table-added : (x : A) → P x → n < size → Table P empty size (n + 1) (set l n x)
+  table-added x p room =
+      let g : n < length l = omega (arith, t .long) in
+      let k : size - n ≡ suc (size - (n + 1)) = omega arith in
+      record {
+        long = length-set l n x ∙ t .long;
+        few = omega arith;
+        holds = rw (add-one, take-suc-set l n x g) (all-append P (take n l) (x ∷ []) (t .holds) (all-cons P x [] p (all-none P)));
+        rest = drop-set-lt (n + 1) l n x (omega arith) ∙ sym (drop-drop 1 n l) ∙ ap (drop 1) (t .rest ∙ ap (λ (m : ℕ). replicate m empty) k);
+      }
 
   pub table-removed : (i : ℕ) → i < n → Table P empty size (n - 1) (moveTo i n empty l)
   table-removed i h =

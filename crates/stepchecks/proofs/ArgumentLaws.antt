@@ -1,49 +1,31 @@
--- "3; each entry in turn 1, 2": the ways out of the first steps of a one-step batch.
+-- "each entry in turn 1, 2": the ways out of the first steps of a one-step batch, and what an entry has where all have passed.
 -- Assumes nothing.
-use Prim.Native.Nat.{ℕ, _-_, _≤_, _<_}
-use mathlib.Core.Path.{_≡_, refl, sym, ap, _∙_}
+use Prim.Native.Nat.{ℕ, zero, suc, _+_, _≤_, _<_}
+use native.Mathlib.Omega.{arith}
+use mathlib.Core.Path.{_≡_, refl, sym, ap, _∙_, subst}
+use mathlib.Core.Bool.{true}
 use mathlib.Core.List.{List, [], _∷_}
-use lib.Dec.{ltb}
-use borrow.Author.Tests.{lt-ltb, le-ltb}
+use lib.ListN.{getD, drop}
+use Rattle.seqs.specs.Tables.{shown}
+use Rattle.seqs.proofs.Tables.{shown-next, shown-past}
 use Rattle.forms.specs.Bytes.{Bytes}
 use Rattle.forms.specs.Key.{keyForm}
-use Rattle.forms.specs.Batch.{Mutation, mutation}
-use Rattle.forms.specs.Places.{mutationOf, EntryAt, ahead, Ahead}
-use Rattle.forms.specs.declared.batch.Cursor.{Cursor}
+use Rattle.forms.specs.Batch.{Mutation}
+use Rattle.forms.specs.Places.{keyAt, mutationOf, noEntry, Listed}
 use Rattle.forms.specs.declared.batch.Entry.{Entry}
-use Rattle.forms.proofs.BatchLaws.{mutation-next}
 use Rattle.rules.specs.declared.answers.Answer.{Answer}
-use Rattle.rules.specs.declared.answers.Answer.the-variants.{Accepted, No}
+use Rattle.rules.specs.declared.answers.Answer.the-variants.{Accepted}
 use Rattle.rules.specs.Answers.{_▸_, need}
 use Rattle.rules.specs.Box.{Box, fresh}
-use Rattle.rules.specs.Calls.{zeroStep, rowArgument}
-use Rattle.rules.specs.Commit.{Ending, endingStep}
+use Rattle.rules.specs.Calls.{rowArgument}
 use Rattle.rules.specs.OneStep.{argumentsStep}
-use Rattle.laws.proofs.StepLaws.{then-assoc}
-use Rattle.laws.proofs.ChainLaws.{call-on, last-out, last-on}
+use Rattle.laws.proofs.StepLaws.{then-left, then-right, then-assoc, need-true}
 use Rattle.laws.proofs.BatchLaws.{checkAll}
-use Rattle.calls.proofs.SettledLaws.{then-refused}
 use Rattle.calls.proofs.WalkLaws.{Walking, walking-start, walking-more, walking-out, walking-end}
 use Rattle.stepchecks.specs.Checks.{argumentStep}
 
--- ---- "3"
-
-module _ (h : Ending) {a : Answer} (e : a ≡ zeroStep (h .txn) (h .start)) where
-  pub ending-zero : (a ≡ Accepted → ⊥) → a ≡ endingStep h
-  unfolding endingStep
-  ending-zero n = then-refused a _ n ∙ ap (λ (x : Answer). x ▸ need (ltb (h .start) (h .commit)) 3) e
-
-  pub ending-low : a ≡ Accepted → h .commit ≤ h .start → No 3 ≡ endingStep h
-  unfolding endingStep
-  ending-low p l = call-on (No 3) a _ _ e p (last-out _ 3 (le-ltb (h .start) (h .commit) l))
-
-  pub ending-high : a ≡ Accepted → h .start < h .commit → Accepted ≡ endingStep h
-  unfolding endingStep
-  ending-high p l = call-on Accepted a _ _ e p (last-on _ 3 (lt-ltb (h .start) (h .commit) l))
-
--- ---- "each entry in turn 1, 2": they ask nothing of the box
-
-abbrev pub ofArguments : Box → Mutation → Answer
+-- they ask nothing of the box
+abbrev ofArguments : Box → Mutation → Answer
 ofArguments b m = argumentStep m
 
 arguments-all : (b : Box) (ms : List Mutation) → argumentsStep ms ≡ checkAll ofArguments b ms
@@ -52,19 +34,45 @@ arguments-all b [] = refl
 arguments-all b (m ∷ ms) =
     ap (λ (x : Answer). need (keyForm (m .key)) 1 ▸ need (rowArgument (m .row)) 2 ▸ x) (arguments-all b ms) ∙ sym (then-assoc (need (keyForm (m .key)) 1) (need (rowArgument (m .row)) 2) (checkAll ofArguments b ms))
 
-abbrev pub Arguing : Bytes → Cursor → ℕ → ℕ → Type 0
-Arguing batch c at left = Walking mutation batch ofArguments fresh c at left
+-- ---- the loop
 
-pub arguing-start : {batch : Bytes} (c : Cursor) → Ahead mutation batch (c .at) (c .left) → Arguing batch c (c .at) (c .left)
-arguing-start c v = walking-start ofArguments fresh c v
+pub record Arguing (s : Bytes) (n : ℕ) (es : List Entry) (i : ℕ) : Type 0 where
+  pub listed : Listed s n es
+  pub walk : Walking ofArguments fresh (shown (mutationOf s) n es) (drop i (shown (mutationOf s) n es))
 
-module _ {batch : Bytes} {c : Cursor} {at left : ℕ} (v : Arguing batch c at left) where
-  module _ {e : Entry} (q : EntryAt batch at e) (more : 0 < left) {a : Answer} (s : a ≡ argumentStep (mutationOf batch e)) where
-    pub arguing-more : a ≡ Accepted → Arguing batch c (e .next) (left - 1)
-    arguing-more p = walking-more v (mutation-next (v .cursor) q more) s p
+pub arguing-start : {s : Bytes} {n : ℕ} {es : List Entry} → Listed s n es → Arguing s n es 0
+arguing-start {s} {n} {es} l = record { listed = l; walk = walking-start ofArguments fresh (shown (mutationOf s) n es) }
 
-    pub arguing-out : (a ≡ Accepted → ⊥) → a ≡ argumentsStep (ahead mutation batch (c .at) (c .left))
-    arguing-out n = walking-out v (mutation-next (v .cursor) q more) s n ∙ sym (arguments-all fresh _)
+module _ {s : Bytes} {n : ℕ} {es : List Entry} {i : ℕ} (v : Arguing s n es i) where
+  abbrev all : List Mutation
+  all = shown (mutationOf s) n es
 
-  pub arguing-end : left ≤ 0 → Accepted ≡ argumentsStep (ahead mutation batch (c .at) (c .left))
-  arguing-end z = walking-end v z ∙ sym (arguments-all fresh _)
+  module _ (more : i < n) {a : Answer} (q : a ≡ argumentStep (mutationOf s (getD es i noEntry))) where
+    here : Walking ofArguments fresh all (mutationOf s (getD es i noEntry) ∷ drop (i + 1) all)
+    here = subst (λ (l : List Mutation). Walking ofArguments fresh all l) (shown-next (v .listed) (mutationOf s) i more) (v .walk)
+
+    pub arguing-more : a ≡ Accepted → Arguing s n es (i + 1)
+    arguing-more p = record { listed = v .listed; walk = walking-more here q p }
+
+    pub arguing-out : (a ≡ Accepted → ⊥) → a ≡ argumentsStep (shown (mutationOf s) n es)
+    arguing-out f = walking-out here q f ∙ sym (arguments-all fresh all)
+
+  pub arguing-end : n ≤ i → Accepted ≡ argumentsStep (shown (mutationOf s) n es)
+  arguing-end z = walking-end (subst (λ (l : List Mutation). Walking ofArguments fresh all l) (shown-past (v .listed) (mutationOf s) i z) (v .walk)) ∙ sym (arguments-all fresh all)
+
+-- ---- where all entries have passed a check, each has
+
+pub check-at : {A : Type 0} (check : Box → A → Answer) (b : Box) (xs : List A) (j : ℕ) {x : A} {rest : List A} → checkAll check b xs ≡ Accepted → drop j xs ≡ x ∷ rest → check b x ≡ Accepted
+unfolding checkAll
+check-at check b [] zero p e = absurd (let z : _≡_ {A = ℕ} 0 1 = cc in omega arith)
+check-at check b [] (suc j) p e = absurd (let z : _≡_ {A = ℕ} 0 1 = cc in omega arith)
+check-at {A} check b (y ∷ ys) zero {x} p e = let q : y ≡ x = cc in ap (check b) (sym q) ∙ then-left _ _ p
+check-at check b (y ∷ ys) (suc j) p e = check-at check b ys j (then-right (check b y) _ p) e
+
+-- the key is in form, and so is a Put's row
+pub argument-at : {s : Bytes} {n : ℕ} {es : List Entry} → Listed s n es → argumentsStep (shown (mutationOf s) n es) ≡ Accepted → {i : ℕ} → i < n
+    → (keyForm (keyAt s (getD es i noEntry)) ≡ true) × (rowArgument (mutationOf s (getD es i noEntry) .row) ≡ true)
+unfolding argumentStep
+argument-at {s} {n} {es} l p {i} more =
+    let q = check-at ofArguments fresh (shown (mutationOf s) n es) i (sym (arguments-all fresh _) ∙ p) (shown-next l (mutationOf s) i more) in
+    (need-true _ 1 (then-left _ _ q), need-true _ 2 (then-right (need (keyForm (keyAt s (getD es i noEntry))) 1) _ q))

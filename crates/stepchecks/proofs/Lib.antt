@@ -2,6 +2,6 @@
 -- Assumes nothing.
 pub mod ArgumentLaws
 pub mod TallyLaws
-pub mod StepLaws
 pub mod WeightLaws
+pub mod StepLaws
 pub mod VerdictLaws

@@ -6,23 +6,17 @@ use mathlib.Core.List.{List}
 use Rattle.forms.specs.Batch.{Mutation}
 use Rattle.rules.specs.Box.{Box}
 use Rattle.rules.specs.Commit.{Ending}
-use Rattle.rules.specs.OneStep as rule
-use Rattle.stepchecks.specs.declared.applied.Applied.{Applied}
-use Rattle.stepchecks.specs.declared.applied.Applied.the-variants.{Already, NotYet, Otherwise}
+use Rattle.rules.specs.OneStep.{Applied, isOther, isAlready, noneOther, allApplied, someApplied}
 use Rattle.stepchecks.specs.declared.applied.Tally.{Tally}
-
-abbrev pub appliedOf : Applied → rule.Applied
-appliedOf Already = rule.already
-appliedOf NotYet = rule.notYet
-appliedOf Otherwise = rule.otherwise
 
 abbrev pub noTally : Tally
 noTally = record { clean = true; all = true; some = false }
 
-abbrev pub withOne : Tally → rule.Applied → Tally
-withOne t a = record { clean = t .clean && not (rule.isOther a); all = t .all && rule.isAlready a; some = t .some || rule.isAlready a }
+-- one entry more
+abbrev pub withOne : Tally → Applied → Tally
+withOne t a = record { clean = t .clean && not (isOther a); all = t .all && isAlready a; some = t .some || isAlready a }
 
 pub record Tallied (h : Ending) (b : Box) (ms : List Mutation) (t : Tally) : Type 0 where
-  pub clean-is : t .clean ≡ rule.noneOther h b ms
-  pub all-is : t .all ≡ rule.allApplied h b ms
-  pub some-is : t .some ≡ rule.someApplied h b ms
+  pub clean-is : t .clean ≡ noneOther h b ms
+  pub all-is : t .all ≡ allApplied h b ms
+  pub some-is : t .some ≡ someApplied h b ms

@@ -1,10 +1,10 @@
 // "each entry in turn 1, 2"
 ghost use mathlib.Core.Path.{_≡_};
-ghost use Rattle.forms.specs.Batch.{mutation};
-ghost use Rattle.forms.specs.Places.{ahead, Ahead};
+ghost use Rattle.seqs.specs.Tables.{shown};
+ghost use Rattle.forms.specs.Places.{mutationOf, Listed};
 ghost use Rattle.rules.specs.OneStep.{argumentsStep};
 ghost use Rattle.stepchecks.specs.Checks.{entryOf, argumentStep};
-use forms::Cursor;
+use forms::Entry;
 use rules::Answer;
 
 // 1 and 2, of one entry.
@@ -21,14 +21,13 @@ fn entry_arguments(key: &[u8], put: bool, row: &[u8]) -> Answer
 }
 
 // "each entry in turn 1, 2"
-pub fn check_arguments(batch: &[u8], first: Cursor) -> Answer
-    requires { ⌜ Ahead mutation (now batch) (first .at) (first .left) ⌝ }
-    ensures { λ r. ⌜ r ≡ argumentsStep (ahead mutation (now (batch .entry)) (first .at) (first .left)) ⌝ }
+pub fn check_arguments(batch: &[u8], n: usize, list: [Entry; 32]) -> Answer
+    requires { ⌜ Listed (now batch) n list ⌝ }
+    ensures { λ r. ⌜ r ≡ argumentsStep (shown (mutationOf (now (batch .entry))) n list) ⌝ }
 {
-    let mut at = first.at;
-    let mut left = first.left;
-    while 0 < left {
-        let e = forms::entry_at(batch, at);
+    let mut i: usize = 0;
+    while i < n {
+        let e = list[i];
         let ka = e.at;
         let ke = ka + e.len;
         let ra = e.rowat;
@@ -37,8 +36,7 @@ pub fn check_arguments(batch: &[u8], first: Cursor) -> Answer
         if !calls::accepted(answer) {
             return answer;
         }
-        at = e.next;
-        left -= 1;
+        i += 1;
     }
     Answer::Accepted
 }

@@ -3,12 +3,9 @@
 pub mod applied;
 pub mod arguments;
 pub mod steps;
-pub mod terms;
 pub mod verdict;
 pub mod weights;
 
 pub use arguments::check_arguments;
-pub use terms::Terms;
-pub use terms::ending_step;
 pub use verdict::Verdict;
 pub use verdict::judge;

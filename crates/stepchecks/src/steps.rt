@@ -1,20 +1,26 @@
 // "None: per entry, another's lock 7, own lock of other kind 9, unsound record 9, record at or above start 8; then per entry newest at or
 // above commit 8"
 ghost use mathlib.Core.Path.{_≡_};
+ghost use Rattle.seqs.specs.Tables.{shown};
 ghost use Rattle.forms.specs.Bytes.{Bytes};
 ghost use Rattle.forms.specs.Row.{Row};
 ghost use Rattle.forms.specs.Readers.{when};
-ghost use Rattle.forms.specs.Batch.{mutation};
-ghost use Rattle.forms.specs.Places.{ahead};
-ghost use Rattle.rules.specs.Answers.{_▸_};
+ghost use Rattle.forms.specs.Places.{mutationOf};
 ghost use Rattle.rules.specs.Calls.{kindOf};
-ghost use Rattle.rules.specs.OneStep.{stepLock, stepEntry, stepEntries, newestStep};
+ghost use Rattle.rules.specs.OneStep.{stepLock};
 ghost use Rattle.lines.specs.declared.store.Store.{Store};
 ghost use Rattle.lines.specs.View.{boxOf};
-ghost use Rattle.lines.specs.Looks.{lockedBy, LookedAt};
-ghost use Rattle.stepchecks.specs.Checks.{endingOf, entryOf, StepsAsk, Looks};
-use crate::terms::Terms;
-use forms::Cursor;
+ghost use Rattle.lines.specs.Looks.{lockedBy};
+ghost use Rattle.calls.specs.Walks.{endingOf, Met};
+ghost use Rattle.calls.specs.Weights.{EntryChecked};
+ghost use Rattle.stepchecks.specs.Checks.{entryOf, oneSteps};
+ghost use Rattle.stepchecks.specs.Weights.{EntryAsks};
+ghost use Rattle.stepchecks.specs.Verdicts.{NewAsks, NewSeen};
+use crate::weights::entry_weight;
+use calls::Seen;
+use calls::Terms;
+use forms::Entry;
+use lines::FoundRow;
 use lines::Locked;
 use lines::Looked;
 use rules::Answer;
@@ -39,49 +45,82 @@ fn lock_step(lock: Locked, terms: Terms, put: bool) -> Answer
     }
 }
 
-// "another's lock 7, own lock of other kind 9, unsound record 9, record at or above start 8", of one entry
-fn entry_step(found: Looked, terms: Terms, put: bool) -> Answer
-    ensures { λ r. ⌜ ((st : Store) (area key : Bytes) (row : Row) → LookedAt st area key (terms .start) (terms .commit) found → r ≡ stepEntry (endingOf terms) (boxOf st area) (entryOf key put row)) ⌝ }
+// "another's lock 7, own lock of other kind 9, unsound record 9, record at or above start 8", of one entry, and what it adds and frees
+fn check_entry(
+    found: Looked,
+    stored: FoundRow,
+    terms: Terms,
+    key: &[u8],
+    put: bool,
+    row: &[u8],
+) -> Seen
+    requires { ⌜ EntryAsks (now key) (now row) stored ⌝ }
+    ensures { λ r. ⌜ ((st : Store) (area : Bytes) → Met st area (now (key .entry)) (terms .start) (terms .commit) found stored → EntryChecked (oneSteps (endingOf terms)) (boxOf st area) (entryOf (now (key .entry)) put (now (row .entry))) r) ⌝ }
 {
     let lock = found.lock;
     let answer = lock_step(lock, terms, put);
     if !calls::accepted(answer) {
-        return answer;
+        return calls::refusal(answer);
     }
     let history = found.history;
     if !history.sound {
-        return Answer::No(9);
+        return calls::refusal(Answer::No(9));
     }
     if !history.below {
-        return Answer::No(8);
+        return calls::refusal(Answer::No(8));
     }
-    Answer::Accepted
+    let weight = entry_weight(key, put, row, lock, stored);
+    Seen {
+        answer: Answer::Accepted,
+        weight: weight,
+    }
 }
 
 // "per entry ..; then per entry newest at or above commit 8": one walk, since the second waits for the end of the first.
-pub fn check_steps(terms: Terms, batch: &[u8], first: Cursor, founds: [Looked; 32]) -> Answer
-    requires { ⌜ StepsAsk (now batch) first ⌝ }
-    ensures { λ r. ⌜ ((st : Store) (area : Bytes) → Looks st area (endingOf terms) (ahead mutation (now (batch .entry)) (first .at) (first .left)) (first .left) founds → r ≡ stepEntries (endingOf terms) (boxOf st area) (ahead mutation (now (batch .entry)) (first .at) (first .left)) ▸ newestStep (endingOf terms) (boxOf st area) (ahead mutation (now (batch .entry)) (first .at) (first .left))) ⌝ }
+pub fn check_all(
+    terms: Terms,
+    batch: &[u8],
+    n: usize,
+    list: [Entry; 32],
+    founds: [Looked; 32],
+    rows: [FoundRow; 32],
+) -> Seen
+    requires { ⌜ NewAsks (now batch) (endingOf terms) n list founds rows ⌝ }
+    ensures { λ r. ⌜ ((a : NewAsks (now (batch .entry)) (endingOf terms) n list founds rows) → NewSeen (endingOf terms) (boxOf (a .asks .st) (a .area)) (shown (mutationOf (now (batch .entry))) n list) r) ⌝ }
 {
     let mut newer = true;
-    let mut at = first.at;
-    let mut left = first.left;
+    let mut sum = calls::no_weight();
     let mut i: usize = 0;
-    while 0 < left {
-        let e = forms::entry_at(batch, at);
+    while i < n {
+        let e = list[i];
+        let ka = e.at;
+        let ke = ka + e.len;
+        let ra = e.rowat;
+        let re = ra + e.rowlen;
+        let stored = rows[i];
         let found = founds[i];
-        let answer = entry_step(found, terms, e.put);
+        let seen = check_entry(found, stored, terms, &batch[ka..ke], e.put, &batch[ra..re]);
+        let answer = seen.answer;
         if !calls::accepted(answer) {
-            return answer;
+            return Seen {
+                answer: answer,
+                weight: sum,
+            };
         }
+        let weight = seen.weight;
+        sum = calls::plus_weight(sum, weight);
         let history = found.history;
         newer = lines::keys::both(newer, history.newer);
-        at = e.next;
-        left -= 1;
         i += 1;
     }
     if !newer {
-        return Answer::No(8);
+        return Seen {
+            answer: Answer::No(8),
+            weight: sum,
+        };
     }
-    Answer::Accepted
+    Seen {
+        answer: Answer::Accepted,
+        weight: sum,
+    }
 }

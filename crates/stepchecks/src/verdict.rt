@@ -1,109 +1,67 @@
 // What a batch whose arguments have passed is answered, and whether its entries are to be applied.
-ghost use Rattle.forms.specs.Batch.{mutation};
-ghost use Rattle.forms.specs.Places.{ahead};
+ghost use Rattle.seqs.specs.Tables.{shown};
+ghost use Rattle.forms.specs.Places.{mutationOf};
 ghost use Rattle.lines.specs.View.{boxOf};
-ghost use Rattle.stepchecks.specs.Checks.{endingOf};
-ghost use Rattle.stepchecks.specs.Verdicts.{JudgeAsks, NewJudged, Decided};
+ghost use Rattle.calls.specs.Walks.{endingOf};
+ghost use Rattle.stepchecks.specs.Verdicts.{JudgeAsks, Decided};
 use crate::applied::tally_all;
-use crate::steps::check_steps;
-use crate::terms::Terms;
-use crate::weights::left_load;
-use crate::weights::weigh_all;
-use forms::Cursor;
+use crate::steps::check_all;
+use calls::Terms;
+use forms::Entry;
 use lines::FoundRow;
 use lines::Looked;
-use lines::Store;
 use rules::Answer;
 use rules::Load;
 
-// The answer; whether the entries are to be applied, and then how many bytes they bring and the load that they leave.
-pub struct Verdict {
-    pub answer: Answer,
-    pub fresh: bool,
+// How many bytes the entries bring, and the load that they leave.
+pub struct Room {
     pub need: usize,
     pub after: Load,
 }
 
-// "None: per entry ..; then per entry ..; 11." Of the store it reads the load alone.
-fn judge_new(
-    store: Store,
-    area: &[u8],
-    terms: Terms,
-    batch: &[u8],
-    first: Cursor,
-    founds: [Looked; 32],
-    rows: [FoundRow; 32],
-) -> Verdict
-    requires { ⌜ JudgeAsks store (now area) (now batch) (endingOf terms) first founds rows ⌝ }
-    ensures { λ r. ⌜ NewJudged (endingOf terms) (boxOf store (now (area .entry))) (ahead mutation (now (batch .entry)) (first .at) (first .left)) r ⌝ }
-{
-    let load = store.load;
-    let answer = check_steps(terms, batch, first, founds);
-    if !calls::accepted(answer) {
-        return Verdict {
-            answer: answer,
-            fresh: false,
-            need: 0,
-            after: load,
-        };
-    }
-    let weight = weigh_all(batch, first, founds, rows);
-    let after = left_load(load, weight);
-    if !rules::load_fits(after) {
-        return Verdict {
-            answer: Answer::No(11),
-            fresh: false,
-            need: 0,
-            after: load,
-        };
-    }
-    let added = weight.added;
-    Verdict {
-        answer: Answer::Accepted,
-        fresh: true,
-        need: added.bytes,
-        after: after,
-    }
+// Nothing changes, and this is the answer; or the entries are to be applied.
+pub enum Verdict {
+    Stays(Answer),
+    Applies(Room),
 }
 
-// "same start but other kind or row, 9. All applied: accepted, unchanged. Some: 9. None: .."
+// "same start but other kind or row, 9. All applied: accepted, unchanged. Some: 9. None: per entry ..; then per entry ..; 11."
 pub fn judge(
-    store: Store,
     area: &[u8],
     terms: Terms,
     batch: &[u8],
-    first: Cursor,
+    n: usize,
+    list: [Entry; 32],
     founds: [Looked; 32],
     rows: [FoundRow; 32],
+    load: Load,
 ) -> Verdict
-    requires { ⌜ JudgeAsks store (now area) (now batch) (endingOf terms) first founds rows ⌝ }
-    ensures { λ r. ⌜ Decided (endingOf terms) (boxOf store (now (area .entry))) (ahead mutation (now (batch .entry)) (first .at) (first .left)) r ⌝ }
+    requires { ⌜ JudgeAsks (now area) (now batch) (endingOf terms) n list founds rows load ⌝ }
+    ensures { λ r. ⌜ ((a : JudgeAsks (now (area .entry)) (now (batch .entry)) (endingOf terms) n list founds rows load) → Decided (endingOf terms) (boxOf (a .st) (now (area .entry))) (shown (mutationOf (now (batch .entry))) n list) r) ⌝ }
 {
-    let load = store.load;
-    let tally = tally_all(area, terms, batch, first, founds, rows);
+    let tally = tally_all(area, terms, batch, n, list, founds, rows);
     if !tally.clean {
-        return Verdict {
-            answer: Answer::No(9),
-            fresh: false,
-            need: 0,
-            after: load,
-        };
+        return Verdict::Stays(Answer::No(9));
     }
     if tally.all {
-        return Verdict {
-            answer: Answer::Accepted,
-            fresh: false,
-            need: 0,
-            after: load,
-        };
+        return Verdict::Stays(Answer::Accepted);
     }
     if tally.some {
-        return Verdict {
-            answer: Answer::No(9),
-            fresh: false,
-            need: 0,
-            after: load,
-        };
+        return Verdict::Stays(Answer::No(9));
     }
-    judge_new(store, area, terms, batch, first, founds, rows)
+    let seen = check_all(terms, batch, n, list, founds, rows);
+    let answer = seen.answer;
+    if !calls::accepted(answer) {
+        return Verdict::Stays(answer);
+    }
+    let weight = seen.weight;
+    let after = calls::left_load(load, weight);
+    if !rules::load_fits(after) {
+        return Verdict::Stays(Answer::No(11));
+    }
+    let added = weight.added;
+    Verdict::Applies(Room {
+        need: added.bytes,
+        after: after,
+    })
 }

@@ -5,17 +5,19 @@ use native.Mathlib.Omega.{arith}
 use native.Mathlib.Numerals.{add-one}
 use mathlib.Core.Path.{_≡_, refl, sym, ap, ap₂, _∙_, subst}
 use mathlib.Core.Bool.{Bool, true, false}
-use mathlib.Core.List.{List, [], _∷_, map}
+use mathlib.Core.List.{List, [], _∷_}
 use lib.Dec.{ltb}
-use lib.ListN.{length, getD, set, take, length-map, List·getD-map}
-use lib.Seq.{getD-set-same, getD-set-other, getD-take, length-take-le}
+use lib.ListN.{length, getD, set}
+use lib.Seq.{getD-set-same, getD-set-other}
 use borrow.Author.Tests.{ltb-true, ltb-false}
+use Rattle.seqs.specs.Tables.{shown}
+use Rattle.seqs.proofs.Tables.{shown-length, shown-at}
 use Rattle.forms.specs.Bytes.{Bytes, ltBytes}
 use Rattle.forms.specs.Key.{Key}
 use Rattle.forms.specs.Batch.{above, ascend}
+use Rattle.forms.specs.Places.{keyAt, noEntry, InForm}
+use Rattle.forms.specs.declared.batch.Entry.{Entry}
 use Rattle.laws.proofs.StepLaws.{and-left, and-right}
-use Rattle.surveys.specs.declared.cuts.Cut.{Cut}
-use Rattle.surveys.specs.Surveys.{noCut, cutOf, CutsAsk}
 
 module _ {A : Type 0} (key : A → Key) (d : A) where
   pub ascend-at : (xs : List A) (j : ℕ) → ascend key xs ≡ true → suc j < length xs → ltBytes (key (getD xs j d)) (key (getD xs (suc j) d)) ≡ true
@@ -25,21 +27,17 @@ module _ {A : Type 0} (key : A → Key) (d : A) where
   ascend-at (x ∷ y ∷ zs) zero a l = and-left (ltBytes (key x) (key y)) _ a
   ascend-at (x ∷ y ∷ zs) (suc j) a l = ascend-at (y ∷ zs) j (and-right (ltBytes (key x) (key y)) _ a) (omega arith)
 
--- the key of a cut
-abbrev pub keyAt : Bytes → List Cut → ℕ → Key
-keyAt s cs j = cutOf s (getD cs j noCut)
+-- the key of the entry at a place
+abbrev pub nameAt : Bytes → List Entry → ℕ → Key
+nameAt s es j = keyAt s (getD es j noEntry)
 
-module _ {s : Bytes} {n : ℕ} {cs : List Cut} (q : CutsAsk s n cs) where
-  cut-at : (j : ℕ) → j < n → getD (map (cutOf s) (take n cs)) j (cutOf s noCut) ≡ keyAt s cs j
-  cut-at j l = List·getD-map (cutOf s) (take n cs) j noCut ∙ ap (cutOf s) (getD-take n cs j noCut l)
-
-  -- the next key is above
-  pub key-next-above : (j : ℕ) → j + 1 < n → ltBytes (keyAt s cs j) (keyAt s cs (j + 1)) ≡ true
-  key-next-above j l =
-      let few : suc j < n = omega arith in
-      let long : length (map (cutOf s) (take n cs)) ≡ n = length-map (take n cs) (cutOf s) ∙ length-take-le n cs (omega (arith, q .long, q .few)) in
-      ap₂ ltBytes (sym (cut-at j (omega arith))) (ap (keyAt s cs) (add-one j) ∙ sym (cut-at (suc j) few))
-      ∙ ascend-at (λ (k : Key). k) (cutOf s noCut) (map (cutOf s) (take n cs)) j (q .ascends) (omega arith)
+-- the next key is above
+pub name-above : {s : Bytes} {n : ℕ} {es : List Entry} → InForm s n es → (j : ℕ) → j + 1 < n → ltBytes (nameAt s es j) (nameAt s es (j + 1)) ≡ true
+name-above {s} {n} {es} q j l =
+    let few : suc j < n = omega arith in
+    let low : suc j < length (shown (keyAt s) n es) = omega (arith, shown-length (q .listed) (keyAt s)) in
+    ap₂ ltBytes (sym (shown-at (q .listed) (keyAt s) j (omega arith))) (ap (nameAt s es) (add-one j) ∙ sym (shown-at (q .listed) (keyAt s) (suc j) few))
+    ∙ ascend-at (λ (k : Key). k) (keyAt s noEntry) (shown (keyAt s) n es) j (q .ascends) low
 
 -- P holds of what stands at each place below j; then also with k at j
 pub set-each : {K : Type 0} (P : ℕ → K → Type 0) (none : K) (ks : List K) (j : ℕ) (k : K) → length ks ≡ 32 → j < 32 → ((m : ℕ) → m < j → P m (getD ks m none)) → P j k

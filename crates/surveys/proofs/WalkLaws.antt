@@ -12,6 +12,8 @@ use Rattle.seqs.proofs.Tables.{shown-length}
 use Rattle.seqs.proofs.Leading.{leading-all, leading-after}
 use Rattle.forms.specs.Bytes.{Bytes, eqBytes, ltBytes}
 use Rattle.forms.specs.Key.{Key}
+use Rattle.forms.specs.Places.{InForm}
+use Rattle.forms.specs.declared.batch.Entry.{Entry}
 use Rattle.forms.proofs.Orders.{eqBytes-true, ltBytes-trans}
 use Rattle.rules.specs.Box as box
 use Rattle.rules.specs.Sound.{allSound}
@@ -28,16 +30,16 @@ use Rattle.lines.specs.Looks.{historyOf, sees, seeLine, LookedAt, ofLines}
 use Rattle.lines.proofs.OrderLaws.{keyBelow}
 use Rattle.lines.proofs.FindLaws.{Finding, finding-start, finding-more}
 use Rattle.lines.proofs.LookLaws.{Looking, looking-here, looking-none, looking-own, of-store, of-lines}
-use Rattle.surveys.specs.declared.cuts.Cut.{Cut}
-use Rattle.surveys.specs.Surveys.{CutsAsk, unseen, noLooked, LookedAll}
-use Rattle.surveys.proofs.AscendLaws.{keyAt, key-next-above, set-each}
+use Rattle.calls.specs.Walks.{noLook, LookedAll}
+use Rattle.surveys.specs.Surveys.{unseen}
+use Rattle.surveys.proofs.AscendLaws.{nameAt, name-above, set-each}
 
 -- ---- the keys before j are done, and the walk for the key j may begin at i
 
-pub record Surveying (area s : Bytes) (start stamp n : ℕ) (cs : List Cut) (lines : List Slot) (count : ℕ) (r : List Looked) (i j : ℕ) : Type 0 where
+pub record Surveying (area s : Bytes) (start stamp n : ℕ) (es : List Entry) (lines : List Slot) (count : ℕ) (r : List Looked) (i j : ℕ) : Type 0 where
   pub long : length r ≡ 32
-  pub each : (m : ℕ) → m < j → LookedAt (ofLines lines count) area (keyAt s cs m) start stamp (getD r m noLooked)
-  pub next : j < n → Finding area (keyAt s cs j) lines count i
+  pub each : (m : ℕ) → m < j → LookedAt (ofLines lines count) area (nameAt s es m) start stamp (getD r m noLook)
+  pub next : j < n → Finding area (nameAt s es j) lines count i
 
 -- the walk over the lines of a key: a walk for any key above it may begin here
 pub record Meeting (area key : Bytes) (start stamp : ℕ) (lines : List Slot) (count i : ℕ) (seen : Looked) : Type 0 where
@@ -61,23 +63,23 @@ module _ {st : Store} {area : Bytes} (m : Built st area) where
             (all-weaken (λ (x : box.KeyLine). keyBelow k x ≡ true) (λ (x : box.KeyLine). keyBelow l x ≡ true) (take i es) (λ x b. ltBytes-trans (x .key) k l b h) below);
       }
 
-  module _ (s : Bytes) (start stamp n : ℕ) (cs : List Cut) where
-    pub surveying-start : {r : List Looked} → length r ≡ 32 → Surveying area s start stamp n cs (st .lines) (st .load .lines) r 0 0
+  module _ (s : Bytes) (start stamp n : ℕ) (es : List Entry) where
+    pub surveying-start : {r : List Looked} → length r ≡ 32 → Surveying area s start stamp n es (st .lines) (st .load .lines) r 0 0
     surveying-start e = record { long = e; each = λ j l. absurd (omega arith); next = λ l. finding-start m _ }
 
     -- what stands at the lines is what stands at the store
-    pub surveying-end : {r : List Looked} {i j : ℕ} → Surveying area s start stamp n cs (st .lines) (st .load .lines) r i j → n ≤ j → LookedAll st area s start stamp n cs r
-    surveying-end {r} w h = record { long = w .long; each = λ j l. of-store (w .each j (omega arith)) }
+    pub surveying-end : {r : List Looked} {i j : ℕ} → Surveying area s start stamp n es (st .lines) (st .load .lines) r i j → n ≤ j → LookedAll st area s start stamp n es r
+    surveying-end {r} w h = record { each = λ j l. of-store (w .each j (omega arith)) }
 
     -- one key more
-    pub surveying-more : CutsAsk s n cs → {r : List Looked} {i₀ i j : ℕ} {seen : Looked} → Surveying area s start stamp n cs (st .lines) (st .load .lines) r i₀ j → j < n
-        → Meeting area (keyAt s cs j) start stamp (st .lines) (st .load .lines) i seen → LookedAt st area (keyAt s cs j) start stamp seen
-        → Surveying area s start stamp n cs (st .lines) (st .load .lines) (set r j seen) i (j + 1)
+    pub surveying-more : InForm s n es → {r : List Looked} {i₀ i j : ℕ} {seen : Looked} → Surveying area s start stamp n es (st .lines) (st .load .lines) r i₀ j → j < n
+        → Meeting area (nameAt s es j) start stamp (st .lines) (st .load .lines) i seen → LookedAt st area (nameAt s es j) start stamp seen
+        → Surveying area s start stamp n es (st .lines) (st .load .lines) (set r j seen) i (j + 1)
     surveying-more q {r} {i₀} {i} {j} {seen} w h v f = record {
       long = length-set r j seen ∙ w .long;
-      each = set-each (λ (j : ℕ) (x : Looked). LookedAt (ofLines (st .lines) (st .load .lines)) area (keyAt s cs j) start stamp x) noLooked r j seen (w .long) (omega (arith, q .few)) (w .each)
+      each = set-each (λ (j : ℕ) (x : Looked). LookedAt (ofLines (st .lines) (st .load .lines)) area (nameAt s es j) start stamp x) noLook r j seen (w .long) (omega (arith, q .listed .few)) (w .each)
           (of-lines f);
-      next = λ l. v .on (keyAt s cs (j + 1)) (key-next-above q j l);
+      next = λ l. v .on (nameAt s es (j + 1)) (name-above q j l);
     }
 
   -- ---- the lines of one key

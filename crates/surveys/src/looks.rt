@@ -1,8 +1,10 @@
 // What the keys of a batch meet in the lines.
 ghost use mathlib.Core.Path.{_≡_};
+ghost use Rattle.forms.specs.Places.{InForm};
 ghost use Rattle.lines.specs.Made.{Built};
-ghost use Rattle.surveys.specs.Surveys.{CutsAsk, LookedAll, unseen};
-use crate::cuts::Cut;
+ghost use Rattle.calls.specs.Walks.{LookedAll};
+ghost use Rattle.surveys.specs.Surveys.{unseen};
+use forms::Entry;
 use lines::Locked;
 use lines::Looked;
 use lines::Store;
@@ -30,13 +32,13 @@ pub fn look_all(
     store: Store,
     area: &[u8],
     batch: &[u8],
-    cuts: [Cut; 32],
+    list: [Entry; 32],
     n: usize,
     start: u64,
     stamp: u64,
 ) -> [Looked; 32]
-    requires { ⌜ (Built store (now area)) × (CutsAsk (now batch) n cuts) ⌝ }
-    ensures { λ r. ⌜ LookedAll store (now (area .entry)) (now (batch .entry)) start stamp n cuts r ⌝ }
+    requires { ⌜ (Built store (now area)) × (InForm (now batch) n list) ⌝ }
+    ensures { λ r. ⌜ LookedAll store (now (area .entry)) (now (batch .entry)) start stamp n list r ⌝ }
 {
     let lines = store.lines;
     let load = store.load;
@@ -46,9 +48,9 @@ pub fn look_all(
     let mut i: usize = 0;
     let mut j: usize = 0;
     while j < n {
-        let cut = cuts[j];
-        let at = cut.at;
-        let e = at + cut.len;
+        let entry = list[j];
+        let at = entry.at;
+        let e = at + entry.len;
         while i < count {
             let s = lines[i];
             if !slot_below(s, area, &batch[at..e]) {

@@ -1,8 +1,10 @@
 // What the keys of a batch meet in the defaults.
 ghost use mathlib.Core.Path.{_≡_};
+ghost use Rattle.forms.specs.Places.{InForm};
 ghost use Rattle.lines.specs.Made.{Built};
-ghost use Rattle.surveys.specs.Surveys.{CutsAsk, RowsFound, rowIf};
-use crate::cuts::Cut;
+ghost use Rattle.calls.specs.Walks.{RowsFound};
+ghost use Rattle.surveys.specs.Surveys.{rowIf};
+use forms::Entry;
 use lines::FoundRow;
 use lines::Held;
 use lines::Store;
@@ -34,12 +36,12 @@ pub fn find_rows(
     store: Store,
     area: &[u8],
     batch: &[u8],
-    cuts: [Cut; 32],
+    list: [Entry; 32],
     n: usize,
     start: u64,
 ) -> [FoundRow; 32]
-    requires { ⌜ (Built store (now area)) × (CutsAsk (now batch) n cuts) ⌝ }
-    ensures { λ r. ⌜ RowsFound store (now (area .entry)) (now (batch .entry)) start n cuts r ⌝ }
+    requires { ⌜ (Built store (now area)) × (InForm (now batch) n list) ⌝ }
+    ensures { λ r. ⌜ RowsFound store (now (area .entry)) (now (batch .entry)) start n list r ⌝ }
 {
     let defaults = store.defaults;
     let load = store.load;
@@ -64,9 +66,9 @@ pub fn find_rows(
             j += 1;
             continue;
         }
-        let cut = cuts[j];
-        let at = cut.at;
-        let e = at + cut.len;
+        let entry = list[j];
+        let at = entry.at;
+        let e = at + entry.len;
         let d = defaults[i];
         if held_before(d, area, &batch[at..e], start) {
             i += 1;

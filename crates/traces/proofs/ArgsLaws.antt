@@ -25,7 +25,7 @@ use Rattle.traces.specs.Calls as calls
 use Rattle.traces.specs.Calls.{Call, call}
 use Rattle.traces.specs.Shapes.{shapeOf, shapeBy}
 use Rattle.traces.specs.Places.{goOn, given, Goes}
-use Rattle.traces.specs.Args.{callBy, shaped, callAs, callOf, ArgsIn, ArgsFor, ArgsOf, noArgs}
+use Rattle.traces.specs.Args.{callBy, shaped, ArgsIn, ArgsFor, ArgsOf, noArgs}
 
 -- ---- one argument after another
 
@@ -169,8 +169,3 @@ module _ {s : Bytes} where
           go : (o : Option Op) → opOf (getD s 0 0) ≡ o → calls.ofOp true o (drop 1 s) ≡ shaped w (drop 1 s)
           go none p = absurd (true≢false (sym (not-false (w .ok) g) ∙ ap (λ (x : Shape). x .ok) (q ∙ ap shapeBy p)))
           go (some op) p = sym (ap (λ (x : Shape). shaped x (drop 1 s)) (q ∙ ap shapeBy p) ∙ ops-shaped op (drop 1 s))
-
--- ---- the call of an op that is told, as a `match` on it tells
-
-pub call-as : (s : Bytes) (a : Args) {op : Op} → a .op ≡ op → callOf s a ≡ callAs op s a
-call-as s a e = ap (λ (op : Op). callAs op s a) e

@@ -1,7 +1,7 @@
 -- A trace and the walk over it: what each way out of `call_at` and of the judge says, and that a judged trace's cursor hands out the
 -- definition's calls, in order, all of them.
 -- Assumes nothing.
-use Prim.Native.Nat.{ℕ, suc, _+_, _-_, _≤_, _<_}
+use Prim.Native.Nat.{ℕ, zero, suc, _+_, _-_, _≤_, _<_}
 use native.Mathlib.Omega.{arith}
 use mathlib.Core.Path.{_≡_, refl, sym, _∙_, ap, subst}
 use mathlib.Core.Bool.{Bool, true, false, not, true≢false}
@@ -13,19 +13,18 @@ use borrow.Author.Tests.{eq-eqb, ne-eqb, le-leb, lt-leb, leb-true, leb-false, no
 use Rattle.forms.specs.Bytes.{Bytes, bytesAt}
 use Rattle.forms.specs.Readers.{Read, Reader, readOn, _>>=_, just, when, stretch, times, section, ended, whole, isSome}
 use Rattle.forms.specs.Numbers.{number, numberOf}
-use Rattle.forms.specs.Places.{found, NumberAt, entries, ahead, Ahead, listOf, cursorIf, firstOf}
+use Rattle.forms.specs.Places.{found, NumberAt, entries}
 use Rattle.forms.specs.declared.number.Number.{Number}
-use Rattle.forms.specs.declared.batch.Cursor.{Cursor}
-use Rattle.forms.proofs.ReadLaws.{after, stretch-good, stretch-short, Reads}
-use Rattle.forms.proofs.NumberLaws.{number-is, number-bad, number-good, number-long}
+use Rattle.forms.proofs.ReadLaws.{after, stretch-good, stretch-short, Reads, reads-bad, reads-good}
+use Rattle.forms.proofs.NumberLaws.{number-is, number-value, number-bad, number-good, number-short, number-long}
 use Rattle.forms.proofs.JudgeLaws.{withHead, entries-bad, entries-more}
-use Rattle.forms.proofs.BatchLaws.{ahead-next}
 use Rattle.traces.specs.declared.trace.Call.{Call as Place}
+use Rattle.traces.specs.declared.trace.Cursor.{Cursor}
 use Rattle.traces.specs.declared.args.Args.{Args}
 use Rattle.traces.specs.Calls.{Call, call}
 use Rattle.traces.specs.Trace.{lengthIf, callLength, framed, taken, framedCall, callsFrom, upToLength, trace, traceForm}
 use Rattle.traces.specs.Args.{callOf, ArgsOf}
-use Rattle.traces.specs.Walk.{StretchAt, CallAt, noCall}
+use Rattle.traces.specs.Walk.{StretchAt, CallAt, noCall, listOf, ahead, Ahead, cursorIf, firstOf}
 
 -- ---- `stretch_at` and `call_at`
 
@@ -165,6 +164,16 @@ pub record Driven (s : Bytes) (c : Cursor) : Type 0 where
 abbrev countOf : Bytes → ℕ
 countOf s = number (take 2 s)
 
+-- `first_call`
+module _ {s : Bytes} {n : Number} (v : NumberAt 2 s 0 n) where
+  pub first-none : not (n .ok) ≡ true → record { at = 0; left = 0 } ≡ firstOf s
+  first-none h = sym (ap (λ (b : Bool). cursorIf b (countOf s)) (lt-leb 2 (length s) (omega (arith, number-short v h))))
+
+  pub first-some : not (n .ok) ≡ false → record { at = 2; left = n .value } ≡ firstOf s
+  first-some h =
+      let l : 2 ≤ length s = omega (arith, number-long v h) in
+      ap (cursorIf true) (number-value v (number-long v h)) ∙ sym (ap (λ (b : Bool). cursorIf b (countOf s)) (le-leb 2 (length s) l))
+
 trace-is : (s : Bytes) → length s ≤ 262144 → trace s ≡ whole callsFrom s
 unfolding trace upToLength
 trace-is s l = ap (λ (b : Bool). upToLength b (whole callsFrom s)) (le-leb _ _ l)
@@ -201,6 +210,49 @@ trace-driven s {c} q e = go (leb (length s) 262144) refl (leb 2 (length s)) refl
     go true p false r = absurd (true≢false (e ∙ ap isSome (trace-is s (leb-true _ _ p) ∙ calls-none s (leb-false _ _ r))))
 
 -- ---- the walk over it
+
+pub ahead-end : {A : Type 0} {r : Reader A} {s : Bytes} {at left : ℕ} → Ahead r s at left → left ≤ 0 → ahead r s at left ≡ []
+unfolding ahead entries whole times just ended
+ahead-end {A = A} {r = r} {s = s} {at = at} {left = left} v h = let z : left ≡ 0 = omega arith in ap (λ (n : ℕ). listOf (entries r n (drop at s))) z ∙ go (drop at s)
+  where
+    go : (l : Bytes) → _≡_ {A = List A} (listOf (entries r 0 l)) []
+    go [] = refl
+    go (x ∷ l) = refl
+
+-- the first of the entries still to come, and those after it
+pub record Next {A : Type 0} (r : Reader A) (s : Bytes) (at left : ℕ) (b : Bool) (x : A) (next : ℕ) : Type 0 where
+  pub ok : b ≡ true
+  pub is : ahead r s at left ≡ x ∷ ahead r s next (left - 1)
+  pub cursor : Ahead r s next (left - 1)
+
+module _ {A : Type 0} {r : Reader A} {s : Bytes} {at : ℕ} {b : Bool} {x : A} {next : ℕ} (q : Reads r s at b x next) (n : ℕ) where
+  next-good : not b ≡ false → (o : Option (List A)) → entries r n (drop next s) ≡ o → entries r (suc n) (drop at s) ≡ some (ahead r s at (suc n))
+      → (ahead r s at (suc n) ≡ x ∷ ahead r s next n) × (entries r n (drop next s) ≡ some (ahead r s next n))
+  unfolding ahead
+  next-good h none e g =
+      let z : none ≡ some (ahead r s at (suc n)) = sym (entries-more r n (drop at s) (reads-good q h) ∙ ap (withHead x) e) ∙ g in
+      absurd (true≢false (cc))
+  next-good h (some xs) e g =
+      let a : ahead r s next n ≡ xs = ap listOf e in
+      (ap listOf (entries-more r n (drop at s) (reads-good q h) ∙ ap (withHead x) e) ∙ ap (λ (l : List A). x ∷ l) (sym a), e ∙ ap some (sym a))
+
+  next-ok : (c : Bool) → b ≡ c → entries r (suc n) (drop at s) ≡ some (ahead r s at (suc n)) → b ≡ true
+  next-ok true h g = h
+  next-ok false h g =
+      let z : none ≡ some (ahead r s at (suc n)) = sym (entries-bad r n (drop at s) (reads-bad q (ap not h))) ∙ g in
+      absurd (true≢false (cc))
+
+pub ahead-next : {A : Type 0} {r : Reader A} {s : Bytes} {at left : ℕ} {b : Bool} {x : A} {next : ℕ} → Ahead r s at left → Reads r s at b x next → 0 < left → Next r s at left b x next
+ahead-next {left = zero} v q more = absurd (omega arith)
+ahead-next {r = r} {s = s} {at = at} {left = suc n} {b = b} {x = x} {next = next} v q more =
+    let k : b ≡ true = next-ok q n b refl (v .is) in
+    let w = next-good q n (ap not k) (entries r n (drop next s)) refl (v .is) in
+    let e : n ≡ suc n - 1 = omega arith in
+    record {
+      ok = k;
+      is = w .0 ∙ ap (λ (m : ℕ). x ∷ ahead r s next m) e;
+      cursor = record { within = q .within; is = subst (λ (m : ℕ). entries r m (drop next s) ≡ some (ahead r s next m)) e (w .1) };
+    }
 
 -- the call at a cursor, found and in form, and those after it
 pub record NextCall (s : Bytes) (at left : ℕ) (c : Place) (a : Args) : Type 0 where

@@ -3,13 +3,10 @@
 ghost use mathlib.Core.Path.{_≡_};
 ghost use Prim.Native.Nat.{_≤_};
 ghost use lib.ListN.{length};
-ghost use Rattle.forms.specs.Places.{firstOf};
 ghost use Rattle.traces.specs.Trace.{traceForm};
-ghost use Rattle.traces.specs.Walk.{CallAt, StretchAt, noCall};
+ghost use Rattle.traces.specs.Walk.{CallAt, StretchAt, noCall, firstOf};
 use crate::args::args_of;
-use forms::Cursor;
 use forms::Width;
-use forms::first;
 use forms::number_at;
 
 // Where a call's bytes lie; not ok, and zeros, where the bytes end before it does. The next call begins where it ends.
@@ -91,9 +88,22 @@ pub fn trace_in_form(trace: &[u8]) -> bool
     at == trace.len()
 }
 
+// A place in a judged trace: where its next call begins, and how many are left.
+pub struct Cursor {
+    pub at: usize,
+    pub left: usize,
+}
+
 // At the first call of a trace.
 pub fn first_call(trace: &[u8]) -> Cursor
     ensures { λ r. ⌜ r ≡ firstOf (now (trace .entry)) ⌝ }
 {
-    first(trace)
+    let n = number_at(trace, 0, Width::Two);
+    if !n.ok {
+        return Cursor { at: 0, left: 0 };
+    }
+    Cursor {
+        at: 2,
+        left: n.value as usize,
+    }
 }

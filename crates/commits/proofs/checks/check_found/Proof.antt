@@ -2,7 +2,7 @@
 -- Assumes nothing.
 use Rattle.forms.specs.Bytes.{bytesAt}
 use Rattle.commits.proofs.KeyLaws.{found-record, found-lock}
-use Rattle.commits.specs.Checks.{endingOf}
+use Rattle.calls.specs.Walks.{endingOf}
 use borrow.Author.Needs.{needs}
 use Rattle.commits.proofs.checks.check_found.Statement.{statement}
 use Rattle.commits.proofs.checks.check_found.Tie as tie

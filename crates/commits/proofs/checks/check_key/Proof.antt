@@ -1,7 +1,7 @@
 -- `commits::checks::check_key` meets its contract: each way out is a law of `KeyLaws`.
 -- Assumes nothing.
 use Rattle.commits.proofs.KeyLaws.{bad-key, bad-record, key-checked}
-use Rattle.commits.specs.Checks.{endingOf}
+use Rattle.calls.specs.Walks.{endingOf}
 use borrow.Author.Needs.{needs}
 use Rattle.commits.proofs.checks.check_key.Statement.{statement}
 use Rattle.commits.proofs.checks.check_key.Tie as tie

@@ -1,7 +1,7 @@
 -- `commits::checks::check_lock` meets its contract: each way out is a law of `KeyLaws`.
 -- Assumes nothing.
 use Rattle.commits.proofs.KeyLaws.{no-lock, another's, too-new, not-ready, all-ready}
-use Rattle.commits.specs.Checks.{endingOf}
+use Rattle.calls.specs.Walks.{endingOf}
 use borrow.Author.Needs.{needs}
 use Rattle.commits.proofs.checks.check_lock.Statement.{statement}
 use Rattle.commits.proofs.checks.check_lock.Tie as tie

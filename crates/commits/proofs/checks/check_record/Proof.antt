@@ -1,7 +1,7 @@
 -- `commits::checks::check_record` meets its contract: each way out is a law of `KeyLaws`.
 -- Assumes nothing.
 use Rattle.commits.proofs.KeyLaws.{was-rolled, other-commit, lock-stands, row-missing, replayed}
-use Rattle.commits.specs.Checks.{endingOf}
+use Rattle.calls.specs.Walks.{endingOf}
 use borrow.Author.Needs.{needs}
 use Rattle.commits.proofs.checks.check_record.Statement.{statement}
 use Rattle.commits.proofs.checks.check_record.Tie as tie

@@ -1,10 +1,12 @@
--- `commits::passes::apply_all` meets its contract. The invariant of the loop over the keys: those from the cursor on are still to be
--- applied, and what was found serves for them (`ApplyLaws`); of the loop that closes up: the lines past the lock are one place down
--- (`EntryLaws` of changes).
+-- `commits::passes::apply_all` meets its contract. The loop's invariant: the keys from the index on are still to be applied, told of every
+-- list of entries for which this was asked (`Committing` of `ApplyLaws`); in the inner loop the lines close up (`ClosingUp`).
 -- Assumes nothing.
-use Rattle.changes.proofs.EntryLaws.{ClosingUp, closing-start, closing-more, end-there, end-before, end-place, end-long, end-locks, end-bytes}
-use Rattle.commits.specs.Checks.{endingOf}
+use Rattle.forms.specs.declared.batch.Entry.{Entry}
+use Rattle.changes.proofs.EntryLaws.{ClosingUp, closing-start, closing-more, end-there, end-long, end-before, end-place, end-locks, end-bytes}
+use Rattle.calls.specs.Walks.{endingOf}
+use Rattle.commits.specs.Passes.{ApplyAsks}
 use Rattle.commits.proofs.ApplyLaws.{Committing, committing-start, committing-small, committing-same, committing-ends, committing-more, committing-end}
+use mathlib.Core.List.{List}
 use borrow.Author.Needs.{needs}
 use native.Mathlib.Omega.{arith}
 use Prim.Native.Nat.{_-_}
@@ -12,34 +14,25 @@ use Rattle.commits.proofs.passes.apply_all.Statement.{statement}
 use Rattle.commits.proofs.passes.apply_all.Tie as tie
 
 abbrev Inv-loop2 : tie.InvT-loop2
-Inv-loop2 area terms batch founds l₀ at left i found k₀ s load l k = ClosingUp l₀ k₀ (found .place) k l
+Inv-loop2 area terms batch n founds l₀ i found k₀ s load l k = ClosingUp l₀ k₀ (found .place) k l
 
 abbrev μ-loop2 : tie.MeasureT-loop2
-μ-loop2 area terms batch founds l₀ at left i found k₀ s load l k = found .place - k
+μ-loop2 area terms batch n founds l₀ i found k₀ s load l k = found .place - k
 
 abbrev Inv-loop : tie.InvT-loop
-Inv-loop area terms batch founds l₀ at₀ left₀ i₀ l at left i = Committing (endingOf terms) batch area l₀ (record { at = at₀; left = left₀ }) founds at left i l
+Inv-loop area terms batch n founds l₀ i₀ l i = (es : List Entry) → ApplyAsks l₀ area (endingOf terms) batch n es founds → Committing (endingOf terms) batch area l₀ n es founds i l
 
 abbrev μ-loop : tie.MeasureT-loop
-μ-loop area terms batch founds l₀ at₀ left₀ i₀ l at left i = left
+μ-loop area terms batch n founds l₀ i₀ l i = n - i
 
 loop-holds : tie.Need-loop-holds Inv-loop2 μ-loop2 Inv-loop μ-loop
-loop-holds c = committing-start (c .before .before .pre)
-
-part-at-requires : tie.Need-part-at-requires Inv-loop2 μ-loop2 Inv-loop μ-loop
-part-at-requires c κs = search needs
+loop-holds c = λ es a. committing-start a
 
 mul-found : tie.Need-mul-found Inv-loop2 μ-loop2 Inv-loop μ-loop
-mul-found c = let h = committing-small ((c .before .before .loop) .inv) ((c .before .loop-test) .taken) in search needs
+mul-found c = search needs
 
 array-copy-out-found : tie.Need-array-copy-out-found Inv-loop2 μ-loop2 Inv-loop μ-loop
-array-copy-out-found c = committing-small ((c .before .before .loop) .inv) ((c .before .loop-test) .taken)
-
-add-at : tie.Need-add-at Inv-loop2 μ-loop2 Inv-loop μ-loop
-add-at c = search needs
-
-sub-left : tie.Need-sub-left Inv-loop2 μ-loop2 Inv-loop μ-loop
-sub-left c = search needs
+array-copy-out-found c = committing-small ((c .before .loop) .inv _ ((c .before .before .before .before .pre))) ((c .loop-test) .taken)
 
 add-i : tie.Need-add-i Inv-loop2 μ-loop2 Inv-loop μ-loop
 add-i c = search needs
@@ -51,19 +44,19 @@ record-of-requires : tie.Need-record-of-requires Inv-loop2 μ-loop2 Inv-loop μ-
 record-of-requires c κs = search needs
 
 mul-lock : tie.Need-mul-lock Inv-loop2 μ-loop2 Inv-loop μ-loop
-mul-lock c = let a = committing-ends ((c .before .before .before .before .before .before .before .loop) .inv) ((c .before .before .before .before .before .before .loop-test) .taken) ((c .before .before .before .before .before .part-at) .ensures) ((c .before .before .is-new) .ensures) ((c .before .if1) .taken) ((c .record-of) .ensures) in let h = end-there a in omega (arith, h, a .built .lines .few)
+mul-lock c = let a = committing-ends ((c .before .before .before .before .before .loop) .inv _ ((c .before .before .before .before .before .before .before .before .pre))) ((c .before .before .before .before .loop-test) .taken) ((c .before .before .is-new) .ensures) ((c .before .if1) .taken) ((c .record-of) .ensures) in let h = end-there a in omega (arith, h, a .built .lines .few)
 
 element-copy-out-lock : tie.Need-element-copy-out-lock Inv-loop2 μ-loop2 Inv-loop μ-loop
-element-copy-out-lock c = let a = committing-ends ((c .before .before .before .before .before .before .before .loop) .inv) ((c .before .before .before .before .before .before .loop-test) .taken) ((c .before .before .before .before .before .part-at) .ensures) ((c .before .before .is-new) .ensures) ((c .before .if1) .taken) ((c .record-of) .ensures) in omega (arith, end-there a, a .built .lines .few, a .built .lines .long)
+element-copy-out-lock c = let a = committing-ends ((c .before .before .before .before .before .loop) .inv _ ((c .before .before .before .before .before .before .before .before .pre))) ((c .before .before .before .before .loop-test) .taken) ((c .before .before .is-new) .ensures) ((c .before .if1) .taken) ((c .record-of) .ensures) in omega (arith, end-there a, a .built .lines .few, a .built .lines .long)
 
 ended-slot-requires : tie.Need-ended-slot-requires Inv-loop2 μ-loop2 Inv-loop μ-loop
 ended-slot-requires c κs = search needs
 
 ended-load-requires : tie.Need-ended-load-requires Inv-loop2 μ-loop2 Inv-loop μ-loop
-ended-load-requires c κs = let a = committing-ends ((c .before .before .before .before .before .before .before .before .before .before .loop) .inv) ((c .before .before .before .before .before .before .before .before .before .loop-test) .taken) ((c .before .before .before .before .before .before .before .before .part-at) .ensures) ((c .before .before .before .before .before .is-new) .ensures) ((c .before .before .before .before .if1) .taken) ((c .before .before .before .record-of) .ensures) in (end-locks a, end-bytes a)
+ended-load-requires c κs = let a = committing-ends ((c .before .before .before .before .before .before .before .before .loop) .inv _ ((c .before .before .before .before .before .before .before .before .before .before .before .pre))) ((c .before .before .before .before .before .before .before .loop-test) .taken) ((c .before .before .before .before .before .is-new) .ensures) ((c .before .before .before .before .if1) .taken) ((c .before .before .before .record-of) .ensures) in (end-locks a, end-bytes a)
 
 loop2-holds : tie.Need-loop2-holds Inv-loop2 μ-loop2 Inv-loop μ-loop
-loop2-holds c = let a = committing-ends ((c .before .before .before .before .before .before .before .before .before .before .before .loop) .inv) ((c .before .before .before .before .before .before .before .before .before .before .loop-test) .taken) ((c .before .before .before .before .before .before .before .before .before .part-at) .ensures) ((c .before .before .before .before .before .before .is-new) .ensures) ((c .before .before .before .before .before .if1) .taken) ((c .before .before .before .before .record-of) .ensures) in closing-start (end-before a) (omega (arith, end-place a, a .built .lines .few))
+loop2-holds c = let a = committing-ends ((c .before .before .before .before .before .before .before .before .before .loop) .inv _ ((c .before .before .before .before .before .before .before .before .before .before .before .before .pre))) ((c .before .before .before .before .before .before .before .before .loop-test) .taken) ((c .before .before .before .before .before .before .is-new) .ensures) ((c .before .before .before .before .before .if1) .taken) ((c .before .before .before .before .record-of) .ensures) in closing-start (end-before a) (omega (arith, end-place a, a .built .lines .few))
 
 add-if2 : tie.Need-add-if2 Inv-loop2 μ-loop2 Inv-loop μ-loop
 add-if2 c = search needs
@@ -90,7 +83,7 @@ loop2-less : tie.Need-loop2-less Inv-loop2 μ-loop2 Inv-loop μ-loop
 loop2-less c = search needs
 
 loop2-again : tie.Need-loop2-again Inv-loop2 μ-loop2 Inv-loop μ-loop
-loop2-again c = let a = committing-ends ((c .before .before .before .before .before .before .before .before .before .before .before .before .before .before .before .loop) .inv) ((c .before .before .before .before .before .before .before .before .before .before .before .before .before .before .loop-test) .taken) ((c .before .before .before .before .before .before .before .before .before .before .before .before .before .part-at) .ensures) ((c .before .before .before .before .before .before .before .before .before .before .is-new) .ensures) ((c .before .before .before .before .before .before .before .before .before .if1) .taken) ((c .before .before .before .before .before .before .before .before .record-of) .ensures) in closing-more ((c .before .before .before .loop2) .inv) (end-long a) ((c .before .if2) .taken)
+loop2-again c = let a = committing-ends ((c .before .before .before .before .before .before .before .before .before .before .before .before .before .loop) .inv _ ((c .before .before .before .before .before .before .before .before .before .before .before .before .before .before .before .before .pre))) ((c .before .before .before .before .before .before .before .before .before .before .before .before .loop-test) .taken) ((c .before .before .before .before .before .before .before .before .before .before .is-new) .ensures) ((c .before .before .before .before .before .before .before .before .before .if1) .taken) ((c .before .before .before .before .before .before .before .before .record-of) .ensures) in closing-more ((c .before .before .before .loop2) .inv) (end-long a) ((c .before .if2) .taken)
 
 mul-s : tie.Need-mul-s Inv-loop2 μ-loop2 Inv-loop μ-loop
 mul-s c = search needs
@@ -102,16 +95,16 @@ loop-less : tie.Need-loop-less Inv-loop2 μ-loop2 Inv-loop μ-loop
 loop-less c = search needs
 
 loop-again : tie.Need-loop-again Inv-loop2 μ-loop2 Inv-loop μ-loop
-loop-again c = committing-more ((c .before .before .before .before .before .before .before .before .before .before .before .before .before .before .loop) .inv) ((c .before .before .before .before .before .before .before .before .before .before .before .before .before .loop-test) .taken) ((c .before .before .before .before .before .before .before .before .before .before .before .before .part-at) .ensures) ((c .before .before .before .before .before .before .before .before .before .is-new) .ensures) ((c .before .before .before .before .before .before .before .before .if1) .taken) ((c .before .before .before .before .before .before .before .record-of) .ensures) ((c .before .before .loop2) .inv) ((c .if2) .left) ((c .before .before .before .before .before .ended-slot) .ensures) ((c .before .before .before .ended-load) .ensures)
+loop-again c = λ es q. committing-more ((c .before .before .before .before .before .before .before .before .before .before .before .before .loop) .inv es q) ((c .before .before .before .before .before .before .before .before .before .before .before .loop-test) .taken) ((c .before .before .before .before .before .before .before .before .before .is-new) .ensures) ((c .before .before .before .before .before .before .before .before .if1) .taken) ((c .before .before .before .before .before .before .before .record-of) .ensures) ((c .before .before .loop2) .inv) ((c .if2) .left) ((c .before .before .before .before .before .ended-slot) .ensures) ((c .before .before .before .ended-load) .ensures)
 
 loop-less-2 : tie.Need-loop-less-2 Inv-loop2 μ-loop2 Inv-loop μ-loop
 loop-less-2 c = search needs
 
 loop-again-2 : tie.Need-loop-again-2 Inv-loop2 μ-loop2 Inv-loop μ-loop
-loop-again-2 c = committing-same ((c .before .before .before .before .before .before .loop) .inv) ((c .before .before .before .before .before .loop-test) .taken) ((c .before .before .before .before .part-at) .ensures) ((c .before .is-new) .ensures) ((c .if1) .left)
+loop-again-2 c = λ es q. committing-same ((c .before .before .before .before .loop) .inv es q) ((c .before .before .before .loop-test) .taken) ((c .before .is-new) .ensures) ((c .if1) .left)
 
 returns : tie.Need-returns Inv-loop2 μ-loop2 Inv-loop μ-loop
-returns c = committing-end ((c .before .loop) .inv) ((c .loop-test) .left)
+returns c = committing-end ((c .before .loop) .inv _ ((c .before .before .before .before .pre))) ((c .loop-test) .left)
 
 pub apply-all-spec : {M : Type 1} → statement M
 apply-all-spec =
@@ -122,11 +115,8 @@ apply-all-spec =
     Inv-loop
     μ-loop
     loop-holds
-    part-at-requires
     mul-found
     array-copy-out-found
-    add-at
-    sub-left
     add-i
     is-new-requires
     record-of-requires

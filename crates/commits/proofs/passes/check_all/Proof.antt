@@ -1,40 +1,44 @@
--- `commits::passes::check_all` meets its contract. The loop's invariant: the keys from the cursor on are still to be checked
--- (`CheckLaws`).
+-- `commits::passes::check_all` meets its contract. The loop's invariant: the keys from the index on are still to be checked (`CheckLaws`).
 -- Assumes nothing.
 use native.Mathlib.Nat.{add-sub-cancel-left}
+use Rattle.calls.specs.Walks.{endingOf}
 use Rattle.calls.proofs.SettledLaws.{is-accepted, is-refusal}
-use Rattle.commits.specs.Checks.{endingOf}
-use Rattle.commits.proofs.CheckLaws.{Checking, checking-start, checking-small, checking-in, checking-more, checking-out, checking-end}
+use Rattle.calls.proofs.PassLaws.{pass-small, pass-in, pass-met}
+use Rattle.commits.proofs.CheckLaws.{Checking, checking-start, checking-more, checking-out, checking-end}
 use borrow.Author.Needs.{needs}
+use Prim.Native.Nat.{_-_}
 use Rattle.commits.proofs.passes.check_all.Statement.{statement}
 use Rattle.commits.proofs.passes.check_all.Tie as tie
 
 abbrev Inv-loop : tie.InvT-loop
-Inv-loop area terms batch founds rows at₀ left₀ i₀ at left i = Checking area (endingOf terms) batch (record { at = at₀; left = left₀ }) founds rows at left i
+Inv-loop area terms batch n list founds rows i₀ i = Checking area (endingOf terms) batch n list founds rows i
 
 abbrev μ-loop : tie.MeasureT-loop
-μ-loop area terms batch founds rows at₀ left₀ i₀ at left i = left
+μ-loop area terms batch n list founds rows i₀ i = n - i
 
 loop-holds : tie.Need-loop-holds Inv-loop μ-loop
-loop-holds c = checking-start (endingOf ((c .before .before .args) .terms)) (c .before .before .pre)
+loop-holds c = checking-start (endingOf ((c .before .before .args) .terms)) ((c .before .before .pre))
 
-part-at-requires : tie.Need-part-at-requires Inv-loop μ-loop
-part-at-requires c κs = search needs
+mul-e : tie.Need-mul-e Inv-loop μ-loop
+mul-e c = search needs
+
+array-copy-out-e : tie.Need-array-copy-out-e Inv-loop μ-loop
+array-copy-out-e c = pass-small ((c .before .loop) .inv) ((c .loop-test) .taken)
 
 add-ke : tie.Need-add-ke Inv-loop μ-loop
-add-ke c = search needs
+add-ke c = let w = pass-in ((c .before .before .before .loop) .inv) ((c .before .before .loop-test) .taken) in search needs
 
 mul-found : tie.Need-mul-found Inv-loop μ-loop
-mul-found c = let h = checking-small ((c .before .before .before .loop) .inv) ((c .before .before .loop-test) .taken) in search needs
+mul-found c = search needs
 
 array-copy-out-found : tie.Need-array-copy-out-found Inv-loop μ-loop
-array-copy-out-found c = checking-small ((c .before .before .before .loop) .inv) ((c .before .before .loop-test) .taken)
+array-copy-out-found c = pass-small ((c .before .before .before .loop) .inv) ((c .before .before .loop-test) .taken)
 
 mul-stored : tie.Need-mul-stored Inv-loop μ-loop
-mul-stored c = let h = checking-small ((c .before .before .before .before .loop) .inv) ((c .before .before .before .loop-test) .taken) in search needs
+mul-stored c = search needs
 
 array-copy-out-stored : tie.Need-array-copy-out-stored Inv-loop μ-loop
-array-copy-out-stored c = checking-small ((c .before .before .before .before .loop) .inv) ((c .before .before .before .loop-test) .taken)
+array-copy-out-stored c = pass-small ((c .before .before .before .before .loop) .inv) ((c .before .before .before .loop-test) .taken)
 
 sub-check-key : tie.Need-sub-check-key Inv-loop μ-loop
 sub-check-key c = search needs
@@ -43,19 +47,16 @@ part-check-key-start : tie.Need-part-check-key-start Inv-loop μ-loop
 part-check-key-start c = search needs
 
 part-check-key-end : tie.Need-part-check-key-end Inv-loop μ-loop
-part-check-key-end c = search needs
+part-check-key-end c = let w = pass-in ((c .before .before .before .before .before .loop) .inv) ((c .before .before .before .before .loop-test) .taken) in search needs
 
 check-key-requires : tie.Need-check-key-requires Inv-loop μ-loop
-check-key-requires c κs = checking-in ((c .before .before .before .before .before .before .loop) .inv) ((c .before .before .before .before .before .loop-test) .taken)
+check-key-requires c κs = pass-met ((c .before .before .before .before .before .before .loop) .inv) ((c .before .before .before .before .before .loop-test) .taken) .row .within
 
 accepted-requires : tie.Need-accepted-requires Inv-loop μ-loop
 accepted-requires c κs = search needs
 
 returns : tie.Need-returns Inv-loop μ-loop
-returns c = checking-out ((c .before .before .before .before .before .before .before .before .before .loop) .inv) ((c .before .before .before .before .before .before .before .before .loop-test) .taken) ((c .before .before .before .before .before .before .before .part-at) .ensures) (simp add-sub-cancel-left at ((c .before .before .check-key) .ensures)) (is-refusal _ ((c .before .accepted) .ensures) ((c .if1) .taken))
-
-sub-left : tie.Need-sub-left Inv-loop μ-loop
-sub-left c = search needs
+returns c = checking-out _ ((c .before .before .before .before .before .before .before .before .before .loop) .inv) ((c .before .before .before .before .before .before .before .before .loop-test) .taken) (simp add-sub-cancel-left at ((c .before .before .check-key) .ensures)) (is-refusal _ ((c .before .accepted) .ensures) ((c .if1) .taken))
 
 add-i : tie.Need-add-i Inv-loop μ-loop
 add-i c = search needs
@@ -64,10 +65,10 @@ loop-less : tie.Need-loop-less Inv-loop μ-loop
 loop-less c = search needs
 
 loop-again : tie.Need-loop-again Inv-loop μ-loop
-loop-again c = checking-more ((c .before .before .before .before .before .before .before .before .before .loop) .inv) ((c .before .before .before .before .before .before .before .before .loop-test) .taken) ((c .before .before .before .before .before .before .before .part-at) .ensures) (simp add-sub-cancel-left at ((c .before .before .check-key) .ensures)) (is-accepted _ ((c .before .accepted) .ensures) ((c .if1) .left))
+loop-again c = checking-more _ ((c .before .before .before .before .before .before .before .before .before .loop) .inv) ((c .before .before .before .before .before .before .before .before .loop-test) .taken) (simp add-sub-cancel-left at ((c .before .before .check-key) .ensures)) (is-accepted _ ((c .before .accepted) .ensures) ((c .if1) .left))
 
 returns-2 : tie.Need-returns-2 Inv-loop μ-loop
-returns-2 c = checking-end ((c .before .loop) .inv) ((c .loop-test) .left)
+returns-2 c = checking-end _ ((c .before .loop) .inv) ((c .loop-test) .left)
 
 pub check-all-spec : {M : Type 1} → statement M
 check-all-spec =
@@ -76,7 +77,8 @@ check-all-spec =
     Inv-loop
     μ-loop
     loop-holds
-    part-at-requires
+    mul-e
+    array-copy-out-e
     add-ke
     mul-found
     array-copy-out-found
@@ -88,7 +90,6 @@ check-all-spec =
     check-key-requires
     accepted-requires
     returns
-    sub-left
     add-i
     loop-less
     loop-again

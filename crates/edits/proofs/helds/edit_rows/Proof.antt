@@ -14,22 +14,22 @@ use Rattle.edits.proofs.helds.edit_rows.Statement.{statement}
 use Rattle.edits.proofs.helds.edit_rows.Tie as tie
 
 abbrev Inv-loop : tie.InvT-loop
-Inv-loop n store edits count out₀ i₀ o₀ j₀ out i o j = Making rowEdit noHeld 1024 count n (store .defaults) edits i o j out
+Inv-loop n edits defaults count out₀ i₀ o₀ j₀ out i o j = Making rowEdit noHeld 1024 count n defaults edits i o j out
 
 abbrev μ-loop : tie.MeasureT-loop
-μ-loop n store edits count out₀ i₀ o₀ j₀ out i o j = (n - j) + (count - i)
+μ-loop n edits defaults count out₀ i₀ o₀ j₀ out i o j = (n - j) + (count - i)
 
 abbrev Inv-loop2 : tie.InvT-loop2
-Inv-loop2 n store count out₀ i₀ o₀ j out i o = Walking noHeld 1024 count (store .defaults) (take o₀ out₀ ++ merged [] i₀ (take count (store .defaults))) [] i o out
+Inv-loop2 n defaults count out₀ i₀ o₀ j out i o = Walking noHeld 1024 count defaults (take o₀ out₀ ++ merged [] i₀ (take count defaults)) [] i o out
 
 abbrev μ-loop2 : tie.MeasureT-loop2
-μ-loop2 n store count out₀ i₀ o₀ j out i o = count - i
+μ-loop2 n defaults count out₀ i₀ o₀ j out i o = count - i
 
 no-held-requires : tie.Need-no-held-requires Inv-loop μ-loop Inv-loop2 μ-loop2
 no-held-requires c κs = search needs
 
 loop-holds : tie.Need-loop-holds Inv-loop μ-loop Inv-loop2 μ-loop2
-loop-holds c = making-start ((c .before .before .pre)) ((c .no-held) .ensures)
+loop-holds c = making-start ((c .before .before .before .pre)) ((c .no-held) .ensures)
 
 mul-e : tie.Need-mul-e Inv-loop μ-loop Inv-loop2 μ-loop2
 mul-e c = search needs
@@ -40,8 +40,8 @@ array-copy-out-e c = search needs
 mul-d : tie.Need-mul-d Inv-loop μ-loop Inv-loop2 μ-loop2
 mul-d c = let h = making-count ((c .before .before .before .before .loop) .inv) noRowEdit ((c .before .before .before .loop-test) .taken) ((c .if1) .taken) in let k = (c .before .before .before .before .loop) .inv .walking .counted in omega arith
 
-element-copy-out-d : tie.Need-element-copy-out-d Inv-loop μ-loop Inv-loop2 μ-loop2
-element-copy-out-d c = let h = making-count ((c .before .before .before .before .loop) .inv) noRowEdit ((c .before .before .before .loop-test) .taken) ((c .if1) .taken) in omega (arith, (c .before .before .before .before .loop) .inv .walking .counted, (c .before .before .before .before .loop) .inv .walking .source)
+array-copy-out-d : tie.Need-array-copy-out-d Inv-loop μ-loop Inv-loop2 μ-loop2
+array-copy-out-d c = let h = making-count ((c .before .before .before .before .loop) .inv) noRowEdit ((c .before .before .before .loop-test) .taken) ((c .if1) .taken) in omega (arith, (c .before .before .before .before .loop) .inv .walking .counted, (c .before .before .before .before .loop) .inv .walking .source)
 
 add-i : tie.Need-add-i Inv-loop μ-loop Inv-loop2 μ-loop2
 add-i c = let h = making-count ((c .before .before .before .before .before .before .loop) .inv) noRowEdit ((c .before .before .before .before .before .loop-test) .taken) ((c .before .before .if1) .taken) in omega (arith, (c .before .before .before .before .before .before .loop) .inv .walking .counted)
@@ -100,8 +100,8 @@ loop2-holds c = making-rest ((c .before .loop) .inv) ((c .loop-test) .left)
 mul-d-2 : tie.Need-mul-d-2 Inv-loop μ-loop Inv-loop2 μ-loop2
 mul-d-2 c = let h = rest-place ((c .before .loop2) .inv) ((c .loop2-test) .taken) in omega arith
 
-element-copy-out-d-2 : tie.Need-element-copy-out-d-2 Inv-loop μ-loop Inv-loop2 μ-loop2
-element-copy-out-d-2 c = omega (arith, rest-place ((c .before .loop2) .inv) ((c .loop2-test) .taken), (c .before .loop2) .inv .source)
+array-copy-out-d-2 : tie.Need-array-copy-out-d-2 Inv-loop μ-loop Inv-loop2 μ-loop2
+array-copy-out-d-2 c = omega (arith, rest-place ((c .before .loop2) .inv) ((c .loop2-test) .taken), (c .before .loop2) .inv .source)
 
 mul-out-3 : tie.Need-mul-out-3 Inv-loop μ-loop Inv-loop2 μ-loop2
 mul-out-3 c = let h = rest-fits ((c .before .before .loop2) .inv) ((c .before .loop2-test) .taken) in omega arith
@@ -137,7 +137,7 @@ edit-rows-spec =
     mul-e
     array-copy-out-e
     mul-d
-    element-copy-out-d
+    array-copy-out-d
     goes-requires
     add-i
     mul-out
@@ -157,7 +157,7 @@ edit-rows-spec =
     loop-again-4
     loop2-holds
     mul-d-2
-    element-copy-out-d-2
+    array-copy-out-d-2
     mul-out-3
     array-set-from-out-3
     add-i-2

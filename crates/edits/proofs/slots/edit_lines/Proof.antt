@@ -15,22 +15,22 @@ use Rattle.edits.proofs.slots.edit_lines.Statement.{statement}
 use Rattle.edits.proofs.slots.edit_lines.Tie as tie
 
 abbrev Inv-loop : tie.InvT-loop
-Inv-loop n store edits count out₀ i₀ o₀ j₀ out i o j = Making lineEdit noSlot 1024 count n (store .lines) edits i o j out
+Inv-loop n edits lines count out₀ i₀ o₀ j₀ out i o j = Making lineEdit noSlot 1024 count n lines edits i o j out
 
 abbrev μ-loop : tie.MeasureT-loop
-μ-loop n store edits count out₀ i₀ o₀ j₀ out i o j = (n - j) + (count - i)
+μ-loop n edits lines count out₀ i₀ o₀ j₀ out i o j = (n - j) + (count - i)
 
 abbrev Inv-loop2 : tie.InvT-loop2
-Inv-loop2 n store count out₀ i₀ o₀ j out i o = Walking noSlot 1024 count (store .lines) (take o₀ out₀ ++ merged [] i₀ (take count (store .lines))) [] i o out
+Inv-loop2 n lines count out₀ i₀ o₀ j out i o = Walking noSlot 1024 count lines (take o₀ out₀ ++ merged [] i₀ (take count lines)) [] i o out
 
 abbrev μ-loop2 : tie.MeasureT-loop2
-μ-loop2 n store count out₀ i₀ o₀ j out i o = count - i
+μ-loop2 n lines count out₀ i₀ o₀ j out i o = count - i
 
 no-slot-requires : tie.Need-no-slot-requires Inv-loop μ-loop Inv-loop2 μ-loop2
 no-slot-requires c κs = search needs
 
 loop-holds : tie.Need-loop-holds Inv-loop μ-loop Inv-loop2 μ-loop2
-loop-holds c = making-start ((c .before .before .pre)) ((c .no-slot) .ensures)
+loop-holds c = making-start ((c .before .before .before .pre)) ((c .no-slot) .ensures)
 
 mul-e : tie.Need-mul-e Inv-loop μ-loop Inv-loop2 μ-loop2
 mul-e c = search needs
@@ -41,8 +41,8 @@ array-copy-out-e c = search needs
 mul-s : tie.Need-mul-s Inv-loop μ-loop Inv-loop2 μ-loop2
 mul-s c = let h = making-count ((c .before .before .before .before .loop) .inv) noLineEdit ((c .before .before .before .loop-test) .taken) ((c .if1) .taken) in let k = (c .before .before .before .before .loop) .inv .walking .counted in omega arith
 
-element-copy-out-s : tie.Need-element-copy-out-s Inv-loop μ-loop Inv-loop2 μ-loop2
-element-copy-out-s c = let h = making-count ((c .before .before .before .before .loop) .inv) noLineEdit ((c .before .before .before .loop-test) .taken) ((c .if1) .taken) in omega (arith, (c .before .before .before .before .loop) .inv .walking .counted, (c .before .before .before .before .loop) .inv .walking .source)
+array-copy-out-s : tie.Need-array-copy-out-s Inv-loop μ-loop Inv-loop2 μ-loop2
+array-copy-out-s c = let h = making-count ((c .before .before .before .before .loop) .inv) noLineEdit ((c .before .before .before .loop-test) .taken) ((c .if1) .taken) in omega (arith, (c .before .before .before .before .loop) .inv .walking .counted, (c .before .before .before .before .loop) .inv .walking .source)
 
 add-i : tie.Need-add-i Inv-loop μ-loop Inv-loop2 μ-loop2
 add-i c = let h = making-count ((c .before .before .before .before .before .before .loop) .inv) noLineEdit ((c .before .before .before .before .before .loop-test) .taken) ((c .before .before .if1) .taken) in omega (arith, (c .before .before .before .before .before .before .loop) .inv .walking .counted)
@@ -101,8 +101,8 @@ loop2-holds c = making-rest ((c .before .loop) .inv) ((c .loop-test) .left)
 mul-s-2 : tie.Need-mul-s-2 Inv-loop μ-loop Inv-loop2 μ-loop2
 mul-s-2 c = let h = rest-place ((c .before .loop2) .inv) ((c .loop2-test) .taken) in omega arith
 
-element-copy-out-s-2 : tie.Need-element-copy-out-s-2 Inv-loop μ-loop Inv-loop2 μ-loop2
-element-copy-out-s-2 c = omega (arith, rest-place ((c .before .loop2) .inv) ((c .loop2-test) .taken), (c .before .loop2) .inv .source)
+array-copy-out-s-2 : tie.Need-array-copy-out-s-2 Inv-loop μ-loop Inv-loop2 μ-loop2
+array-copy-out-s-2 c = omega (arith, rest-place ((c .before .loop2) .inv) ((c .loop2-test) .taken), (c .before .loop2) .inv .source)
 
 mul-out-3 : tie.Need-mul-out-3 Inv-loop μ-loop Inv-loop2 μ-loop2
 mul-out-3 c = let h = rest-fits ((c .before .before .loop2) .inv) ((c .before .loop2-test) .taken) in omega arith
@@ -138,7 +138,7 @@ edit-lines-spec =
     mul-e
     array-copy-out-e
     mul-s
-    element-copy-out-s
+    array-copy-out-s
     goes-requires
     add-i
     mul-out
@@ -158,7 +158,7 @@ edit-lines-spec =
     loop-again-4
     loop2-holds
     mul-s-2
-    element-copy-out-s-2
+    array-copy-out-s-2
     mul-out-3
     array-set-from-out-3
     add-i-2

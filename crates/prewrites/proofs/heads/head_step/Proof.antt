@@ -1,5 +1,3 @@
--- `prewrites::heads::head_step` meets its contract: the tests in the order of the definition's steps.
--- Assumes nothing.
 use Rattle.rules.specs.Prewrite.{headStep}
 use Rattle.laws.proofs.ChainLaws.{chain}
 use borrow.Author.Needs.{needs}
@@ -12,23 +10,40 @@ returns c = search chain
 
 returns-2 : tie.Need-returns-2
 unfolding headStep
-returns-2 c = search chain
-
-key-in-form-requires : tie.Need-key-in-form-requires
-key-in-form-requires c κs = search needs
+returns-2 c = search chain depth 8
 
 returns-3 : tie.Need-returns-3
 unfolding headStep
-returns-3 c = search chain
+returns-3 c = search chain depth 8
 
 returns-4 : tie.Need-returns-4
 unfolding headStep
 returns-4 c = search chain depth 8
 
+key-in-form-requires : tie.Need-key-in-form-requires
+key-in-form-requires c κs = search needs
+
 returns-5 : tie.Need-returns-5
 unfolding headStep
-returns-5 c = search chain depth 8
+returns-5 c = search chain depth 9
+
+returns-6 : tie.Need-returns-6
+unfolding headStep
+returns-6 c = search chain depth 9
+
+returns-7 : tie.Need-returns-7
+unfolding headStep
+returns-7 c = search chain depth 9
 
 pub head-step-spec : {M : Type 1} → statement M
 head-step-spec =
-    tie.close (tie.spec returns returns-2 key-in-form-requires returns-3 returns-4 returns-5)
+    tie.close
+    (tie.spec
+    returns
+    returns-2
+    returns-3
+    returns-4
+    key-in-form-requires
+    returns-5
+    returns-6
+    returns-7)

@@ -1,35 +1,19 @@
+-- `rollbacks::batch::rollback_all` meets its contract: a refusal, no room, nothing new, or all keys are applied (`PassLaws`).
+-- Assumes nothing.
 use Rattle.calls.proofs.SettledLaws.{is-accepted, is-refusal}
-use Rattle.rollbacks.proofs.BatchLaws.{survey-asks, surveyed, walk-asks, all-refused, all-left, all-full, all-replay, all-apply, all-new}
-use borrow.Author.Needs.{needs}
-use native.Mathlib.Omega.{arith}
-use Prim.Native.Nat.{ℕ, suc, _+_, _-_, _*_, _<_, _≤_}
-use mathlib.Core.Path.{_≡_, refl, sym, ap, _∙_}
-use lib.ListN.{length, getD, take, drop, set, length-set}
+use Rattle.rollbacks.proofs.PassLaws.{all-checks, all-refused, all-left, all-full, all-replay, all-apply, all-new}
 use borrow.Author.Needs.{needs}
 use Rattle.rollbacks.proofs.batch.rollback_all.Statement.{statement}
 use Rattle.rollbacks.proofs.batch.rollback_all.Tie as tie
-use Rattle.rollbacks.proofs.batch.rollback_all.Reads as reads
-use Rattle.rollbacks.proofs.batch.rollback_all.Lts as lts
-use Rattle.calls.proofs.accepted.Reads as accepted-reads
-use Rattle.rollbacks.proofs.applies.apply_all.Reads as apply-all-reads
-use Rattle.rollbacks.proofs.passes.check_all.Reads as check-all-reads
-use Rattle.rollbacks.proofs.weights.left_load.Reads as left-load-reads
-use Rattle.rules.proofs.load_fits.Reads as load-fits-reads
-use Rattle.surveys.proofs.key_cuts.Reads as key-cuts-reads
-use Rattle.surveys.proofs.look_all.Reads as look-all-reads
-use Rattle.surveys.proofs.find_rows.Reads as find-rows-reads
-
-key-cuts-requires : tie.Need-key-cuts-requires
-key-cuts-requires c κs = search needs
 
 look-all-requires : tie.Need-look-all-requires
-look-all-requires c κs = ((c .before .before .before .before .pre) .made .built, survey-asks (c .before .before .before .before .pre) ((c .before .key-cuts) .ensures))
+look-all-requires c κs = ((c .before .before .before .pre) .made .built, (c .before .before .before .pre) .form)
 
 find-rows-requires : tie.Need-find-rows-requires
-find-rows-requires c κs = ((c .before .before .before .before .before .before .pre) .made .built, survey-asks (c .before .before .before .before .before .before .pre) ((c .before .before .before .key-cuts) .ensures))
+find-rows-requires c κs = ((c .before .before .before .before .before .pre) .made .built, (c .before .before .before .before .before .pre) .form)
 
 check-all-requires : tie.Need-check-all-requires
-check-all-requires c κs = walk-asks (c .before .before .before .before .before .before .before .before .pre) ((c .before .before .before .before .before .key-cuts) .ensures) ((c .before .before .before .look-all) .ensures) ((c .before .find-rows) .ensures)
+check-all-requires c κs = all-checks (c .before .before .before .before .before .before .before .pre) ((c .before .before .before .look-all) .ensures) ((c .before .find-rows) .ensures)
 
 accepted-requires : tie.Need-accepted-requires
 accepted-requires c κs = search needs
@@ -38,10 +22,10 @@ same-length : tie.Need-same-length
 same-length c = search needs
 
 returns : tie.Need-returns
-returns c = all-refused (c .before .before .before .before .before .before .before .before .before .before .before .pre) (surveyed (c .before .before .before .before .before .before .before .before .before .before .before .pre) ((c .before .before .before .before .before .before .before .before .key-cuts) .ensures) ((c .before .before .before .before .before .before .look-all) .ensures) ((c .before .before .before .before .find-rows) .ensures)) ((c .before .before .check-all) .ensures) (is-refusal _ ((c .before .accepted) .ensures) ((c .if1) .taken))
+returns c = all-refused (c .before .before .before .before .before .before .before .before .before .before .pre) ((c .before .before .before .before .before .before .look-all) .ensures) ((c .before .before .before .before .find-rows) .ensures) ((c .before .before .check-all) .ensures) (is-refusal _ ((c .before .accepted) .ensures) ((c .if1) .taken))
 
 left-load-requires : tie.Need-left-load-requires
-left-load-requires c κs = all-left (c .before .before .before .before .before .before .before .before .before .before .before .before .before .pre) (surveyed (c .before .before .before .before .before .before .before .before .before .before .before .before .before .pre) ((c .before .before .before .before .before .before .before .before .before .before .key-cuts) .ensures) ((c .before .before .before .before .before .before .before .before .look-all) .ensures) ((c .before .before .before .before .before .before .find-rows) .ensures)) ((c .before .before .before .before .check-all) .ensures) (is-accepted _ ((c .before .before .before .accepted) .ensures) ((c .before .before .if1) .left))
+left-load-requires c κs = all-left (c .before .before .before .before .before .before .before .before .before .before .before .before .pre) ((c .before .before .before .before .before .before .before .before .look-all) .ensures) ((c .before .before .before .before .before .before .find-rows) .ensures) ((c .before .before .before .before .check-all) .ensures) (is-accepted _ ((c .before .before .before .accepted) .ensures) ((c .before .before .if1) .left))
 
 load-fits-requires : tie.Need-load-fits-requires
 load-fits-requires c κs = search needs
@@ -50,28 +34,27 @@ same-length-2 : tie.Need-same-length-2
 same-length-2 c = search needs
 
 returns-2 : tie.Need-returns-2
-returns-2 c = all-full (c .before .before .before .before .before .before .before .before .before .before .before .before .before .before .before .before .pre) (surveyed (c .before .before .before .before .before .before .before .before .before .before .before .before .before .before .before .before .pre) ((c .before .before .before .before .before .before .before .before .before .before .before .before .before .key-cuts) .ensures) ((c .before .before .before .before .before .before .before .before .before .before .before .look-all) .ensures) ((c .before .before .before .before .before .before .before .before .before .find-rows) .ensures)) ((c .before .before .before .before .before .before .before .check-all) .ensures) (is-accepted _ ((c .before .before .before .before .before .before .accepted) .ensures) ((c .before .before .before .before .before .if1) .left)) ((c .before .before .left-load) .ensures) ((c .before .load-fits) .ensures) ((c .if2) .taken)
+returns-2 c = all-full (c .before .before .before .before .before .before .before .before .before .before .before .before .before .before .before .pre) ((c .before .before .before .before .before .before .before .before .before .before .before .look-all) .ensures) ((c .before .before .before .before .before .before .before .before .before .find-rows) .ensures) ((c .before .before .before .before .before .before .before .check-all) .ensures) (is-accepted _ ((c .before .before .before .before .before .before .accepted) .ensures) ((c .before .before .before .before .before .if1) .left)) ((c .before .before .left-load) .ensures) ((c .before .load-fits) .ensures) ((c .if2) .taken)
 
 same-length-3 : tie.Need-same-length-3
 same-length-3 c = search needs
 
 returns-3 : tie.Need-returns-3
-returns-3 c = all-replay (c .before .before .before .before .before .before .before .before .before .before .before .before .before .before .before .before .before .before .before .pre) (surveyed (c .before .before .before .before .before .before .before .before .before .before .before .before .before .before .before .before .before .before .before .pre) ((c .before .before .before .before .before .before .before .before .before .before .before .before .before .before .before .before .key-cuts) .ensures) ((c .before .before .before .before .before .before .before .before .before .before .before .before .before .before .look-all) .ensures) ((c .before .before .before .before .before .before .before .before .before .before .before .before .find-rows) .ensures)) ((c .before .before .before .before .before .before .before .before .before .before .check-all) .ensures) (is-accepted _ ((c .before .before .before .before .before .before .before .before .before .accepted) .ensures) ((c .before .before .before .before .before .before .before .before .if1) .left)) ((c .before .before .before .before .before .left-load) .ensures) ((c .before .before .before .before .load-fits) .ensures) ((c .before .before .before .if2) .left) ((c .if3) .taken)
+returns-3 c = all-replay (c .before .before .before .before .before .before .before .before .before .before .before .before .before .before .before .before .before .pre) ((c .before .before .before .before .before .before .before .before .before .before .before .before .before .look-all) .ensures) ((c .before .before .before .before .before .before .before .before .before .before .before .find-rows) .ensures) ((c .before .before .before .before .before .before .before .before .before .check-all) .ensures) (is-accepted _ ((c .before .before .before .before .before .before .before .before .accepted) .ensures) ((c .before .before .before .before .before .before .before .if1) .left)) ((c .before .before .before .before .left-load) .ensures) ((c .before .before .before .load-fits) .ensures) ((c .before .before .if2) .left) ((c .if3) .taken)
 
 apply-all-requires : tie.Need-apply-all-requires
-apply-all-requires c κs = all-apply (c .before .before .before .before .before .before .before .before .before .before .before .before .before .before .before .before .before .before .before .before .pre) (surveyed (c .before .before .before .before .before .before .before .before .before .before .before .before .before .before .before .before .before .before .before .before .pre) ((c .before .before .before .before .before .before .before .before .before .before .before .before .before .before .before .before .before .key-cuts) .ensures) ((c .before .before .before .before .before .before .before .before .before .before .before .before .before .before .before .look-all) .ensures) ((c .before .before .before .before .before .before .before .before .before .before .before .before .before .find-rows) .ensures)) ((c .before .before .before .before .before .before .before .before .before .before .before .check-all) .ensures) (is-accepted _ ((c .before .before .before .before .before .before .before .before .before .before .accepted) .ensures) ((c .before .before .before .before .before .before .before .before .before .if1) .left)) ((c .before .before .before .before .before .before .left-load) .ensures) ((c .before .before .before .before .before .load-fits) .ensures) ((c .before .before .before .before .if2) .left)
+apply-all-requires c κs = all-apply (c .before .before .before .before .before .before .before .before .before .before .before .before .before .before .before .before .before .before .pre) ((c .before .before .before .before .before .before .before .before .before .before .before .before .before .before .look-all) .ensures) ((c .before .before .before .before .before .before .before .before .before .before .before .before .find-rows) .ensures) ((c .before .before .before .before .before .before .before .before .before .before .check-all) .ensures) (is-accepted _ ((c .before .before .before .before .before .before .before .before .before .accepted) .ensures) ((c .before .before .before .before .before .before .before .before .if1) .left)) ((c .before .before .before .before .before .left-load) .ensures) ((c .before .before .before .before .load-fits) .ensures) ((c .before .before .before .if2) .left)
 
 same-length-4 : tie.Need-same-length-4
 same-length-4 c = search needs
 
 returns-4 : tie.Need-returns-4
-returns-4 c = all-new (c .before .before .before .before .before .before .before .before .before .before .before .before .before .before .before .before .before .before .before .before .before .before .before .pre) (surveyed (c .before .before .before .before .before .before .before .before .before .before .before .before .before .before .before .before .before .before .before .before .before .before .before .pre) ((c .before .before .before .before .before .before .before .before .before .before .before .before .before .before .before .before .before .before .before .before .key-cuts) .ensures) ((c .before .before .before .before .before .before .before .before .before .before .before .before .before .before .before .before .before .before .look-all) .ensures) ((c .before .before .before .before .before .before .before .before .before .before .before .before .before .before .before .before .find-rows) .ensures)) ((c .before .before .before .before .before .before .before .before .before .before .before .before .before .before .check-all) .ensures) (is-accepted _ ((c .before .before .before .before .before .before .before .before .before .before .before .before .before .accepted) .ensures) ((c .before .before .before .before .before .before .before .before .before .before .before .before .if1) .left)) ((c .before .before .before .before .before .before .before .before .before .left-load) .ensures) ((c .before .before .before .before .before .before .before .before .load-fits) .ensures) ((c .before .before .before .before .before .before .before .if2) .left) ((c .before .before .before .before .if3) .left) ((c .before .before .apply-all) .ensures)
+returns-4 c = all-new (c .before .before .before .before .before .before .before .before .before .before .before .before .before .before .before .before .before .before .before .before .before .pre) ((c .before .before .before .before .before .before .before .before .before .before .before .before .before .before .before .before .before .look-all) .ensures) ((c .before .before .before .before .before .before .before .before .before .before .before .before .before .before .before .find-rows) .ensures) ((c .before .before .before .before .before .before .before .before .before .before .before .before .before .check-all) .ensures) (is-accepted _ ((c .before .before .before .before .before .before .before .before .before .before .before .before .accepted) .ensures) ((c .before .before .before .before .before .before .before .before .before .before .before .if1) .left)) ((c .before .before .before .before .before .before .before .before .left-load) .ensures) ((c .before .before .before .before .before .before .before .load-fits) .ensures) ((c .before .before .before .before .before .before .if2) .left) ((c .before .before .before .before .if3) .left) ((c .before .before .apply-all) .ensures)
 
 pub rollback-all-spec : {M : Type 1} → statement M
 rollback-all-spec =
     tie.close
     (tie.spec
-    key-cuts-requires
     look-all-requires
     find-rows-requires
     check-all-requires

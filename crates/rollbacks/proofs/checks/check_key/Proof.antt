@@ -1,7 +1,7 @@
--- `rollbacks::checks::check_key` meets its contract: each way out of the steps of a key, and what it would add and free (`SeenLaws`).
+-- `rollbacks::checks::check_key` meets its contract: each way out of the steps of a key (`SeenLaws`).
 -- Assumes nothing.
 use Rattle.calls.proofs.SettledLaws.{is-accepted, is-refusal}
-use Rattle.rollbacks.proofs.SeenLaws.{bad-key, records-out, step-out, step-asks, key-seen}
+use Rattle.rollbacks.proofs.SeenLaws.{bad-key, records-out, step-asks, key-seen}
 use borrow.Author.Needs.{needs}
 use Rattle.rollbacks.proofs.checks.check_key.Statement.{statement}
 use Rattle.rollbacks.proofs.checks.check_key.Tie as tie
@@ -25,22 +25,10 @@ returns-2 : tie.Need-returns-2
 returns-2 c = let a = (c .before .before .before .before .before .before .before .before .args) in records-out (a .txn) (a .start) (a .area .now) (a .key .now) (a .found) (a .stored) ((c .before .before .before .before .before .key-in-form) .ensures) ((c .before .before .before .before .if1) .left) (is-refusal _ ((c .before .before .accepted) .ensures) ((c .before .if2) .taken)) ((c .refusal2) .ensures)
 
 check-at-requires : tie.Need-check-at-requires
-check-at-requires c κs = (c .before .before .before .before .before .before .before .pre) .met .row .within
-
-accepted-requires-2 : tie.Need-accepted-requires-2
-accepted-requires-2 c κs = search needs
-
-refusal-requires-3 : tie.Need-refusal-requires-3
-refusal-requires-3 c κs = search needs
+check-at-requires c κs = let a = (c .before .before .before .before .before .before .before .args) in step-asks (a .txn) (a .start) (a .area .now) (a .key .now) (a .found) (a .stored) ((c .before .before .before .before .key-in-form) .ensures) ((c .before .before .before .if1) .left) (c .before .before .before .before .before .before .before .pre)
 
 returns-3 : tie.Need-returns-3
-returns-3 c = let a = (c .before .before .before .before .before .before .before .before .before .before .before .args) in step-out (a .txn) (a .start) (a .area .now) (a .key .now) (a .found) (a .stored) ((c .before .before .before .before .before .before .before .before .key-in-form) .ensures) ((c .before .before .before .before .before .before .before .if1) .left) (is-accepted _ ((c .before .before .before .before .before .accepted) .ensures) ((c .before .before .before .before .if2) .left)) ((c .before .before .before .check-at) .ensures) (is-refusal _ ((c .before .before .accepted2) .ensures) ((c .before .if3) .taken)) ((c .refusal3) .ensures)
-
-weight-of-requires : tie.Need-weight-of-requires
-weight-of-requires c κs = let a = (c .before .before .before .before .before .before .before .before .before .before .args) in step-asks (a .txn) (a .start) (a .area .now) (a .key .now) (a .found) (a .stored) ((c .before .before .before .before .before .before .before .key-in-form) .ensures) ((c .before .before .before .before .before .before .if1) .left) (is-accepted _ ((c .before .before .before .before .accepted) .ensures) ((c .before .before .before .if2) .left)) ((c .before .before .check-at) .ensures) (is-accepted _ ((c .before .accepted2) .ensures) ((c .if3) .left)) (c .before .before .before .before .before .before .before .before .before .before .pre)
-
-returns-4 : tie.Need-returns-4
-returns-4 c = let a = (c .before .before .before .before .before .before .before .before .before .before .before .args) in key-seen (a .txn) (a .start) (a .area .now) (a .key .now) (a .found) (a .stored) ((c .before .before .before .before .before .before .before .before .key-in-form) .ensures) ((c .before .before .before .before .before .before .before .if1) .left) (is-accepted _ ((c .before .before .before .before .before .accepted) .ensures) ((c .before .before .before .before .if2) .left)) ((c .before .before .before .check-at) .ensures) (is-accepted _ ((c .before .before .accepted2) .ensures) ((c .before .if3) .left)) ((c .weight-of) .ensures)
+returns-3 c = let a = (c .before .before .before .before .before .before .before .before .args) in key-seen (a .txn) (a .start) (a .area .now) (a .key .now) (a .found) (a .stored) ((c .before .before .before .before .before .key-in-form) .ensures) ((c .before .before .before .before .if1) .left) (is-accepted _ ((c .before .before .accepted) .ensures) ((c .before .if2) .left)) ((c .check-at) .ensures)
 
 pub check-key-spec : {M : Type 1} → statement M
 check-key-spec =
@@ -53,8 +41,4 @@ check-key-spec =
     refusal-requires-2
     returns-2
     check-at-requires
-    accepted-requires-2
-    refusal-requires-3
-    returns-3
-    weight-of-requires
-    returns-4)
+    returns-3)

@@ -1,93 +1,79 @@
-use native.Mathlib.Nat.{add-sub-cancel-left}
-use Rattle.rollbacks.proofs.PlanWalk.{Planning, planning-start, planning-in, planning-asks, planning-more, planning-end}
-use borrow.Author.Needs.{needs}
+-- `rollbacks::plans::plan_all` meets its contract. The loop's invariant: the keys from the index on are still to be planned (`PlanWalk`).
+-- Assumes nothing.
+use Prim.Native.Nat.{_-_}
 use native.Mathlib.Omega.{arith}
-use Prim.Native.Nat.{ℕ, suc, _+_, _-_, _*_, _<_, _≤_}
-use mathlib.Core.Path.{_≡_, refl, sym, ap, _∙_}
-use lib.ListN.{length, getD, take, drop, set, length-set}
+use mathlib.Core.Path.{refl, sym, _∙_}
+use Rattle.rollbacks.proofs.SeenLaws.{key-part}
+use Rattle.rollbacks.proofs.PlanWalk.{Planning, planning-start, planning-small, planning-in, planning-asks, planning-more, planning-end}
+use borrow.Author.Needs.{needs}
 use Rattle.rollbacks.proofs.plans.plan_all.Statement.{statement}
 use Rattle.rollbacks.proofs.plans.plan_all.Tie as tie
-use Rattle.rollbacks.proofs.plans.plan_all.Reads as reads
-use Rattle.rollbacks.proofs.plans.plan_all.Lts as lts
-use Rattle.forms.proofs.part_at.Reads as part-at-reads
-use Rattle.rollbacks.proofs.plans.no_line.Reads as no-line-reads
-use Rattle.rollbacks.proofs.plans.no_row.Reads as no-row-reads
-use Rattle.rollbacks.proofs.plans.plan_key.Reads as plan-key-reads
 
 abbrev Inv-loop : tie.InvT-loop
-Inv-loop area₀ top start batch founds rows ls₀ rs₀ end₀ at₀ left₀ i₀ area ls rs end at left i = Planning start area₀ top batch (record { at = at₀; left = left₀ }) founds rows area ls rs end at left i
+Inv-loop area₀ top start batch n list founds rows ls₀ rs₀ end₀ i₀ area ls rs end i = Planning start area₀ top batch n list founds rows area ls rs end i
 
 abbrev μ-loop : tie.MeasureT-loop
-μ-loop area₀ top start batch founds rows ls₀ rs₀ end₀ at₀ left₀ i₀ area ls rs end at left i = left
+μ-loop area₀ top start batch n list founds rows ls₀ rs₀ end₀ i₀ area ls rs end i = n - i
 
-no-line-requires : tie.Need-no-line-requires Inv-loop μ-loop
-no-line-requires c κs = search needs
+line-stays-requires : tie.Need-line-stays-requires Inv-loop μ-loop
+line-stays-requires c κs = search needs
 
-no-row-requires : tie.Need-no-row-requires Inv-loop μ-loop
-no-row-requires c κs = search needs
+row-stays-requires : tie.Need-row-stays-requires Inv-loop μ-loop
+row-stays-requires c κs = search needs
 
 loop-holds : tie.Need-loop-holds Inv-loop μ-loop
-loop-holds c = planning-start (c .before .before .before .before .pre) ((c .before .before .before .before .args) .start) _ refl refl
+loop-holds c = planning-start (c .before .before .before .before .pre) refl refl
 
-part-at-requires : tie.Need-part-at-requires Inv-loop μ-loop
-part-at-requires c κs = search needs
+mul-e : tie.Need-mul-e Inv-loop μ-loop
+mul-e c = search needs
 
-add-ke : tie.Need-add-ke Inv-loop μ-loop
-add-ke c = search needs
+array-copy-out-e : tie.Need-array-copy-out-e Inv-loop μ-loop
+array-copy-out-e c = planning-small ((c .before .loop) .inv) ((c .loop-test) .taken)
 
-mul-found : tie.Need-mul-found Inv-loop μ-loop
-mul-found c = omega (arith, planning-in (c .before .before .before .before .before .before .before .before .pre) ((c .before .before .before .before .before .before .before .before .args) .start) _ ((c .before .before .before .loop) .inv) ((c .before .before .loop-test) .taken))
+part-requires : tie.Need-part-requires Inv-loop μ-loop
+part-requires c κs = search needs
 
-array-copy-out-found : tie.Need-array-copy-out-found Inv-loop μ-loop
-array-copy-out-found c = planning-in (c .before .before .before .before .before .before .before .before .pre) ((c .before .before .before .before .before .before .before .before .args) .start) _ ((c .before .before .before .loop) .inv) ((c .before .before .loop-test) .taken)
+mul-plan-key : tie.Need-mul-plan-key Inv-loop μ-loop
+mul-plan-key c = search needs
 
-mul-stored : tie.Need-mul-stored Inv-loop μ-loop
-mul-stored c = omega (arith, planning-in (c .before .before .before .before .before .before .before .before .before .pre) ((c .before .before .before .before .before .before .before .before .before .args) .start) _ ((c .before .before .before .before .loop) .inv) ((c .before .before .before .loop-test) .taken))
+array-copy-out-plan-key : tie.Need-array-copy-out-plan-key Inv-loop μ-loop
+array-copy-out-plan-key c = planning-small ((c .before .before .before .before .loop) .inv) ((c .before .before .before .loop-test) .taken)
 
-array-copy-out-stored : tie.Need-array-copy-out-stored Inv-loop μ-loop
-array-copy-out-stored c = planning-in (c .before .before .before .before .before .before .before .before .before .pre) ((c .before .before .before .before .before .before .before .before .before .args) .start) _ ((c .before .before .before .before .loop) .inv) ((c .before .before .before .loop-test) .taken)
+mul-plan-key-2 : tie.Need-mul-plan-key-2 Inv-loop μ-loop
+mul-plan-key-2 c = search needs
 
-sub-plan-key : tie.Need-sub-plan-key Inv-loop μ-loop
-sub-plan-key c = search needs
-
-part-plan-key-start : tie.Need-part-plan-key-start Inv-loop μ-loop
-part-plan-key-start c = search needs
-
-part-plan-key-end : tie.Need-part-plan-key-end Inv-loop μ-loop
-part-plan-key-end c = search needs
+array-copy-out-plan-key-2 : tie.Need-array-copy-out-plan-key-2 Inv-loop μ-loop
+array-copy-out-plan-key-2 c = planning-small ((c .before .before .before .before .before .loop) .inv) ((c .before .before .before .before .loop-test) .taken)
 
 plan-key-requires : tie.Need-plan-key-requires Inv-loop μ-loop
-plan-key-requires c κs = simp add-sub-cancel-left (planning-asks (c .before .before .before .before .before .before .before .before .before .before .before .before .pre) ((c .before .before .before .before .before .before .before .before .before .before .before .before .args) .start) _ ((c .before .before .before .before .before .before .before .loop) .inv) ((c .before .before .before .before .before .part-at) .ensures) ((c .before .before .before .before .before .before .loop-test) .taken))
+plan-key-requires c κs = rw ((c .before .before .before .part) .ensures ∙ key-part (planning-in ((c .before .before .before .before .before .before .loop) .inv) ((c .before .before .before .before .before .loop-test) .taken))) (planning-asks ((c .before .before .before .before .before .before .loop) .inv) ((c .before .before .before .before .before .loop-test) .taken))
 
 mul-ls : tie.Need-mul-ls Inv-loop μ-loop
-mul-ls c = omega (arith, planning-in (c .before .before .before .before .before .before .before .before .before .before .before .before .before .before .before .before .pre) ((c .before .before .before .before .before .before .before .before .before .before .before .before .before .before .before .before .args) .start) _ ((c .before .before .before .before .before .before .before .before .before .before .before .loop) .inv) ((c .before .before .before .before .before .before .before .before .before .before .loop-test) .taken))
+mul-ls c = search needs
 
 array-set-from-ls : tie.Need-array-set-from-ls Inv-loop μ-loop
-array-set-from-ls c = planning-in (c .before .before .before .before .before .before .before .before .before .before .before .before .before .before .before .before .pre) ((c .before .before .before .before .before .before .before .before .before .before .before .before .before .before .before .before .args) .start) _ ((c .before .before .before .before .before .before .before .before .before .before .before .loop) .inv) ((c .before .before .before .before .before .before .before .before .before .before .loop-test) .taken)
+array-set-from-ls c = planning-small ((c .before .before .before .before .before .before .before .before .before .before .loop) .inv) ((c .before .before .before .before .before .before .before .before .before .loop-test) .taken)
 
 mul-rs : tie.Need-mul-rs Inv-loop μ-loop
-mul-rs c = omega (arith, planning-in (c .before .before .before .before .before .before .before .before .before .before .before .before .before .before .before .before .before .pre) ((c .before .before .before .before .before .before .before .before .before .before .before .before .before .before .before .before .before .args) .start) _ ((c .before .before .before .before .before .before .before .before .before .before .before .before .loop) .inv) ((c .before .before .before .before .before .before .before .before .before .before .before .loop-test) .taken))
+mul-rs c = search needs
 
 array-set-from-rs : tie.Need-array-set-from-rs Inv-loop μ-loop
-array-set-from-rs c = planning-in (c .before .before .before .before .before .before .before .before .before .before .before .before .before .before .before .before .before .pre) ((c .before .before .before .before .before .before .before .before .before .before .before .before .before .before .before .before .before .args) .start) _ ((c .before .before .before .before .before .before .before .before .before .before .before .before .loop) .inv) ((c .before .before .before .before .before .before .before .before .before .before .before .loop-test) .taken)
-
-sub-left : tie.Need-sub-left Inv-loop μ-loop
-sub-left c = search needs
+array-set-from-rs c = planning-small ((c .before .before .before .before .before .before .before .before .before .before .before .loop) .inv) ((c .before .before .before .before .before .before .before .before .before .before .loop-test) .taken)
 
 add-i : tie.Need-add-i Inv-loop μ-loop
-add-i c = omega (arith, planning-in (c .before .before .before .before .before .before .before .before .before .before .before .before .before .before .before .before .before .pre) ((c .before .before .before .before .before .before .before .before .before .before .before .before .before .before .before .before .before .args) .start) _ ((c .before .before .before .before .before .before .before .before .before .before .before .before .loop) .inv) ((c .before .before .before .before .before .before .before .before .before .before .before .loop-test) .taken))
+add-i c = omega (arith, planning-small ((c .before .before .before .before .before .before .before .before .before .before .before .loop) .inv) ((c .before .before .before .before .before .before .before .before .before .before .loop-test) .taken))
 
 loop-less : tie.Need-loop-less Inv-loop μ-loop
 loop-less c = search needs
 
 loop-again : tie.Need-loop-again Inv-loop μ-loop
-loop-again c = planning-more (c .before .before .before .before .before .before .before .before .before .before .before .before .before .before .before .before .before .pre) ((c .before .before .before .before .before .before .before .before .before .before .before .before .before .before .before .before .before .args) .start) _ ((c .before .before .before .before .before .before .before .before .before .before .before .before .loop) .inv) ((c .before .before .before .before .before .before .before .before .before .before .part-at) .ensures) ((c .before .before .before .before .before .before .before .before .before .before .before .loop-test) .taken) (simp add-sub-cancel-left at ((c .before .before .before .before .plan-key) .ensures))
+loop-again c = planning-more ((c .before .before .before .before .before .before .before .before .before .before .before .loop) .inv) ((c .before .before .before .before .before .before .before .before .before .before .loop-test) .taken) (rw ((c .before .before .before .before .before .before .before .before .part) .ensures ∙ key-part (planning-in ((c .before .before .before .before .before .before .before .before .before .before .before .loop) .inv) ((c .before .before .before .before .before .before .before .before .before .before .loop-test) .taken))) at ((c .before .before .before .before .plan-key) .ensures))
 
 same-length : tie.Need-same-length Inv-loop μ-loop
 same-length c = search needs
 
 returns : tie.Need-returns Inv-loop μ-loop
-returns c = planning-end (c .before .before .before .before .before .before .pre) ((c .before .before .before .before .before .before .args) .start) _ ((c .before .loop) .inv) ((c .loop-test) .left)
+returns c = planning-end ((c .before .loop) .inv) ((c .loop-test) .left)
 
 pub plan-all-spec : {M : Type 1} → statement M
 plan-all-spec =
@@ -95,24 +81,21 @@ plan-all-spec =
     (tie.spec
     Inv-loop
     μ-loop
-    no-line-requires
-    no-row-requires
+    line-stays-requires
+    row-stays-requires
     loop-holds
-    part-at-requires
-    add-ke
-    mul-found
-    array-copy-out-found
-    mul-stored
-    array-copy-out-stored
-    sub-plan-key
-    part-plan-key-start
-    part-plan-key-end
+    mul-e
+    array-copy-out-e
+    part-requires
+    mul-plan-key
+    array-copy-out-plan-key
+    mul-plan-key-2
+    array-copy-out-plan-key-2
     plan-key-requires
     mul-ls
     array-set-from-ls
     mul-rs
     array-set-from-rs
-    sub-left
     add-i
     loop-less
     loop-again

@@ -1,63 +1,55 @@
+-- `stepchecks::applied::tally_all` meets its contract. The loop's invariant: what is counted, and what is left to count (`TallyLaws`).
+-- Assumes nothing.
+use Rattle.calls.specs.Walks.{endingOf}
+use Rattle.calls.proofs.PassLaws.{pass-small, pass-in, pass-met}
+use Rattle.stepchecks.proofs.TallyLaws.{Tallying, tallying-start, tallying-more, tallying-end}
 use native.Mathlib.Nat.{add-sub-cancel-left}
-use Rattle.stepchecks.specs.Checks.{endingOf}
-use Rattle.stepchecks.proofs.TallyLaws.{Tallying, tallying-start, tallying-at, tallying-in, tallying-more, tallying-end}
 use borrow.Author.Needs.{needs}
-use native.Mathlib.Omega.{arith}
-use Prim.Native.Nat.{ℕ, suc, _+_, _-_, _*_, _<_, _≤_}
-use mathlib.Core.Path.{_≡_, refl, sym, ap, _∙_}
-use lib.ListN.{length, getD, take, drop, set, length-set}
+use Prim.Native.Nat.{_-_}
 use Rattle.stepchecks.proofs.applied.tally_all.Statement.{statement}
 use Rattle.stepchecks.proofs.applied.tally_all.Tie as tie
-use Rattle.stepchecks.proofs.applied.tally_all.Reads as reads
-use Rattle.stepchecks.proofs.applied.tally_all.Lts as lts
-use Rattle.forms.proofs.entry_at.Reads as entry-at-reads
-use Rattle.stepchecks.proofs.applied.entry_applied.Reads as entry-applied-reads
-use Rattle.stepchecks.proofs.applied.one_more.Reads as one-more-reads
 
 abbrev Inv-loop : tie.InvT-loop
-Inv-loop area terms batch founds rows tally₀ at₀ left₀ i₀ tally at left i = Tallying area (endingOf terms) batch (record { at = at₀; left = left₀ }) at left i tally founds rows
+Inv-loop area terms batch n list founds rows tally₀ i₀ tally i = Tallying area (endingOf terms) batch n list founds rows i tally
 
 abbrev μ-loop : tie.MeasureT-loop
-μ-loop area terms batch founds rows tally₀ at₀ left₀ i₀ tally at left i = left
+μ-loop area terms batch n list founds rows tally₀ i₀ tally i = n - i
 
 loop-holds : tie.Need-loop-holds Inv-loop μ-loop
-loop-holds c = tallying-start (endingOf ((c .before .before .args) .terms)) ((c .before .before .args) .first) ((c .before .before .pre))
+loop-holds c = tallying-start (endingOf ((c .before .before .args) .terms)) (c .before .before .pre)
 
-entry-at-requires : tie.Need-entry-at-requires Inv-loop μ-loop
-entry-at-requires c κs = search needs
+mul-e : tie.Need-mul-e Inv-loop μ-loop
+mul-e c = search needs
+
+array-copy-out-e : tie.Need-array-copy-out-e Inv-loop μ-loop
+array-copy-out-e c = pass-small ((c .before .loop) .inv) ((c .loop-test) .taken)
 
 add-re : tie.Need-add-re Inv-loop μ-loop
-add-re c = omega (arith, (c .before .entry-at) .ensures .row-in, (c .before .before .before .before .before .before .good))
-
-mul-found : tie.Need-mul-found Inv-loop μ-loop
-mul-found c = omega (arith, tallying-in ((c .before .before .before .loop) .inv) ((c .before .before .loop-test) .taken))
-
-array-copy-out-found : tie.Need-array-copy-out-found Inv-loop μ-loop
-array-copy-out-found c = tallying-in ((c .before .before .before .loop) .inv) ((c .before .before .loop-test) .taken)
+add-re c = let w = pass-in ((c .before .before .before .loop) .inv) ((c .before .before .loop-test) .taken) in search needs
 
 mul-stored : tie.Need-mul-stored Inv-loop μ-loop
-mul-stored c = omega (arith, tallying-in ((c .before .before .before .before .before .loop) .inv) ((c .before .before .before .before .loop-test) .taken))
+mul-stored c = search needs
 
 array-copy-out-stored : tie.Need-array-copy-out-stored Inv-loop μ-loop
-array-copy-out-stored c = tallying-in ((c .before .before .before .before .before .loop) .inv) ((c .before .before .before .before .loop-test) .taken)
+array-copy-out-stored c = pass-small ((c .before .before .before .loop) .inv) ((c .before .before .loop-test) .taken)
 
-sub-entry-applied : tie.Need-sub-entry-applied Inv-loop μ-loop
-sub-entry-applied c = search needs
+mul-found : tie.Need-mul-found Inv-loop μ-loop
+mul-found c = search needs
 
-part-entry-applied-start : tie.Need-part-entry-applied-start Inv-loop μ-loop
-part-entry-applied-start c = search needs
+array-copy-out-found : tie.Need-array-copy-out-found Inv-loop μ-loop
+array-copy-out-found c = pass-small ((c .before .before .before .before .loop) .inv) ((c .before .before .before .loop-test) .taken)
 
-part-entry-applied-end : tie.Need-part-entry-applied-end Inv-loop μ-loop
-part-entry-applied-end c = search needs
+sub-tally-entry : tie.Need-sub-tally-entry Inv-loop μ-loop
+sub-tally-entry c = search needs
 
-entry-applied-requires : tie.Need-entry-applied-requires Inv-loop μ-loop
-entry-applied-requires c κs = (c .before .before .before .before .before .before .before .before .before .before .pre) .within ((c .before .before .before .before .before .before .before .loop) .i) (tallying-at ((c .before .before .before .before .before .before .before .loop) .inv) ((c .before .before .before .before .before .before .loop-test) .taken))
+part-tally-entry-start : tie.Need-part-tally-entry-start Inv-loop μ-loop
+part-tally-entry-start c = search needs
 
-one-more-requires : tie.Need-one-more-requires Inv-loop μ-loop
-one-more-requires c κs = search needs
+part-tally-entry-end : tie.Need-part-tally-entry-end Inv-loop μ-loop
+part-tally-entry-end c = let w = pass-in ((c .before .before .before .before .before .before .loop) .inv) ((c .before .before .before .before .before .loop-test) .taken) in search needs
 
-sub-left : tie.Need-sub-left Inv-loop μ-loop
-sub-left c = search needs
+tally-entry-requires : tie.Need-tally-entry-requires Inv-loop μ-loop
+tally-entry-requires c κs = pass-met ((c .before .before .before .before .before .before .before .loop) .inv) ((c .before .before .before .before .before .before .loop-test) .taken) .row .within
 
 add-i : tie.Need-add-i Inv-loop μ-loop
 add-i c = search needs
@@ -66,10 +58,10 @@ loop-less : tie.Need-loop-less Inv-loop μ-loop
 loop-less c = search needs
 
 loop-again : tie.Need-loop-again Inv-loop μ-loop
-loop-again c = tallying-more ((c .before .before .before .before .before .before .before .before .before .loop) .inv) ((c .before .before .before .before .before .before .before .entry-at) .ensures) ((c .before .before .before .before .before .before .before .before .loop-test) .taken) ((c .before .entry-applied) .result) (simp add-sub-cancel-left at ((c .before .entry-applied) .ensures)) ((c .one-more) .ensures)
+loop-again c = tallying-more _ ((c .before .before .before .before .before .before .before .before .loop) .inv) ((c .before .before .before .before .before .before .before .loop-test) .taken) (simp add-sub-cancel-left at ((c .tally-entry) .ensures))
 
 returns : tie.Need-returns Inv-loop μ-loop
-returns c = tallying-end ((c .before .loop) .inv) ((c .loop-test) .left)
+returns c = tallying-end _ ((c .before .loop) .inv) ((c .loop-test) .left)
 
 pub tally-all-spec : {M : Type 1} → statement M
 tally-all-spec =
@@ -78,18 +70,17 @@ tally-all-spec =
     Inv-loop
     μ-loop
     loop-holds
-    entry-at-requires
+    mul-e
+    array-copy-out-e
     add-re
-    mul-found
-    array-copy-out-found
     mul-stored
     array-copy-out-stored
-    sub-entry-applied
-    part-entry-applied-start
-    part-entry-applied-end
-    entry-applied-requires
-    one-more-requires
-    sub-left
+    mul-found
+    array-copy-out-found
+    sub-tally-entry
+    part-tally-entry-start
+    part-tally-entry-end
+    tally-entry-requires
     add-i
     loop-less
     loop-again

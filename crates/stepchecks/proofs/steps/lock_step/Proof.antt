@@ -1,19 +1,10 @@
-use Rattle.stepchecks.specs.Checks.{endingOf}
+-- `stepchecks::steps::lock_step` meets its contract: each way out is a step on the lock (`StepLaws`).
+-- Assumes nothing.
+use Rattle.calls.specs.Walks.{endingOf}
 use Rattle.stepchecks.proofs.StepLaws.{lock-free, lock-another, lock-kind, lock-own}
-use borrow.Author.Needs.{needs}
-use native.Mathlib.Omega.{arith}
-use Prim.Native.Nat.{ℕ, suc, _+_, _-_, _*_, _<_, _≤_}
-use mathlib.Core.Path.{_≡_, refl, sym, ap, _∙_}
-use lib.ListN.{length, getD, take, drop, set, length-set}
 use borrow.Author.Needs.{needs}
 use Rattle.stepchecks.proofs.steps.lock_step.Statement.{statement}
 use Rattle.stepchecks.proofs.steps.lock_step.Tie as tie
-use Rattle.stepchecks.proofs.steps.lock_step.Reads as reads
-use Rattle.stepchecks.proofs.steps.lock_step.Lts as lts
-use Rattle.calls.proofs.held_by.Reads as held-by-reads
-use Rattle.calls.proofs.kind_for.Reads as kind-for-reads
-use Rattle.calls.proofs.owns.Reads as owns-reads
-use Rattle.calls.proofs.same_kind.Reads as same-kind-reads
 
 enum-told : tie.Need-enum-told
 enum-told c = search needs

@@ -1,30 +1,31 @@
-use Rattle.stepchecks.proofs.WeightLaws.{frees-sum, frees-are}
-use borrow.Author.Needs.{needs}
-use native.Mathlib.Omega.{arith}
-use Prim.Native.Nat.{ℕ, suc, _+_, _-_, _*_, _<_, _≤_}
-use mathlib.Core.Path.{_≡_, refl, sym, ap, _∙_}
-use lib.ListN.{length, getD, take, drop, set, length-set}
+-- `stepchecks::weights::entry_frees` meets its contract: the lock goes, and the row that a Put replaces (`WeightLaws`).
+-- Assumes nothing.
+use Rattle.stepchecks.proofs.WeightLaws.{lock-alone, row-too}
 use borrow.Author.Needs.{needs}
 use Rattle.stepchecks.proofs.weights.entry_frees.Statement.{statement}
 use Rattle.stepchecks.proofs.weights.entry_frees.Tie as tie
-use Rattle.stepchecks.proofs.weights.entry_frees.Reads as reads
-use Rattle.stepchecks.proofs.weights.entry_frees.Lts as lts
-use Rattle.calls.proofs.lock_frees.Reads as lock-frees-reads
-use Rattle.stepchecks.proofs.weights.row_replaced.Reads as row-replaced-reads
-use Rattle.stepchecks.proofs.weights.sum_freed.Reads as sum-freed-reads
 
 lock-frees-requires : tie.Need-lock-frees-requires
 lock-frees-requires c κs = search needs
 
-row-replaced-requires : tie.Need-row-replaced-requires
-row-replaced-requires c κs = search needs
-
-sum-freed-requires : tie.Need-sum-freed-requires
-sum-freed-requires c κs = frees-sum ((c .before .lock-frees) .ensures) ((c .row-replaced) .ensures)
+both-requires : tie.Need-both-requires
+both-requires c κs = search needs
 
 returns : tie.Need-returns
-returns c = frees-are ((c .before .before .lock-frees) .ensures) ((c .before .row-replaced) .ensures) ((c .sum-freed) .ensures)
+returns c = lock-alone ((c .before .before .lock-frees) .ensures) ((c .before .both) .ensures) ((c .if1) .taken)
+
+add-t8 : tie.Need-add-t8
+add-t8 c = search needs
+
+add-t10 : tie.Need-add-t10
+add-t10 c = search needs
+
+add-t11 : tie.Need-add-t11
+add-t11 c = search needs
+
+returns-2 : tie.Need-returns-2
+returns-2 c = row-too ((c .before .before .before .before .before .lock-frees) .ensures) ((c .before .before .before .before .both) .ensures) (c .before .before .before .before .before .before .before .pre) ((c .before .before .before .if1) .left)
 
 pub entry-frees-spec : {M : Type 1} → statement M
 entry-frees-spec =
-    tie.close (tie.spec lock-frees-requires row-replaced-requires sum-freed-requires returns)
+    tie.close (tie.spec lock-frees-requires both-requires returns add-t8 add-t10 add-t11 returns-2)

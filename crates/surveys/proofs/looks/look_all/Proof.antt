@@ -4,10 +4,11 @@
 -- Assumes nothing.
 use mathlib.Core.Logic.{⊎-elim}
 use native.Mathlib.Nat.{add-sub-cancel-left}
+use Rattle.seqs.proofs.Tables.{table-at}
 use Rattle.laws.proofs.ChainLaws.{denied, granted}
 use Rattle.lines.proofs.FindLaws.{Finding, slot-key, finding-more}
 use Rattle.lines.proofs.LookLaws.{looking-other, looking-end}
-use Rattle.surveys.proofs.AscendLaws.{keyAt}
+use Rattle.surveys.proofs.AscendLaws.{nameAt}
 use Rattle.surveys.proofs.WalkLaws.{Surveying, Meeting, surveying-start, surveying-more, surveying-end, meeting-here, meeting-none, meeting-own}
 use borrow.Author.Needs.{needs}
 use Prim.Native.Nat.{_-_}
@@ -16,22 +17,22 @@ use Rattle.surveys.proofs.looks.look_all.Statement.{statement}
 use Rattle.surveys.proofs.looks.look_all.Tie as tie
 
 abbrev Inv-loop2 : tie.InvT-loop2
-Inv-loop2 area batch n start stamp cuts lines count founds i₀ j at e i = Finding area (keyAt batch cuts j) lines count i
+Inv-loop2 area batch n start stamp list lines count founds i₀ j at e i = Finding area (nameAt batch list j) lines count i
 
 abbrev μ-loop2 : tie.MeasureT-loop2
-μ-loop2 area batch n start stamp cuts lines count founds i₀ j at e i = count - i
+μ-loop2 area batch n start stamp list lines count founds i₀ j at e i = count - i
 
 abbrev Inv-loop3 : tie.InvT-loop3
-Inv-loop3 area batch n start stamp cuts lines count founds i₀ j at e seen₀ i seen = Meeting area (keyAt batch cuts j) start stamp lines count i seen
+Inv-loop3 area batch n start stamp list lines count founds i₀ j at e seen₀ i seen = Meeting area (nameAt batch list j) start stamp lines count i seen
 
 abbrev μ-loop3 : tie.MeasureT-loop3
-μ-loop3 area batch n start stamp cuts lines count founds i₀ j at e seen₀ i seen = count - i
+μ-loop3 area batch n start stamp list lines count founds i₀ j at e seen₀ i seen = count - i
 
 abbrev Inv-loop : tie.InvT-loop
-Inv-loop area batch n start stamp cuts lines count founds₀ i₀ j₀ founds i j = Surveying area batch start stamp n cuts lines count founds i j
+Inv-loop area batch n start stamp list lines count founds₀ i₀ j₀ founds i j = Surveying area batch start stamp n list lines count founds i j
 
 abbrev μ-loop : tie.MeasureT-loop
-μ-loop area batch n start stamp cuts lines count founds₀ i₀ j₀ founds i j = n - j
+μ-loop area batch n start stamp list lines count founds₀ i₀ j₀ founds i j = n - j
 
 unseen-requires : tie.Need-unseen-requires Inv-loop2 μ-loop2 Inv-loop3 μ-loop3 Inv-loop μ-loop
 unseen-requires c κs = search needs
@@ -39,14 +40,14 @@ unseen-requires c κs = search needs
 loop-holds : tie.Need-loop-holds Inv-loop2 μ-loop2 Inv-loop3 μ-loop3 Inv-loop μ-loop
 loop-holds c = surveying-start ((c .before .before .before .before .before .pre) .0) _ _ _ _ _ refl
 
-mul-cut : tie.Need-mul-cut Inv-loop2 μ-loop2 Inv-loop3 μ-loop3 Inv-loop μ-loop
-mul-cut c = search needs
+mul-entry : tie.Need-mul-entry Inv-loop2 μ-loop2 Inv-loop3 μ-loop3 Inv-loop μ-loop
+mul-entry c = search needs
 
-array-copy-out-cut : tie.Need-array-copy-out-cut Inv-loop2 μ-loop2 Inv-loop3 μ-loop3 Inv-loop μ-loop
-array-copy-out-cut c = search needs
+array-copy-out-entry : tie.Need-array-copy-out-entry Inv-loop2 μ-loop2 Inv-loop3 μ-loop3 Inv-loop μ-loop
+array-copy-out-entry c = search needs
 
 add-e : tie.Need-add-e Inv-loop2 μ-loop2 Inv-loop3 μ-loop3 Inv-loop μ-loop
-add-e c = let w = (c .before .before .before .before .before .before .before .before .before .pre) .1 .within ((c .before .before .before .loop) .j) ((c .before .before .loop-test) .taken) in search needs
+add-e c = let w = table-at ((c .before .before .before .before .before .before .before .before .before .pre) .1 .listed) ((c .before .before .before .loop) .j) ((c .before .before .loop-test) .taken) .key-in in search needs
 
 loop2-holds : tie.Need-loop2-holds Inv-loop2 μ-loop2 Inv-loop3 μ-loop3 Inv-loop μ-loop
 loop2-holds c = (c .before .before .before .loop) .inv .next ((c .before .before .loop-test) .taken)
@@ -64,7 +65,7 @@ part-slot-below-start : tie.Need-part-slot-below-start Inv-loop2 μ-loop2 Inv-lo
 part-slot-below-start c = search needs
 
 part-slot-below-end : tie.Need-part-slot-below-end Inv-loop2 μ-loop2 Inv-loop3 μ-loop3 Inv-loop μ-loop
-part-slot-below-end c = let w = (c .before .before .before .before .before .before .before .before .before .before .before .before .pre) .1 .within ((c .before .before .before .before .before .before .loop) .j) ((c .before .before .before .before .before .loop-test) .taken) in search needs
+part-slot-below-end c = let w = table-at ((c .before .before .before .before .before .before .before .before .before .before .before .before .pre) .1 .listed) ((c .before .before .before .before .before .before .loop) .j) ((c .before .before .before .before .before .loop-test) .taken) .key-in in search needs
 
 slot-below-requires : tie.Need-slot-below-requires Inv-loop2 μ-loop2 Inv-loop3 μ-loop3 Inv-loop μ-loop
 slot-below-requires c κs = slot-key ((c .before .before .before .before .before .before .before .before .before .before .before .before .before .pre) .0) ((c .before .before .before .loop2) .i) ((c .before .before .loop2-test) .taken)
@@ -97,7 +98,7 @@ part-slot-has-start : tie.Need-part-slot-has-start Inv-loop2 μ-loop2 Inv-loop3 
 part-slot-has-start c = search needs
 
 part-slot-has-end : tie.Need-part-slot-has-end Inv-loop2 μ-loop2 Inv-loop3 μ-loop3 Inv-loop μ-loop
-part-slot-has-end c = let w = (c .before .before .before .before .before .before .before .before .before .before .before .before .before .before .before .pre) .1 .within ((c .before .before .before .before .before .before .before .before .before .loop) .j) ((c .before .before .before .before .before .before .before .before .loop-test) .taken) in search needs
+part-slot-has-end c = let w = table-at ((c .before .before .before .before .before .before .before .before .before .before .before .before .before .before .before .pre) .1 .listed) ((c .before .before .before .before .before .before .before .before .before .loop) .j) ((c .before .before .before .before .before .before .before .before .loop-test) .taken) .key-in in search needs
 
 slot-has-requires : tie.Need-slot-has-requires Inv-loop2 μ-loop2 Inv-loop3 μ-loop3 Inv-loop μ-loop
 slot-has-requires c κs = slot-key ((c .before .before .before .before .before .before .before .before .before .before .before .before .before .before .before .before .pre) .0) ((c .before .before .before .loop3) .i) ((c .before .before .loop3-test) .taken)
@@ -144,8 +145,8 @@ look-all-spec =
     μ-loop
     unseen-requires
     loop-holds
-    mul-cut
-    array-copy-out-cut
+    mul-entry
+    array-copy-out-entry
     add-e
     loop2-holds
     mul-s

@@ -2,6 +2,7 @@
 -- (`Turning` of `RowLaws`). The measure is what is left of the keys and of the defaults.
 -- Assumes nothing.
 use native.Mathlib.Nat.{add-sub-cancel-left}
+use Rattle.seqs.proofs.Tables.{table-at}
 use Rattle.laws.proofs.ChainLaws.{said-yes, said-no}
 use Rattle.lines.proofs.FindLaws.{held-key}
 use Rattle.surveys.proofs.RowLaws.{Turning, turning-start, turning-on, turning-past, turning-here, turning-end}
@@ -12,10 +13,10 @@ use Rattle.surveys.proofs.rows.find_rows.Statement.{statement}
 use Rattle.surveys.proofs.rows.find_rows.Tie as tie
 
 abbrev Inv-loop : tie.InvT-loop
-Inv-loop area batch n start cuts defaults count rows₀ i₀ j₀ rows i j = Turning area batch start n cuts defaults count rows i j
+Inv-loop area batch n start list defaults count rows₀ i₀ j₀ rows i j = Turning area batch start n list defaults count rows i j
 
 abbrev μ-loop : tie.MeasureT-loop
-μ-loop area batch n start cuts defaults count rows₀ i₀ j₀ rows i j = (n - j) + (count - i)
+μ-loop area batch n start list defaults count rows₀ i₀ j₀ rows i j = (n - j) + (count - i)
 
 loop-holds : tie.Need-loop-holds Inv-loop μ-loop
 loop-holds c = turning-start ((c .before .before .before .before .pre) .0) _ _ _ _ refl
@@ -35,14 +36,14 @@ loop-less c = search needs
 loop-again : tie.Need-loop-again Inv-loop μ-loop
 loop-again c = turning-past ((c .before .before .before .before .before .before .before .pre) .0) _ _ _ _ ((c .before .before .loop) .inv) ((c .before .loop-test) .taken) ((c .before .before .before .before .before .before .before .pre) .1) ((c .if1) .taken)
 
-mul-cut : tie.Need-mul-cut Inv-loop μ-loop
-mul-cut c = search needs
+mul-entry : tie.Need-mul-entry Inv-loop μ-loop
+mul-entry c = search needs
 
-array-copy-out-cut : tie.Need-array-copy-out-cut Inv-loop μ-loop
-array-copy-out-cut c = search needs
+array-copy-out-entry : tie.Need-array-copy-out-entry Inv-loop μ-loop
+array-copy-out-entry c = search needs
 
 add-e : tie.Need-add-e Inv-loop μ-loop
-add-e c = let w = (c .before .before .before .before .before .before .before .before .before .pre) .1 .within ((c .before .before .before .before .loop) .j) ((c .before .before .before .loop-test) .taken) in search needs
+add-e c = let w = table-at ((c .before .before .before .before .before .before .before .before .before .pre) .1 .listed) ((c .before .before .before .before .loop) .j) ((c .before .before .before .loop-test) .taken) .key-in in search needs
 
 mul-d : tie.Need-mul-d Inv-loop μ-loop
 mul-d c = search needs
@@ -57,7 +58,7 @@ part-held-before-start : tie.Need-part-held-before-start Inv-loop μ-loop
 part-held-before-start c = search needs
 
 part-held-before-end : tie.Need-part-held-before-end Inv-loop μ-loop
-part-held-before-end c = let w = (c .before .before .before .before .before .before .before .before .before .before .pre) .1 .within ((c .before .before .before .before .before .loop) .j) ((c .before .before .before .before .loop-test) .taken) in search needs
+part-held-before-end c = let w = table-at ((c .before .before .before .before .before .before .before .before .before .before .pre) .1 .listed) ((c .before .before .before .before .before .loop) .j) ((c .before .before .before .before .loop-test) .taken) .key-in in search needs
 
 held-before-requires : tie.Need-held-before-requires Inv-loop μ-loop
 held-before-requires c κs = held-key ((c .before .before .before .before .before .before .before .before .before .before .before .pre) .0) ((c .before .before .before .before .before .before .loop) .i) ((c .before .before .before .before .if1) .left)
@@ -78,7 +79,7 @@ part-held-has-start : tie.Need-part-held-has-start Inv-loop μ-loop
 part-held-has-start c = search needs
 
 part-held-has-end : tie.Need-part-held-has-end Inv-loop μ-loop
-part-held-has-end c = let w = (c .before .before .before .before .before .before .before .before .before .before .before .before .before .pre) .1 .within ((c .before .before .before .before .before .before .before .before .loop) .j) ((c .before .before .before .before .before .before .before .loop-test) .taken) in search needs
+part-held-has-end c = let w = table-at ((c .before .before .before .before .before .before .before .before .before .before .before .before .before .pre) .1 .listed) ((c .before .before .before .before .before .before .before .before .loop) .j) ((c .before .before .before .before .before .before .before .loop-test) .taken) .key-in in search needs
 
 held-has-requires : tie.Need-held-has-requires Inv-loop μ-loop
 held-has-requires c κs = held-key ((c .before .before .before .before .before .before .before .before .before .before .before .before .before .before .pre) .0) ((c .before .before .before .before .before .before .before .before .before .loop) .i) ((c .before .before .before .before .before .before .before .if1) .left)
@@ -116,8 +117,8 @@ find-rows-spec =
     add-j
     loop-less
     loop-again
-    mul-cut
-    array-copy-out-cut
+    mul-entry
+    array-copy-out-entry
     add-e
     mul-d
     array-copy-out-d

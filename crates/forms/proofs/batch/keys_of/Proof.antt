@@ -1,0 +1,16 @@
+-- `forms::batch::keys_of` meets its contract: a key batch, decoded.
+-- Assumes nothing.
+use Rattle.forms.specs.Batch.{keys}
+use borrow.Author.Needs.{needs}
+use Rattle.forms.proofs.batch.keys_of.Statement.{statement}
+use Rattle.forms.proofs.batch.keys_of.Tie as tie
+
+decode-requires : tie.Need-decode-requires
+decode-requires c κs = search needs
+
+returns : tie.Need-returns
+unfolding keys
+returns c = (c .decode) .ensures
+
+pub keys-of-spec : {M : Type 1} → statement M
+keys-of-spec = tie.close (tie.spec decode-requires returns)

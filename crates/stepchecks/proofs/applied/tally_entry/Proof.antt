@@ -1,0 +1,51 @@
+-- `stepchecks::applied::tally_entry` meets its contract: each way out counts the entry as the definition does (`TallyLaws`).
+-- Assumes nothing.
+use Rattle.stepchecks.proofs.TallyLaws.{none-stands, other-start, other-kind, other-row, both-stand}
+use borrow.Author.Needs.{needs}
+use Rattle.stepchecks.proofs.applied.tally_entry.Statement.{statement}
+use Rattle.stepchecks.proofs.applied.tally_entry.Tie as tie
+
+enum-told : tie.Need-enum-told
+enum-told c = search needs
+
+enum-known-at : tie.Need-enum-known-at
+enum-known-at c = search needs
+
+returns : tie.Need-returns
+returns c = other-start ((c .before .before .before .before .before .before .before .args) .t) _ _ _ ((c .before .before .before .at) .given .1) ((c .if1) .taken)
+
+kind-for-requires : tie.Need-kind-for-requires
+kind-for-requires c κs = search needs
+
+same-kind-requires : tie.Need-same-kind-requires
+same-kind-requires c κs = search needs
+
+returns-2 : tie.Need-returns-2
+returns-2 c = other-kind ((c .before .before .before .before .before .before .before .before .before .before .args) .t) _ _ _ ((c .before .before .before .before .before .before .at) .given .1) ((c .before .before .before .if1) .left) ((c .before .before .kind-for) .ensures ((c .before .before .before .before .before .before .before .before .before .before .args) .row .now)) ((c .before .same-kind) .ensures) ((c .if2) .taken)
+
+row-stands-requires : tie.Need-row-stands-requires
+row-stands-requires c κs = search needs
+
+returns-3 : tie.Need-returns-3
+returns-3 c = other-row ((c .before .before .before .before .before .before .before .before .before .before .before .before .args) .t) _ _ _ ((c .before .before .before .before .before .before .before .before .at) .given .1) ((c .before .before .before .before .before .if1) .left) ((c .before .before .before .before .kind-for) .ensures ((c .before .before .before .before .before .before .before .before .before .before .before .before .args) .row .now)) ((c .before .before .before .same-kind) .ensures) ((c .before .row-stands) .ensures) ((c .if3) .taken)
+
+returns-4 : tie.Need-returns-4
+returns-4 c = none-stands ((c .before .before .before .before .args) .t) _ _ _ ((c .enum-told) .given .1)
+
+returns-5 : tie.Need-returns-5
+returns-5 c = both-stand ((c .before .before .before .before .before .before .before .before .before .before .before .before .args) .t) _ _ _ ((c .before .before .before .before .before .before .before .before .at) .given .1) ((c .before .before .before .before .before .if1) .left) ((c .before .before .before .before .kind-for) .ensures ((c .before .before .before .before .before .before .before .before .before .before .before .before .args) .row .now)) ((c .before .before .before .same-kind) .ensures) ((c .before .row-stands) .ensures) ((c .before .before .if2) .left) ((c .if3) .left)
+
+pub tally-entry-spec : {M : Type 1} → statement M
+tally-entry-spec =
+    tie.close
+    (tie.spec
+    enum-told
+    enum-known-at
+    returns
+    kind-for-requires
+    same-kind-requires
+    returns-2
+    row-stands-requires
+    returns-3
+    returns-4
+    returns-5)
