@@ -35,8 +35,8 @@ struct Filler {
 /// 1,024 lines.
 pub fn cases() -> Vec<(&'static str, Vec<Call>)> {
     vec![
-        ("a repack in each call", packed(40_000, &OPS, false)),
-        ("a repack in each call, beside locks", packed(40_000, &OPS, true)),
+        ("a repack in each call", packed(36_000, &OPS, false)),
+        ("a repack in each call, beside locks", packed(36_000, &OPS, true)),
         ("a full box, packed anew", full_and_packed()),
     ]
 }
