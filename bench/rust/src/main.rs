@@ -1,6 +1,8 @@
-//! `bench turns < input`: mvcc.rs makes the turns of an input, as crates/bench does.
+//! `bench turns < input`: mvcc.rs makes the turns of an input, as crates/bench does; `bench restores < input`: so many
+//! restores of one image.
 //! `bench table FOLDER [--runs N] [--only WORD] [--aim MILLISECONDS] --program WORDS..`: checks the
 //! answers of both sides, times them in turn, and prints the table.
+//! `bench hostile FOLDER ..`: the same of hostile images.
 //! With `--counter FILE`, the built bench/copies.c, copies are counted and nothing is timed.
 //! `bench sample FOLDER`: writes stdin and stdout of the gate's own run of crates/bench.
 
@@ -11,16 +13,23 @@ mod boxes;
 mod cases;
 mod clock;
 mod expected;
+mod hostile;
 mod rust_side;
 mod table;
+mod timing;
+
+const USAGE: &str = "usage: bench turns, bench restores, bench sample FOLDER, or bench table|hostile FOLDER [--runs N] [--only WORD] \
+                     [--aim MS] --program WORDS..";
 
 fn main() -> ExitCode {
     let words: Vec<String> = std::env::args().skip(1).collect();
     let done = match words.iter().map(String::as_str).collect::<Vec<_>>()[..] {
-        ["turns"] => turns(),
-        ["table", folder, ref rest @ ..] => plan(folder, rest).and_then(|plan| table::table(&plan)),
+        ["turns"] => turns(rust_side::turns),
+        ["restores"] => turns(rust_side::restores),
+        ["table", folder, ref rest @ ..] => plan(folder, "turns", rest).and_then(|plan| table::table(&plan)),
+        ["hostile", folder, ref rest @ ..] => plan(folder, "restores", rest).and_then(|plan| hostile::table(&plan)),
         ["sample", folder] => sample(folder),
-        _ => Err("usage: bench turns, bench sample FOLDER, or bench table FOLDER [--runs N] [--only WORD] [--aim MS] --program WORDS..".into()),
+        _ => Err(USAGE.into()),
     };
     match done {
         Ok(()) => ExitCode::SUCCESS,
@@ -31,10 +40,10 @@ fn main() -> ExitCode {
     }
 }
 
-fn turns() -> Result<(), String> {
+fn turns(make: fn(&[u8]) -> Option<u64>) -> Result<(), String> {
     let mut input = Vec::new();
     std::io::stdin().read_to_end(&mut input).map_err(|error| error.to_string())?;
-    let accepted = rust_side::turns(&input).ok_or("the input is not in form, or mvcc.rs has not the call")?;
+    let accepted = make(&input).ok_or("the input is not in form, or mvcc.rs has not the call")?;
     std::io::stdout().write_all(&accepted.to_be_bytes()).map_err(|error| error.to_string())
 }
 
@@ -45,12 +54,12 @@ fn sample(folder: &str) -> Result<(), String> {
     write("stdin", input).and_then(|()| write("stdout", output)).map_err(|error| error.to_string())
 }
 
-fn plan(folder: &str, words: &[&str]) -> Result<table::Plan, String> {
+fn plan(folder: &str, rust: &str, words: &[&str]) -> Result<timing::Plan, String> {
     let own = std::env::current_exe().map_err(|error| error.to_string())?.to_string_lossy().into_owned();
-    let mut plan = table::Plan {
+    let mut plan = timing::Plan {
         folder: folder.to_string(),
         program: Vec::new(),
-        rust: vec![own, "turns".to_string()],
+        rust: vec![own, rust.to_string()],
         runs: 5,
         counter: None,
         only: String::new(),

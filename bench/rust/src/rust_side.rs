@@ -165,3 +165,16 @@ pub fn turns(input: &[u8]) -> Option<u64> {
     }
     Some(accepted)
 }
+
+/// So many restores of an image, each of a copy of its entries, or the copies alone; how many were accepted.
+pub fn restores(input: &[u8]) -> Option<u64> {
+    let (turns, rest) = input.split_first_chunk::<8>()?;
+    let (made, image) = rest.split_first()?;
+    let restore = Ready::Restore(entries(image)?);
+    let store = &mut InMemoryMvcc::default();
+    Some(
+        (0..u64::from_be_bytes(*turns))
+            .map(|turn| if *made == 1 { restore.run(store, turn) } else { restore.beside() })
+            .sum(),
+    )
+}

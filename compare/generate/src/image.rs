@@ -1,4 +1,4 @@
-//! Images: on few keys and full of odd but sound states, or with a single fault.
+//! Images on few keys, full of odd but sound states.
 
 use std::collections::BTreeMap;
 
@@ -6,8 +6,9 @@ use paper::form::table_of;
 use paper::restore::{Image, RawLock, RawRecord};
 use paper::store::Bytes;
 
+use crate::orders::{ORDERS, put};
 use crate::random::Random;
-use crate::stock::{EXTREMES, Stock, row, row_out_of_form};
+use crate::stock::{EXTREMES, Stock, row};
 
 /// A sound image on few keys: orphan defaults, Put locks without default, several lines of one key and start, chains
 /// around the figures' edges. The entries stand in any order.
@@ -19,9 +20,8 @@ pub fn few_keys(random: &mut Random, stock: &Stock) -> Image {
             one_key(random, stock, &mut image, key);
         }
     }
-    random.shuffle(&mut image.defaults);
-    random.shuffle(&mut image.locks);
-    random.shuffle(&mut image.writes);
+    let order = *random.pick(&ORDERS);
+    put(random, &mut image, order);
     image
 }
 
@@ -76,114 +76,6 @@ fn some_lock(random: &mut Random, stock: &Stock, writes: &BTreeMap<u64, RawRecor
         time_to_live: if random.percent(4) { u64::MAX } else { random.between(1, 3) as u64 },
         kind: *random.pick(&[1, 1, 2]),
     }
-}
-
-/// The image's bytes with one fault, if the image has the place for it.
-pub fn with_fault(random: &mut Random, stock: &Stock, mut image: Image) -> Bytes {
-    if random.percent(12) {
-        return broken_form(random, image.write());
-    }
-    match random.below(8) {
-        0..2 if !image.defaults.is_empty() => fault_in_default(random, stock, &mut image),
-        2..5 if !image.locks.is_empty() => fault_in_lock(random, stock, &mut image),
-        5..7 if !image.writes.is_empty() => fault_in_write(random, stock, &mut image),
-        _ => image = Image { table: 0, ..if random.percent(50) { Image::default() } else { image } },
-    }
-    image.write()
-}
-
-/// A key of another table, or one out of form.
-fn foreign_key(random: &mut Random, stock: &Stock, key: &Bytes) -> Bytes {
-    if random.percent(50) {
-        let mut other = key.clone();
-        other[3] ^= 1;
-        other[0] |= 1;
-        other
-    } else {
-        stock.key_out_of_form(random, false)
-    }
-}
-
-fn fault_in_default(random: &mut Random, stock: &Stock, image: &mut Image) {
-    let at = random.below(image.defaults.len());
-    let entry = &mut image.defaults[at];
-    match random.below(4) {
-        0 => entry.0 = foreign_key(random, stock, &entry.0.clone()),
-        1 => {
-            // Beside the others, so that no write Put loses its row.
-            let zero = (entry.0.clone(), 0, entry.2.clone());
-            image.defaults.push(zero);
-        }
-        2 => entry.2 = row_out_of_form(random, false),
-        _ => {
-            let again = (entry.0.clone(), entry.1, row(random));
-            let at = random.below(image.defaults.len() + 1);
-            image.defaults.insert(at, again);
-        }
-    }
-}
-
-fn fault_in_lock(random: &mut Random, stock: &Stock, image: &mut Image) {
-    let at = random.below(image.locks.len());
-    let (key, lock) = &mut image.locks[at];
-    match random.below(7) {
-        0 => *key = foreign_key(random, stock, &key.clone()),
-        1 => lock.transaction = 0,
-        2 => lock.start = 0,
-        3 => lock.time_to_live = 0,
-        4 => lock.kind = *random.pick(&[0, 3, 3, 3, 4, 255]),
-        5 => lock.primary = stock.key_out_of_form(random, false),
-        _ => {
-            let again = (key.clone(), RawLock { start: random.between(1, 9) as u64, ..lock.clone() });
-            let at = random.below(image.locks.len() + 1);
-            image.locks.insert(at, again);
-        }
-    }
-}
-
-fn fault_in_write(random: &mut Random, stock: &Stock, image: &mut Image) {
-    let at = random.below(image.writes.len());
-    let (key, stamp, record) = &mut image.writes[at];
-    match random.below(9) {
-        0 => *key = foreign_key(random, stock, &key.clone()),
-        1 => *stamp = stamp.wrapping_add(1),
-        2 => (*record, *stamp) = (RawRecord { start: 0, commit: 5, kind: 2 }, 5),
-        3 => (*record, *stamp) = (RawRecord { start: 0, commit: 0, kind: 3 }, 0),
-        4 => record.kind = *random.pick(&[0, 4, 255]),
-        5 | 6 => {
-            // A Delete with commit equal to start, or a Rollback with commit above start.
-            let start = stamp.saturating_sub(1).max(1);
-            *record = match random.below(2) {
-                0 => RawRecord { start: *stamp, commit: *stamp, kind: 2 },
-                _ => RawRecord { start, commit: *stamp, kind: 3 },
-            };
-        }
-        7 => {
-            let again = (key.clone(), *stamp, *record);
-            let at = random.below(image.writes.len() + 1);
-            image.writes.insert(at, again);
-        }
-        _ => {
-            // A write Put whose default is missing.
-            let start = record.start;
-            *record = RawRecord { kind: 1, ..*record };
-            let key = key.clone();
-            image.defaults.retain(|(other, at, _)| *other != key || *at != start);
-        }
-    }
-}
-
-/// A byte more, a byte less, cut anywhere, or another count.
-fn broken_form(random: &mut Random, mut bytes: Bytes) -> Bytes {
-    match random.below(4) {
-        0 => bytes.push(*random.pick(&[0, 1, 255])),
-        1 => {
-            bytes.pop();
-        }
-        2 => bytes.truncate(random.below(bytes.len() + 1)),
-        _ => bytes[5] = bytes[5].wrapping_add(*random.pick(&[1, 255])),
-    }
-    bytes
 }
 
 /// One number of an image set to an extreme; the image may stay sound or not.

@@ -5,16 +5,19 @@
 
 pub mod batch;
 mod damage;
+pub mod faults;
 mod grow;
+pub mod hostile;
 mod image;
 mod looks;
 mod maker;
 pub mod named;
+pub mod orders;
 pub mod random;
 pub mod repacks;
 mod room;
 pub mod singles;
-mod stock;
+pub mod stock;
 mod writes;
 
 use paper::restore::Image;
@@ -54,6 +57,11 @@ impl Ops {
         [6, 8, 10].iter().any(|op| self.has(*op)) && ![7, 9, 11, 12].iter().any(|op| self.has(*op))
     }
 
+    /// Is restore the only op among them beside the figures?
+    pub fn restores_alone(self) -> bool {
+        self.has(32) && !(1..=12).any(|op| self.has(op))
+    }
+
     /// Is there something to read by, and restore the only op that changes the box? Then what is read comes from images.
     pub fn reads_images(self) -> bool {
         self.has(32) && (1..=5).any(|op| self.has(op)) && !(6..=12).any(|op| self.has(op))
@@ -71,6 +79,8 @@ pub enum Kind {
     Singles,
     /// Images, sound and not, with the store's figures between.
     Images,
+    /// The same of few or many keys that are much alike, the entries in any order.
+    Hostile,
     /// A box at one of the four rooms, and calls that pass it.
     Room,
     /// All four rooms full, or an image far beyond, of more than 65,535 bytes.
@@ -83,10 +93,11 @@ pub enum Kind {
     Edge,
 }
 
-const KINDS: [(Kind, usize); 7] = [
+const KINDS: [(Kind, usize); 8] = [
     (Kind::Fresh, 245),
-    (Kind::Odd, 380),
+    (Kind::Odd, 340),
     (Kind::Images, 150),
+    (Kind::Hostile, 40),
     (Kind::Room, 70),
     (Kind::Large, 10),
     (Kind::Damaged, 120),
@@ -101,11 +112,14 @@ pub fn kind_of(seed: u64) -> Kind {
 
 /// The trace of a seed. A full box costs a driver as much time as thousands of reads and shows restore alone, so where
 /// images are what is read, most of these give way to small ones. One large box in four is made by calls alone and packs
-/// its area anew. One trace in ten, and where the changing ops are single forms alone two in three, is about these.
+/// its area anew. One trace in ten, and where the changing ops are single forms alone two in three, is about these. Where
+/// restore stands alone, all that would be about calls is about images.
 pub fn trace(seed: u64, ops: Ops) -> Bytes {
     let kind = match kind_of(seed) {
         Kind::Room | Kind::Large if ops.reads_images() && !seed.is_multiple_of(8) => Kind::Odd,
         Kind::Large if ops == Ops::all() && seed.is_multiple_of(4) => Kind::Repacks,
+        Kind::Fresh if ops.restores_alone() => Kind::Images,
+        Kind::Odd if ops.restores_alone() => Kind::Hostile,
         Kind::Fresh | Kind::Odd if ops.singles_alone() => Kind::Singles,
         Kind::Fresh | Kind::Odd if ops == Ops::all() && seed.is_multiple_of(6) => Kind::Singles,
         kind => kind,
@@ -134,6 +148,13 @@ pub fn trace_of(kind: Kind, seed: u64, ops: Ops) -> Bytes {
             for _ in 0..maker.random.between(1, 6) {
                 let restore = maker.restore();
                 maker.push(restore);
+                maker.look();
+            }
+        }
+        Kind::Hostile => {
+            for _ in 0..maker.random.between(1, 6) {
+                let image = hostile::any(&mut maker.random, &maker.stock);
+                maker.push(Call::Restore { image });
                 maker.look();
             }
         }

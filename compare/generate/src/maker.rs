@@ -6,7 +6,8 @@ use paper::store::Store;
 use paper::trace::Call;
 
 use crate::Ops;
-use crate::image::{few_keys, with_extreme, with_fault};
+use crate::faults;
+use crate::image::{few_keys, with_extreme};
 use crate::random::Random;
 use crate::stock::Stock;
 
@@ -107,7 +108,7 @@ impl Maker {
         let image = match self.random.below(10) {
             0..5 => image.write(),
             5 => with_extreme(&mut self.random, image),
-            _ => with_fault(&mut self.random, &self.stock, image),
+            _ => faults::any(&mut self.random, &self.stock, image),
         };
         Call::Restore { image }
     }

@@ -104,7 +104,7 @@ fn single_forms_come_with_every_length() {
 #[test]
 fn every_op_gets_every_answer_it_can_give() {
     let mut seen = BTreeSet::new();
-    for seed in 0..1500 {
+    for seed in 0..3000 {
         let bytes = trace(seed, Ops::all());
         let ops: Vec<u8> = read_trace(&bytes).unwrap_or_default().iter().map(Call::op).collect();
         seen.extend(ops.into_iter().zip(run_trace(&bytes)).map(|(op, answer)| (op, answer.number)));

@@ -3,6 +3,7 @@
 
 pub mod bends;
 pub mod classes;
+mod counts;
 pub mod one;
 pub mod rust_side;
 pub mod sample;

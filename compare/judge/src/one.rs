@@ -12,6 +12,7 @@ use paper::trace::{Call, read_trace};
 use ragnor::engine::Engine;
 
 use crate::classes::{Class, Rust, class_of};
+use crate::counts::Counts;
 use crate::rust_side::{Outcome, beyond_room, run_rust, same_state, set_state};
 use crate::{shrink, words};
 
@@ -91,6 +92,7 @@ pub fn run(length: Duration, seed: u64, ops: Ops, show_smallest: bool) -> bool {
     let begin = Instant::now();
     let mut tallies: BTreeMap<Class, Tally> = BTreeMap::new();
     let (mut traces, mut calls_run) = (0_u64, 0_u64);
+    let mut counts = Counts::default();
     while begin.elapsed() < length {
         let trace = generate::trace(seed.wrapping_add(traces), ops);
         traces += 1;
@@ -98,6 +100,7 @@ pub fn run(length: Duration, seed: u64, ops: Ops, show_smallest: bool) -> bool {
             continue;
         };
         calls_run += calls.len() as u64;
+        counts.take_all(&trace);
         for difference in differences(&calls) {
             let Some(class) = difference.class else {
                 report_unnamed(&trace);
@@ -119,6 +122,7 @@ pub fn run(length: Duration, seed: u64, ops: Ops, show_smallest: bool) -> bool {
         let (shown, from_paper) = tallies.get(class).map_or((0, 0), |tally| (tally.shown, tally.from_paper));
         println!("{:<34} {shown:>9} {from_paper:>11}  {}", class.word(), class.text());
     }
+    counts.print_restores();
     println!("no difference outside these classes");
     if show_smallest {
         for (class, tally) in &tallies {

@@ -1,21 +1,19 @@
 //! Comparison 2: a driver against the paper, where nothing may differ. Many traces go to each start of the driver, and
 //! one of them is given to it alone as well.
 
-use std::collections::BTreeMap;
 use std::io::{ErrorKind, Read, Write};
 use std::process::{Child, ChildStdout, Command, ExitStatus, Stdio};
 use std::sync::mpsc::{Receiver, RecvTimeoutError, channel};
 use std::time::{Duration, Instant};
 
 use generate::Ops;
-use generate::singles::LENGTHS;
 use paper::answer::Answer;
 use paper::form::Reader;
-use paper::run::run_trace;
 use paper::store::Bytes;
-use paper::trace::{Call, read_trace};
+use paper::trace::read_trace;
 
 use crate::bends::answers_of;
+use crate::counts::Counts;
 use crate::{shrink, words};
 
 /// A driver's command: its program and words before `many`; and how long it may be silent, so that one that hangs is
@@ -170,7 +168,7 @@ pub fn run(driver: &Driver, length: Duration, choice: &Choice) -> bool {
     let Choice { seed, ops, per_start, save } = choice;
     let (seed, ops, per_start, save) = (*seed, *ops, *per_start, save.as_deref());
     let begin = Instant::now();
-    let (mut traces, mut answered, mut starts) = (0_u64, 0_u64, 0_u64);
+    let (mut traces, mut starts) = (0_u64, 0_u64);
     let mut counts = Counts::default();
     while begin.elapsed() < length {
         let batch: Vec<Bytes> =
@@ -191,51 +189,15 @@ pub fn run(driver: &Driver, length: Duration, choice: &Choice) -> bool {
         }
         traces += per_start;
         starts += 1;
-        answered += batch.iter().map(|trace| run_trace(trace).len() as u64).sum::<u64>();
         batch.iter().for_each(|trace| counts.take_all(trace));
     }
     println!(
-        "comparison 2, driver against paper, seed {seed}: {traces} traces, {answered} answers, {starts} starts with \
-         {per_start} traces each; every byte equal"
+        "comparison 2, driver against paper, seed {seed}: {traces} traces, {} answers, {starts} starts with \
+         {per_start} traces each; every byte equal",
+        counts.answers
     );
     counts.print();
     true
-}
-
-/// The calls by op, and those of the single forms by the lengths that a batch's length byte sets apart.
-#[derive(Default)]
-struct Counts {
-    ops: BTreeMap<u8, u64>,
-    lengths: BTreeMap<usize, u64>,
-}
-
-impl Counts {
-    fn take_all(&mut self, trace: &[u8]) {
-        read_trace(trace).iter().flatten().for_each(|call| self.take(call));
-    }
-
-    fn take(&mut self, call: &Call) {
-        *self.ops.entry(call.op()).or_default() += 1;
-        let (key, row) = match call {
-            Call::Prewrite { key, row, .. } => (key, Some(row)),
-            Call::Commit { key, .. } | Call::Rollback { key, .. } => (key, None),
-            _ => return,
-        };
-        let odd = |length: &usize| LENGTHS.contains(length) || *length > 255;
-        for length in [Some(key), row].into_iter().flatten().map(Vec::len).filter(odd) {
-            *self.lengths.entry(length).or_default() += 1;
-        }
-    }
-
-    fn print(&self) {
-        let ops: Vec<String> = self.ops.iter().map(|(op, count)| format!("{op} x{count}")).collect();
-        println!("calls by op: {}", ops.join(", "));
-        let of = |length: &usize| format!("{length} bytes x{}", self.lengths.get(length).unwrap_or(&0));
-        let above: u64 = self.lengths.iter().filter(|(length, _)| **length > 255).map(|(_, count)| count).sum();
-        let singles: u64 = [6, 8, 10].iter().filter_map(|op| self.ops.get(op)).sum();
-        let named: Vec<String> = LENGTHS.iter().map(of).collect();
-        println!("single forms: {singles} calls; keys and rows of {}; above 255 in all x{above}", named.join(", "));
-    }
 }
 
 /// Finds the trace at which the outputs part, and shrinks it.

@@ -15,6 +15,7 @@ mod bend_list;
 pub mod commit;
 pub mod figures;
 pub mod form;
+mod misread;
 pub mod one_step;
 pub mod page;
 pub mod prewrite;

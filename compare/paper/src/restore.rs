@@ -5,6 +5,7 @@ use std::collections::BTreeMap;
 use crate::answer::{IMAGE, NO_ROOM, Refusal, refuse};
 use crate::bend::{Bend, bent};
 use crate::form::{Reader, key_in_form, row_in_form, table_of};
+use crate::misread;
 use crate::room::{DEFAULTS, LINES, LOCKS};
 use crate::store::{Bytes, Kind, Lock, Record, Store};
 
@@ -101,9 +102,14 @@ impl Image {
         self.locks.len() > LOCKS || self.defaults.len() > DEFAULTS || self.locks.len() + self.writes.len() > LINES
     }
 
-    /// "then each entry, in any order": entries need not be sorted, and since every fault is 13 the order of the
-    /// checks can't be seen. None is a fault.
+    /// The store of an image; none is a fault.
     pub fn store(&self) -> Option<Store> {
+        self.judged().filter(|_| !misread::refused(self)).or_else(|| misread::seen(self)?.judged())
+    }
+
+    /// "then each entry, in any order": entries need not be sorted, and since every fault is 13 the order of the
+    /// checks can't be seen.
+    fn judged(&self) -> Option<Store> {
         let mut store = Store::default();
         // "table number not zero"
         fine(self.table != 0 || bent(Bend::ImageTableZero))?;

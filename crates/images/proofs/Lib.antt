@@ -1,9 +1,1 @@
-pub mod ChainLaws
-pub mod KindLaws
-pub mod StoredLaws
-pub mod LockedLaws
-pub mod WrittenLaws
-pub mod ListedLaws
-pub mod SpanLaws
-pub mod SectionLaws
-pub mod WalkLaws
+pub mod EntryLaws

@@ -1,72 +1,121 @@
--- What the readers of an image's entries find at a place: what the definition's readers read there, and where it ends.
+-- Document 01: "defaults (key length, key, 8-byte start, row length, row) .. locks (key length, key, lock) .. writes (key length, key, 8-byte
+-- write stamp, start, commit, kind byte). Lock: 8-byte transaction, primary length, primary, 8-byte start, 8-byte time to live, kind byte."
+-- One form for the entries of the three sections: a key and a number; a piece, where the section has one; two numbers and a kind, where it
+-- has them.
 -- Assumes nothing.
-use Prim.Native.Nat.{ℕ, _+_, _≤_, _<_}
+use Prim.Native.Nat.{ℕ, _+_, _≤_}
 use mathlib.Core.Path.{_≡_}
-use mathlib.Core.Bool.{false, not}
+use mathlib.Core.Bool.{Bool, true, false, not}
+use mathlib.Core.List.{[]}
+use mathlib.Core.Option.{Option, none, some}
 use lib.ListN.{length, drop}
 use Rattle.forms.specs.Bytes.{Bytes, bytesAt}
+use Rattle.forms.specs.Readers.{Read, Reader, _>>=_, just, byte, piece}
+use Rattle.forms.specs.Numbers.{numberOf}
 use Rattle.forms.specs.Places.{found}
-use Rattle.rules.specs.declared.records.Kind.the-variants.{Put}
-use Rattle.rules.specs.Box.{Default}
-use Rattle.rules.specs.Page.{KeyLock}
-use Rattle.rules.specs.Image.{KeyRecord, kindFrom, defaultFrom, keyLockFrom, writeFrom}
-use Rattle.images.specs.declared.entries.Kinded.{Kinded}
-use Rattle.images.specs.declared.entries.Stored.{Stored}
-use Rattle.images.specs.declared.entries.Locked.{Locked}
-use Rattle.images.specs.declared.entries.Written.{Written}
+use Rattle.forms.specs.Key.{Key}
+use Rattle.forms.specs.declared.part.Part.{Part}
+use Rattle.images.specs.declared.entries.Section.{Section}
+use Rattle.images.specs.declared.entries.Section.the-variants.{Default, Lock, Write}
+use Rattle.images.specs.declared.entries.Tail.{Tail}
+use Rattle.images.specs.declared.entries.Entry.{Entry}
 
-pub record KindAt (s : Bytes) (at : ℕ) (r : Kinded) : Type 0 where
-  pub is : kindFrom (drop at s) ≡ found s (r .ok) (r .kind) (at + 1)
-  pub within : not (r .ok) ≡ false → at < length s
+-- an entry as it stands; the kind is the number that stands there
+pub record Raw : Type 0 where
+  pub key : Key
+  pub one : ℕ
+  pub piece : Bytes
+  pub two : ℕ
+  pub three : ℕ
+  pub kind : ℕ
 
--- ---- defaults
+pub record End : Type 0 where
+  pub two : ℕ
+  pub three : ℕ
+  pub kind : ℕ
 
-abbrev pub defaultOf : Bytes → Stored → Default
-defaultOf s e = record { key = bytesAt s (e .at) (e .len); start = e .start; row = bytesAt s (e .rowat) (e .rowlen) }
+abbrev pub hasPiece : Section → Bool
+hasPiece Default = true
+hasPiece Lock = true
+hasPiece Write = false
 
-pub record StoredAt (s : Bytes) (at : ℕ) (r : Stored) : Type 0 where
-  pub is : defaultFrom (drop at s) ≡ found s (r .ok) (defaultOf s r) (r .next)
-  pub key-in : r .at + r .len ≤ length s
-  pub row-in : r .rowat + r .rowlen ≤ length s
-  pub next-in : r .next ≤ length s
-  pub key-small : r .len ≤ 255
-  pub row-small : r .rowlen ≤ 255
+abbrev pub hasTail : Section → Bool
+hasTail Default = false
+hasTail Lock = true
+hasTail Write = true
 
-abbrev pub noStored : Stored
-noStored = record { ok = false; at = 0; len = 0; start = 0; rowat = 0; rowlen = 0; next = 0 }
+-- what is read where the section has it, and else what stands for it
+abbrev pub orElse : {A : Type 0} → Bool → Reader A → A → Reader A
+orElse true r x = r
+orElse false r x = just x
 
--- ---- locks
+unfoldable pub tailFrom : Reader End
+tailFrom = do
+  b ← numberOf 8
+  c ← numberOf 8
+  n ← byte
+  just (record { two = b; three = c; kind = n })
 
-abbrev pub keyLockOf : Bytes → Locked → KeyLock
-keyLockOf s e = record {
+abbrev pub noEnd : End
+noEnd = record { two = 0; three = 0; kind = 0 }
+
+unfoldable pub entryFrom : Section → Reader Raw
+entryFrom section = do
+  k ← piece
+  n ← numberOf 8
+  p ← orElse (hasPiece section) piece []
+  t ← orElse (hasTail section) tailFrom noEnd
+  just (record { key = k; one = n; piece = p; two = t .two; three = t .three; kind = t .kind })
+
+abbrev pub noRaw : Raw
+noRaw = record { key = []; one = 0; piece = []; two = 0; three = 0; kind = 0 }
+
+abbrev pub rawOr : Option (Read Raw) → Raw
+rawOr none = noRaw
+rawOr (some q) = q .got
+
+-- the entry of a section at a place
+unfoldable pub rawAt : Section → Bytes → ℕ → Raw
+rawAt section s at = rawOr (entryFrom section (drop at s))
+
+-- ---- what the readers of the code find at a place
+
+pub record PieceAt (section : Section) (s : Bytes) (at : ℕ) (r : Part) : Type 0 where
+  pub is : orElse (hasPiece section) piece [] (drop at s) ≡ found s (r .ok) (bytesAt s (r .at) (r .len)) (r .at + r .len)
+  pub within : r .at + r .len ≤ length s
+  pub small : r .len ≤ 255
+  pub from : not (r .ok) ≡ false → (at ≤ r .at) × (r .at ≤ at + 1)
+
+abbrev pub endOf : Tail → End
+endOf t = record { two = t .two; three = t .three; kind = t .kind }
+
+pub record TailAt (has : Bool) (s : Bytes) (at : ℕ) (r : Tail) : Type 0 where
+  pub is : orElse has tailFrom noEnd (drop at s) ≡ found s (r .ok) (endOf r) (r .next)
+  pub within : r .next ≤ length s
+  pub from : not (r .ok) ≡ false → (at ≤ r .next) × (r .next ≤ at + 17)
+
+abbrev pub noTail : Tail
+noTail = record { ok = false; two = 0; three = 0; kind = 0; next = 0 }
+
+abbrev pub rawOf : Bytes → Entry → Raw
+rawOf s e = record {
   key = bytesAt s (e .at) (e .len);
-  lock = record { txn = e .txn; primary = bytesAt s (e .pat) (e .plen); start = e .start; ttl = e .ttl; kind = e .kind };
+  one = e .one;
+  piece = bytesAt s (e .pat) (e .plen);
+  two = e .two;
+  three = e .three;
+  kind = e .kind;
 }
 
-pub record LockedAt (s : Bytes) (at : ℕ) (r : Locked) : Type 0 where
-  pub is : keyLockFrom (drop at s) ≡ found s (r .ok) (keyLockOf s r) (r .next)
+pub record EntryAt (section : Section) (s : Bytes) (at : ℕ) (r : Entry) : Type 0 where
+  pub is : entryFrom section (drop at s) ≡ found s (r .ok) (rawOf s r) (r .next)
+  pub raw : rawOf s r ≡ rawAt section s at
   pub key-in : r .at + r .len ≤ length s
-  pub primary-in : r .pat + r .plen ≤ length s
+  pub piece-in : r .pat + r .plen ≤ length s
   pub next-in : r .next ≤ length s
   pub key-small : r .len ≤ 255
-  pub primary-small : r .plen ≤ 255
+  pub piece-small : r .plen ≤ 255
+  pub from : not (r .ok) ≡ false → (at + (r .len + r .plen) + 9 ≤ r .next) × (r .next ≤ at + (r .len + r .plen) + 27)
 
-abbrev pub noLocked : Locked
-noLocked = record { ok = false; at = 0; len = 0; txn = 0; pat = 0; plen = 0; start = 0; ttl = 0; kind = Put; next = 0 }
-
--- ---- writes
-
-abbrev pub keyRecordOf : Bytes → Written → KeyRecord
-keyRecordOf s e = record {
-  key = bytesAt s (e .at) (e .len);
-  write = record { stamp = e .stamp; start = e .start; commit = e .commit; kind = e .kind };
-}
-
-pub record WrittenAt (s : Bytes) (at : ℕ) (r : Written) : Type 0 where
-  pub is : writeFrom (drop at s) ≡ found s (r .ok) (keyRecordOf s r) (r .next)
-  pub key-in : r .at + r .len ≤ length s
-  pub next-in : r .next ≤ length s
-  pub key-small : r .len ≤ 255
-
-abbrev pub noWritten : Written
-noWritten = record { ok = false; at = 0; len = 0; stamp = 0; start = 0; commit = 0; kind = Put; next = 0 }
+abbrev pub noEntry : Entry
+noEntry = record { ok = false; at = 0; len = 0; one = 0; pat = 0; plen = 0; two = 0; three = 0; kind = 0; next = 0 }

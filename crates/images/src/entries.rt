@@ -1,244 +1,163 @@
-// The entries of an image at a place: a default, a lock with its key, a write with its key, each flat: where its pieces lie, and its numbers.
+// An entry of an image at a place, in any of the three sections: where its key and its piece lie, and its numbers as they stand. The kind is
+// the number that stands there: whether it says a kind is for the one who judges.
 ghost use mathlib.Core.Path.{_≡_};
-ghost use Rattle.images.specs.Entries.{KindAt, StoredAt, LockedAt, WrittenAt, noStored, noLocked, noWritten};
+ghost use mathlib.Core.Bool.{true};
+ghost use Prim.Native.Nat.{_≤_};
+ghost use lib.ListN.{length};
+ghost use Rattle.images.specs.Entries.{PieceAt, TailAt, EntryAt, hasTail, noTail, noEntry};
 use forms::number::Width;
 use forms::number::number_at;
+use forms::part::Part;
 use forms::part::part_at;
-use rules::records::Kind;
 
-// A kind byte; not ok where there is none, or one that says no kind.
-pub struct Kinded {
-    pub ok: bool,
-    pub kind: Kind,
+// The sections of an image, in its order.
+pub enum Section {
+    Default,
+    Lock,
+    Write,
 }
 
-// "Kinds: 1 Put, 2 Delete, 3 Rollback"
-pub fn kind_at(s: &[u8], at: usize) -> Kinded
-    ensures { λ r. ⌜ KindAt (now (s .entry)) at r ⌝ }
+// A default's row or a lock's primary; a write has no piece, and the empty one stands for it.
+fn piece_at(s: &[u8], at: usize, section: Section) -> Part
+    requires { ⌜ at ≤ length (now s) ⌝ }
+    ensures { λ r. ⌜ PieceAt section (now (s .entry)) at r ⌝ }
 {
-    if s.len() <= at {
-        return Kinded {
-            ok: false,
-            kind: Kind::Put,
-        };
-    }
-    let b = s[at];
-    if b == 1 {
-        return Kinded {
+    match section {
+        Section::Default => part_at(s, at),
+        Section::Lock => part_at(s, at),
+        Section::Write => Part {
             ok: true,
-            kind: Kind::Put,
-        };
-    }
-    if b == 2 {
-        return Kinded {
-            ok: true,
-            kind: Kind::Delete,
-        };
-    }
-    if b == 3 {
-        return Kinded {
-            ok: true,
-            kind: Kind::Rollback,
-        };
-    }
-    Kinded {
-        ok: false,
-        kind: Kind::Put,
+            at: at,
+            len: 0,
+        },
     }
 }
 
-// A default: where its key and its row lie, its start, and where the next entry begins; not ok, and zeros, where there is none in form.
-pub struct Stored {
+// The end of a lock or a write: two numbers, a kind, and where the next entry begins; not ok, and zeros, where there is none in form.
+pub struct Tail {
     pub ok: bool,
-    pub at: usize,
-    pub len: usize,
-    pub start: u64,
-    pub rowat: usize,
-    pub rowlen: usize,
+    pub two: u64,
+    pub three: u64,
+    pub kind: u8,
     pub next: usize,
 }
 
-fn no_stored() -> Stored
-    ensures { λ r. ⌜ r ≡ noStored ⌝ }
+fn no_tail() -> Tail
+    ensures { λ r. ⌜ r ≡ noTail ⌝ }
 {
-    Stored {
+    Tail {
         ok: false,
-        at: 0,
-        len: 0,
-        start: 0,
-        rowat: 0,
-        rowlen: 0,
+        two: 0,
+        three: 0,
+        kind: 0,
         next: 0,
     }
 }
 
-// "key length, key, 8-byte start, row length, row"
-pub fn default_at(s: &[u8], at: usize) -> Stored
-    ensures { λ r. ⌜ StoredAt (now (s .entry)) at r ⌝ }
+fn numbers_at(s: &[u8], at: usize) -> Tail
+    ensures { λ r. ⌜ TailAt true (now (s .entry)) at r ⌝ }
 {
-    let k = part_at(s, at);
-    if !k.ok {
-        return no_stored();
+    let two = number_at(s, at, Width::Eight);
+    if !two.ok {
+        return no_tail();
     }
-    let a = k.at + k.len;
-    let start = number_at(s, a, Width::Eight);
-    if !start.ok {
-        return no_stored();
+    let three = number_at(s, at + 8, Width::Eight);
+    if !three.ok {
+        return no_tail();
     }
-    let r = part_at(s, a + 8);
-    if !r.ok {
-        return no_stored();
+    let b = at + 16;
+    if s.len() <= b {
+        return no_tail();
     }
-    Stored {
+    Tail {
         ok: true,
-        at: k.at,
-        len: k.len,
-        start: start.value,
-        rowat: r.at,
-        rowlen: r.len,
-        next: r.at + r.len,
+        two: two.value,
+        three: three.value,
+        kind: s[b],
+        next: b + 1,
     }
 }
 
-// A lock with its key: where the key and the primary lie, the lock's numbers and kind, and where the next entry begins; not ok, and zeros,
-// where there is none in form.
-pub struct Locked {
+// A default ends with its row.
+fn tail_at(s: &[u8], at: usize, section: Section) -> Tail
+    requires { ⌜ at ≤ length (now s) ⌝ }
+    ensures { λ r. ⌜ TailAt (hasTail section) (now (s .entry)) at r ⌝ }
+{
+    match section {
+        Section::Default => Tail {
+            ok: true,
+            two: 0,
+            three: 0,
+            kind: 0,
+            next: at,
+        },
+        Section::Lock => numbers_at(s, at),
+        Section::Write => numbers_at(s, at),
+    }
+}
+
+// An entry: where its key and its piece lie, the number after its key, the two after its piece, its kind, and where the next entry begins;
+// not ok, and zeros, where there is none in form.
+pub struct Entry {
     pub ok: bool,
     pub at: usize,
     pub len: usize,
-    pub txn: u64,
+    pub one: u64,
     pub pat: usize,
     pub plen: usize,
-    pub start: u64,
-    pub ttl: u64,
-    pub kind: Kind,
+    pub two: u64,
+    pub three: u64,
+    pub kind: u8,
     pub next: usize,
 }
 
-fn no_locked() -> Locked
-    ensures { λ r. ⌜ r ≡ noLocked ⌝ }
+pub fn no_entry() -> Entry
+    ensures { λ r. ⌜ r ≡ noEntry ⌝ }
 {
-    Locked {
+    Entry {
         ok: false,
         at: 0,
         len: 0,
-        txn: 0,
+        one: 0,
         pat: 0,
         plen: 0,
-        start: 0,
-        ttl: 0,
-        kind: Kind::Put,
+        two: 0,
+        three: 0,
+        kind: 0,
         next: 0,
     }
 }
 
-// "key length, key, lock": "8-byte transaction, primary length, primary, 8-byte start, 8-byte time to live, kind byte"
-pub fn lock_at(s: &[u8], at: usize) -> Locked
-    ensures { λ r. ⌜ LockedAt (now (s .entry)) at r ⌝ }
+pub fn entry_at(s: &[u8], at: usize, section: Section) -> Entry
+    ensures { λ r. ⌜ EntryAt section (now (s .entry)) at r ⌝ }
 {
     let k = part_at(s, at);
     if !k.ok {
-        return no_locked();
+        return no_entry();
     }
     let a = k.at + k.len;
-    let txn = number_at(s, a, Width::Eight);
-    if !txn.ok {
-        return no_locked();
-    }
-    let p = part_at(s, a + 8);
-    if !p.ok {
-        return no_locked();
-    }
-    let b = p.at + p.len;
-    let start = number_at(s, b, Width::Eight);
-    if !start.ok {
-        return no_locked();
-    }
-    let ttl = number_at(s, b + 8, Width::Eight);
-    if !ttl.ok {
-        return no_locked();
-    }
-    let n = kind_at(s, b + 16);
+    let n = number_at(s, a, Width::Eight);
     if !n.ok {
-        return no_locked();
+        return no_entry();
     }
-    let kind = n.kind;
-    Locked {
+    let p = piece_at(s, a + 8, section);
+    if !p.ok {
+        return no_entry();
+    }
+    let t = tail_at(s, p.at + p.len, section);
+    if !t.ok {
+        return no_entry();
+    }
+    Entry {
         ok: true,
         at: k.at,
         len: k.len,
-        txn: txn.value,
+        one: n.value,
         pat: p.at,
         plen: p.len,
-        start: start.value,
-        ttl: ttl.value,
-        kind,
-        next: b + 17,
-    }
-}
-
-// A write with its key: where the key lies, the record's numbers and kind, and where the next entry begins; not ok, and zeros, where there
-// is none in form.
-pub struct Written {
-    pub ok: bool,
-    pub at: usize,
-    pub len: usize,
-    pub stamp: u64,
-    pub start: u64,
-    pub commit: u64,
-    pub kind: Kind,
-    pub next: usize,
-}
-
-fn no_written() -> Written
-    ensures { λ r. ⌜ r ≡ noWritten ⌝ }
-{
-    Written {
-        ok: false,
-        at: 0,
-        len: 0,
-        stamp: 0,
-        start: 0,
-        commit: 0,
-        kind: Kind::Put,
-        next: 0,
-    }
-}
-
-// "key length, key, 8-byte write stamp, start, commit, kind byte"
-pub fn write_at(s: &[u8], at: usize) -> Written
-    ensures { λ r. ⌜ WrittenAt (now (s .entry)) at r ⌝ }
-{
-    let k = part_at(s, at);
-    if !k.ok {
-        return no_written();
-    }
-    let a = k.at + k.len;
-    let stamp = number_at(s, a, Width::Eight);
-    if !stamp.ok {
-        return no_written();
-    }
-    let start = number_at(s, a + 8, Width::Eight);
-    if !start.ok {
-        return no_written();
-    }
-    let commit = number_at(s, a + 16, Width::Eight);
-    if !commit.ok {
-        return no_written();
-    }
-    let n = kind_at(s, a + 24);
-    if !n.ok {
-        return no_written();
-    }
-    let kind = n.kind;
-    Written {
-        ok: true,
-        at: k.at,
-        len: k.len,
-        stamp: stamp.value,
-        start: start.value,
-        commit: commit.value,
-        kind,
-        next: a + 25,
+        two: t.two,
+        three: t.three,
+        kind: t.kind,
+        next: t.next,
     }
 }

@@ -2,7 +2,7 @@
 -- Assumes nothing.
 use Prim.Native.Nat.{ℕ}
 use native.Mathlib.Omega.{arith}
-use mathlib.Core.Path.{_≡_, sym, ap}
+use mathlib.Core.Path.{_≡_, sym, _∙_, ap}
 use mathlib.Core.Bool.{Bool, true, false, not, _&&_}
 use lib.Dec.{eqb}
 use borrow.Author.Tests.{eq-eqb, ne-eqb}
@@ -14,11 +14,15 @@ use Rattle.forms.specs.declared.number.Number.{Number}
 use Rattle.forms.proofs.KeyLaws.{key-bounds}
 use Rattle.forms.proofs.NumberLaws.{number-value}
 use Rattle.rules.specs.declared.records.Kind.the-variants.{Rollback}
-use Rattle.rules.specs.Box.{Lock, Default, eqKind}
+use Rattle.rules.specs.Box as box
 use Rattle.rules.specs.Sound.{soundRecord, soundLock}
 use Rattle.rules.specs.Page.{KeyLock}
 use Rattle.rules.specs.Image.{KeyRecord}
 use Rattle.rules.specs.Restore.{ofTable, goodDefault, goodLock, goodWrite}
+use Rattle.images.specs.Entries.{Raw}
+use Rattle.images.specs.declared.entries.Section.{Section}
+use Rattle.images.specs.declared.entries.Section.the-variants.{Default, Lock, Write}
+use Rattle.judging.specs.Good.{known, defaultOf, keyLockOf, keyRecordOf, fits}
 use Rattle.judging.proofs.TestLaws.{fails, holds, and-out, and-last, and-rest}
 
 -- a number that is 0 is not other than 0, and one that is not 0 is
@@ -42,7 +46,7 @@ module _ (t : ℕ) (k : Key) {b : Bool} (e : b ≡ keyForm k) where
 
 -- ---- "default start not 0, row decodes"
 
-module _ (t : ℕ) (d : Default) {b : Bool} (e : b ≡ ofTable t (d .key)) where
+module _ (t : ℕ) (d : box.Default) {b : Bool} (e : b ≡ ofTable t (d .key)) where
   pub default-key : not b ≡ true → false ≡ goodDefault t d
   default-key h = sym (and-out (ofTable t (d .key) && not (eqb (d .start) 0)) (rowForm (d .row)) (and-out (ofTable t (d .key)) (not (eqb (d .start) 0)) (fails e h)))
 
@@ -54,7 +58,7 @@ module _ (t : ℕ) (d : Default) {b : Bool} (e : b ≡ ofTable t (d .key)) where
 
 -- ---- "Sound lock: transaction, start, time to live not 0, kind Put or Delete, primary a key"
 
-module _ (l : Lock) where
+module _ (l : box.Lock) where
   abbrev txn : Bool
   txn = not (eqb (l .txn) 0)
 
@@ -65,7 +69,7 @@ module _ (l : Lock) where
   ttl = not (eqb (l .ttl) 0)
 
   abbrev kind : Bool
-  kind = not (eqKind (l .kind) Rollback)
+  kind = not (box.eqKind (l .kind) Rollback)
 
   abbrev primary : Bool
   primary = keyForm (l .primary)
@@ -101,10 +105,10 @@ module _ (t : ℕ) (x : KeyLock) {b : Bool} (e : b ≡ ofTable t (x .key)) where
   pub lock-ttl : x .lock .ttl ≡ 0 → false ≡ goodLock t x
   lock-ttl z = unsound (sound-ttl (x .lock) (and-last (txn (x .lock) && start (x .lock)) (ttl (x .lock)) (zero _ z)))
 
-  pub lock-kind : {a : Bool} → a ≡ not (eqKind (x .lock .kind) Rollback) → not a ≡ true → false ≡ goodLock t x
+  pub lock-kind : {a : Bool} → a ≡ not (box.eqKind (x .lock .kind) Rollback) → not a ≡ true → false ≡ goodLock t x
   lock-kind q h = unsound (sound-kind (x .lock) (and-last (txn (x .lock) && start (x .lock) && ttl (x .lock)) (kind (x .lock)) (fails q h)))
 
-  pub lock-primary : {a r : Bool} → not b ≡ false → (x .lock .txn ≡ 0 → ⊥) → (x .lock .start ≡ 0 → ⊥) → (x .lock .ttl ≡ 0 → ⊥) → a ≡ not (eqKind (x .lock .kind) Rollback) → not a ≡ false
+  pub lock-primary : {a r : Bool} → not b ≡ false → (x .lock .txn ≡ 0 → ⊥) → (x .lock .start ≡ 0 → ⊥) → (x .lock .ttl ≡ 0 → ⊥) → a ≡ not (box.eqKind (x .lock .kind) Rollback) → not a ≡ false
       → r ≡ keyForm (x .lock .primary) → r ≡ goodLock t x
   lock-primary {r = r} h n m o q g p =
       and-rest (ofTable t (x .key)) (soundLock (x .lock)) r (holds e h)
@@ -118,3 +122,27 @@ module _ (t : ℕ) (x : KeyRecord) {b : Bool} (e : b ≡ ofTable t (x .key)) whe
 
   pub write-record : {r : Bool} → not b ≡ false → r ≡ soundRecord (x .write) → r ≡ goodWrite t x
   write-record {r} h q = and-rest (ofTable t (x .key)) (soundRecord (x .write)) r (holds e h) q
+
+-- ---- an entry of a section
+
+module _ (section : Section) (t : ℕ) (x : Raw) where
+  pub fits-default : {b : Bool} → section ≡ Default → b ≡ goodDefault t (defaultOf x) → b ≡ fits section t x
+  unfolding fits
+  fits-default e q = q ∙ sym (ap (λ (c : Section). fits c t x) e)
+
+  module _ {k : Bool} (known-is : k ≡ known (x .kind)) where
+    pub lock-unknown : section ≡ Lock → not k ≡ true → false ≡ fits section t x
+    unfolding fits
+    lock-unknown e h = sym (ap (λ (c : Section). fits c t x) e ∙ and-out (known (x .kind)) (goodLock t (keyLockOf x)) (fails known-is h))
+
+    pub fits-lock : {b : Bool} → section ≡ Lock → not k ≡ false → b ≡ goodLock t (keyLockOf x) → b ≡ fits section t x
+    unfolding fits
+    fits-lock {b} e h q = and-rest (known (x .kind)) (goodLock t (keyLockOf x)) b (holds known-is h) q ∙ sym (ap (λ (c : Section). fits c t x) e)
+
+    pub write-unknown : section ≡ Write → not k ≡ true → false ≡ fits section t x
+    unfolding fits
+    write-unknown e h = sym (ap (λ (c : Section). fits c t x) e ∙ and-out (known (x .kind)) (goodWrite t (keyRecordOf x)) (fails known-is h))
+
+    pub fits-write : {b : Bool} → section ≡ Write → not k ≡ false → b ≡ goodWrite t (keyRecordOf x) → b ≡ fits section t x
+    unfolding fits
+    fits-write {b} e h q = and-rest (known (x .kind)) (goodWrite t (keyRecordOf x)) b (holds known-is h) q ∙ sym (ap (λ (c : Section). fits c t x) e)

@@ -1,10 +1,5 @@
 pub mod TestLaws
-pub mod FoldLaws
-pub mod AlikeLaws
 pub mod GoodLaws
-pub mod SumLaws
-pub mod PlaceLaws
-pub mod LoadLaws
-pub mod VerdictLaws
-pub mod RestoreLaws
-pub mod EntryFacts
+pub mod PassLaws
+pub mod SpanLaws
+pub mod ImageLaws

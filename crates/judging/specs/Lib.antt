@@ -1,2 +1,2 @@
-pub mod Others
-pub mod Verdict
+pub mod Good
+pub mod Sections

@@ -1,30 +1,47 @@
-// The checks that restore makes of each entry of an image, over the entries that stand from a place on. The image's form is judged before:
-// where an entry is not in form, the entries end.
+// The checks that restore makes of one entry.
 ghost use mathlib.Core.Path.{_≡_};
 ghost use mathlib.Core.Bool.{not};
-ghost use Prim.Native.Nat.{_+_, _≤_};
-ghost use lib.ListN.{length, drop};
 ghost use Rattle.rules.specs.declared.records.Kind.the-variants.{Rollback};
 ghost use Rattle.rules.specs.Box.{eqKind};
-ghost use Rattle.rules.specs.Image.{defaultFrom, keyLockFrom, writeFrom};
-ghost use Rattle.rules.specs.Restore.{ofTable, goodDefault, goodLock, goodWrite, allGood};
-ghost use Rattle.images.specs.Entries.{defaultOf, keyLockOf, keyRecordOf};
-ghost use Rattle.images.specs.Sections.{listed};
+ghost use Rattle.rules.specs.Restore.{ofTable, goodDefault, goodLock, goodWrite};
+ghost use Rattle.images.specs.Entries.{rawOf};
+ghost use Rattle.judging.specs.Good.{known, kindOf, defaultOf, keyLockOf, keyRecordOf, fits, Lies, GoodAt};
 use forms::key::key_in_form;
 use forms::number::Width;
 use forms::number::number_at;
 use forms::row::row_in_form;
-use images::entries::Locked;
-use images::entries::Stored;
-use images::entries::Written;
-use images::entries::default_at;
-use images::entries::lock_at;
-use images::entries::write_at;
+use images::entries::Entry;
+use images::entries::Section;
+use images::entries::entry_at;
+use images::entries::no_entry;
 use rules::records::Kind;
 use rules::records::Record;
 use rules::records::record_sound;
 
-// ---- one entry
+// "Kinds: 1 Put, 2 Delete, 3 Rollback"
+fn kind_known(n: u8) -> bool
+    ensures { λ r. ⌜ r ≡ known n ⌝ }
+{
+    if n == 1 {
+        return true;
+    }
+    if n == 2 {
+        return true;
+    }
+    n == 3
+}
+
+pub fn kind_of(n: u8) -> Kind
+    ensures { λ r. ⌜ r ≡ kindOf n ⌝ }
+{
+    if n == 1 {
+        return Kind::Put;
+    }
+    if n == 2 {
+        return Kind::Delete;
+    }
+    Kind::Rollback
+}
 
 // "key of this table"
 fn of_table(key: &[u8], table: u64) -> bool
@@ -38,20 +55,20 @@ fn of_table(key: &[u8], table: u64) -> bool
 }
 
 // "default start not 0, row decodes"
-fn default_good(s: &[u8], table: u64, e: Stored) -> bool
-    requires { ⌜ (e .at + e .len ≤ length (now s)) × (e .rowat + e .rowlen ≤ length (now s)) ⌝ }
-    ensures { λ r. ⌜ r ≡ goodDefault table (defaultOf (now (s .entry)) e) ⌝ }
+fn default_good(s: &[u8], table: u64, e: Entry) -> bool
+    requires { ⌜ Lies (now s) e ⌝ }
+    ensures { λ r. ⌜ r ≡ goodDefault table (defaultOf (rawOf (now (s .entry)) e)) ⌝ }
 {
     let a = e.at;
     let b = a + e.len;
     if !of_table(&s[a..b], table) {
         return false;
     }
-    if e.start == 0 {
+    if e.one == 0 {
         return false;
     }
-    let c = e.rowat;
-    let d = c + e.rowlen;
+    let c = e.pat;
+    let d = c + e.plen;
     row_in_form(&s[c..d])
 }
 
@@ -67,25 +84,25 @@ fn may_stand(kind: Kind) -> bool
 }
 
 // "lock sound": "transaction, start, time to live not 0, kind Put or Delete, primary a key"
-fn lock_good(s: &[u8], table: u64, e: Locked) -> bool
-    requires { ⌜ (e .at + e .len ≤ length (now s)) × (e .pat + e .plen ≤ length (now s)) ⌝ }
-    ensures { λ r. ⌜ r ≡ goodLock table (keyLockOf (now (s .entry)) e) ⌝ }
+fn lock_good(s: &[u8], table: u64, e: Entry) -> bool
+    requires { ⌜ Lies (now s) e ⌝ }
+    ensures { λ r. ⌜ r ≡ goodLock table (keyLockOf (rawOf (now (s .entry)) e)) ⌝ }
 {
     let a = e.at;
     let b = a + e.len;
     if !of_table(&s[a..b], table) {
         return false;
     }
-    if e.txn == 0 {
+    if e.one == 0 {
         return false;
     }
-    if e.start == 0 {
+    if e.two == 0 {
         return false;
     }
-    if e.ttl == 0 {
+    if e.three == 0 {
         return false;
     }
-    let kind = e.kind;
+    let kind = kind_of(e.kind);
     if !may_stand(kind) {
         return false;
     }
@@ -95,83 +112,56 @@ fn lock_good(s: &[u8], table: u64, e: Locked) -> bool
 }
 
 // "record sound"
-fn write_good(s: &[u8], table: u64, e: Written) -> bool
-    requires { ⌜ e .at + e .len ≤ length (now s) ⌝ }
-    ensures { λ r. ⌜ r ≡ goodWrite table (keyRecordOf (now (s .entry)) e) ⌝ }
+fn write_good(s: &[u8], table: u64, e: Entry) -> bool
+    requires { ⌜ Lies (now s) e ⌝ }
+    ensures { λ r. ⌜ r ≡ goodWrite table (keyRecordOf (rawOf (now (s .entry)) e)) ⌝ }
 {
     let a = e.at;
     let b = a + e.len;
     if !of_table(&s[a..b], table) {
         return false;
     }
-    let kind = e.kind;
+    let kind = kind_of(e.kind);
     let w = Record {
-        stamp: e.stamp,
-        start: e.start,
-        commit: e.commit,
-        kind,
+        stamp: e.one,
+        start: e.two,
+        commit: e.three,
+        kind: kind,
     };
     record_sound(w)
 }
 
-// ---- each entry of a section
-
-// "key of this table; default start not 0, row decodes"
-pub fn defaults_good(s: &[u8], table: u64, from: usize, count: usize) -> bool
-    ensures { λ r. ⌜ r ≡ allGood (goodDefault table) (listed defaultFrom count (drop from (now (s .entry)))) ⌝ }
+fn entry_good(s: &[u8], section: Section, table: u64, e: Entry) -> bool
+    requires { ⌜ Lies (now s) e ⌝ }
+    ensures { λ r. ⌜ r ≡ fits section table (rawOf (now (s .entry)) e) ⌝ }
 {
-    let mut at = from;
-    let mut left = count;
-    while 0 < left {
-        let e = default_at(s, at);
-        if !e.ok {
-            return true;
+    match section {
+        Section::Default => default_good(s, table, e),
+        Section::Lock => {
+            if !kind_known(e.kind) {
+                return false;
+            }
+            lock_good(s, table, e)
         }
-        if !default_good(s, table, e) {
-            return false;
+        Section::Write => {
+            if !kind_known(e.kind) {
+                return false;
+            }
+            write_good(s, table, e)
         }
-        at = e.next;
-        left -= 1;
     }
-    true
 }
 
-// "key of this table; .. lock sound"
-pub fn locks_good(s: &[u8], table: u64, from: usize, count: usize) -> bool
-    ensures { λ r. ⌜ r ≡ allGood (goodLock table) (listed keyLockFrom count (drop from (now (s .entry)))) ⌝ }
+// An entry that is in form and good; not ok where there is none.
+pub fn good_at(s: &[u8], at: usize, section: Section, table: u64) -> Entry
+    ensures { λ r. ⌜ GoodAt section table (now (s .entry)) at r ⌝ }
 {
-    let mut at = from;
-    let mut left = count;
-    while 0 < left {
-        let e = lock_at(s, at);
-        if !e.ok {
-            return true;
-        }
-        if !lock_good(s, table, e) {
-            return false;
-        }
-        at = e.next;
-        left -= 1;
+    let e = entry_at(s, at, section);
+    if !e.ok {
+        return no_entry();
     }
-    true
-}
-
-// "key of this table; .. record sound"
-pub fn writes_good(s: &[u8], table: u64, from: usize, count: usize) -> bool
-    ensures { λ r. ⌜ r ≡ allGood (goodWrite table) (listed writeFrom count (drop from (now (s .entry)))) ⌝ }
-{
-    let mut at = from;
-    let mut left = count;
-    while 0 < left {
-        let e = write_at(s, at);
-        if !e.ok {
-            return true;
-        }
-        if !write_good(s, table, e) {
-            return false;
-        }
-        at = e.next;
-        left -= 1;
+    if !entry_good(s, section, table, e) {
+        return no_entry();
     }
-    true
+    e
 }

@@ -1,10 +1,5 @@
-// What restore decides from the image's bytes alone: the checks of its entries, the load of the box that it would leave, and the answer.
-// Every public function takes any bytes.
-pub mod alike;
+// The entries of an image judged one by one, and its sections listed: one walk over each section judges its entries and lists their places.
 pub mod checks;
-pub mod judge;
-pub mod load;
+pub mod sections;
 
-pub use judge::image_good;
-pub use judge::restore_check;
-pub use load::image_load;
+pub use checks::kind_of;

@@ -88,6 +88,13 @@ less-else a b n h = lt-ltb b a (omega (arith, ltb-false a b h, eqb-false a b n))
 less-apart : (a b : ℕ) → ltb a b ≡ true → eqb a b ≡ false
 less-apart a b h = let l : a < b = ltb-true a b h in ne-eqb a b (λ e. omega arith)
 
+eqb-sym : (a b : ℕ) → eqb a b ≡ eqb b a
+eqb-sym a b = go (eqb b a) refl
+  where
+    go : (t : Bool) → eqb b a ≡ t → eqb a b ≡ t
+    go true e = eq-eqb a b (sym (eqb-true b a e))
+    go false e = ne-eqb a b (λ q. eqb-false b a e (sym q))
+
 -- ---- lines
 
 -- both locks, or two records of one stamp
@@ -119,6 +126,18 @@ line-else (Standing l) (Finished w) n a = absurd (true≢false a)
 line-else (Finished w) (Standing l) n a = refl
 line-else (Finished v) (Finished w) n a = less-else (v .stamp) (w .stamp) n a
 
+line-apart : (x y : Line) → lineBefore x y ≡ true → sameLine x y ≡ false
+line-apart (Standing l) (Standing m) a = absurd (false≢true a)
+line-apart (Standing l) (Finished w) a = refl
+line-apart (Finished w) (Standing l) a = refl
+line-apart (Finished v) (Finished w) a = less-apart (v .stamp) (w .stamp) a
+
+line-sym : (x y : Line) → sameLine x y ≡ sameLine y x
+line-sym (Standing l) (Standing m) = refl
+line-sym (Standing l) (Finished w) = refl
+line-sym (Finished w) (Standing l) = refl
+line-sym (Finished v) (Finished w) = eqb-sym (v .stamp) (w .stamp)
+
 pub before-trans : (d e f : KeyLine) → before d e ≡ true → before e f ≡ true → before d f ≡ true
 unfolding before
 before-trans d e f = keyed-trans (d .key) (e .key) (f .key) (lineBefore (d .line) (e .line)) (lineBefore (e .line) (f .line)) (lineBefore (d .line) (f .line)) (line-trans (d .line) (e .line) (f .line))
@@ -130,6 +149,15 @@ before-irrefl e = keyed-irrefl (e .key) (lineBefore (e .line) (e .line)) (line-i
 pub before-else : (d e : KeyLine) → samePlace d e ≡ false → before d e ≡ false → before e d ≡ true
 unfolding before samePlace
 before-else d e = keyed-else (d .key) (e .key) (lineBefore (d .line) (e .line)) (lineBefore (e .line) (d .line)) (sameLine (d .line) (e .line)) (line-else (d .line) (e .line))
+
+pub before-apart : (d e : KeyLine) → before d e ≡ true → samePlace d e ≡ false
+unfolding before samePlace
+before-apart d e = keyed-apart (d .key) (e .key) (lineBefore (d .line) (e .line)) (sameLine (d .line) (e .line)) (line-apart (d .line) (e .line))
+
+-- the same, where the later is named first
+pub before-apart′ : (d e : KeyLine) → before d e ≡ true → samePlace e d ≡ false
+unfolding samePlace
+before-apart′ d e h = ap₂ _&&_ (eqBytes-sym (e .key) (d .key)) (line-sym (e .line) (d .line)) ∙ before-apart d e h
 
 -- within a key, and between keys
 pub before-same : (d e : KeyLine) → eqBytes (d .key) (e .key) ≡ true → before d e ≡ lineBefore (d .line) (e .line)
@@ -169,13 +197,6 @@ rowBefore-else d e = keyed-else (d .key) (e .key) (ltb (d .start) (e .start)) (l
 pub rowBefore-apart : (d e : Default) → rowBefore d e ≡ true → atPair (d .key) (d .start) e ≡ false
 unfolding rowBefore
 rowBefore-apart d e = keyed-apart (d .key) (e .key) (ltb (d .start) (e .start)) (eqb (d .start) (e .start)) (less-apart (d .start) (e .start))
-
-eqb-sym : (a b : ℕ) → eqb a b ≡ eqb b a
-eqb-sym a b = go (eqb b a) refl
-  where
-    go : (t : Bool) → eqb b a ≡ t → eqb a b ≡ t
-    go true e = eq-eqb a b (sym (eqb-true b a e))
-    go false e = ne-eqb a b (λ q. eqb-false b a e (sym q))
 
 -- the same, where the later is named first
 pub rowBefore-apart′ : (d e : Default) → rowBefore d e ≡ true → atPair (e .key) (e .start) d ≡ false

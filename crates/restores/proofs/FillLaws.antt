@@ -1,227 +1,178 @@
--- A store that is filled with entries from the front: what is left to come makes the same box of it, one entry more, and the end; and for
--- defaults, writes and locks what the change of one entry asks.
+-- A table that is filled in place from its beginning, over what stood there: the elements so far, one more, and the whole at its end.
 -- Assumes nothing.
-use Prim.Native.Nat.{ℕ, _+_, _-_, _≤_, _<_}
+use Prim.Native.Nat.{ℕ, suc, _+_, _-_, _≤_, _<_, min}
 use native.Mathlib.Omega.{arith}
-use mathlib.Core.Path.{_≡_, refl, ap, sym, _∙_, subst}
-use mathlib.Core.Bool.{Bool, true, not, _&&_}
-use mathlib.Core.List.{List, [], _∷_}
-use lib.ListN.{length, drop}
-use lib.Dec.{eqb}
-use borrow.Author.Tests.{not-true}
-use Rattle.seqs.proofs.Tests.{and-left, and-right, and-both}
-use Rattle.forms.specs.Bytes.{Bytes, bytesAt}
-use Rattle.forms.specs.Key.{keyForm}
-use Rattle.forms.specs.Readers.{Reader}
-use Rattle.forms.proofs.KeyLaws.{key-bounds}
-use Rattle.forms.proofs.RowLaws.{row-bounds}
-use Rattle.rules.specs.declared.room.Load.{Load}
-use Rattle.rules.specs.declared.records.Kind.the-variants.{Rollback}
-use Rattle.rules.specs.Box.{Box, Lock, inOrder, eqKind}
-use Rattle.rules.specs.Sound.{soundLock}
-use Rattle.rules.specs.Room.{loadOf, Fits}
-use Rattle.rules.specs.Image.{defaultFrom, keyLockFrom, writeFrom}
-use Rattle.rules.specs.Restore.{allGood, noneLike, noSecond}
-use Rattle.laws.specs.Adds.{plus}
-use Rattle.laws.proofs.StepLaws.{none-there}
-use Rattle.laws.proofs.LoadLaws.{AtMost, at-most-refl, at-most-trans, at-most-plus, load-fields}
-use Rattle.lines.specs.declared.store.Store.{Store}
-use Rattle.lines.specs.declared.places.FoundRow.{FoundRow}
-use Rattle.lines.specs.declared.keys.Looked.{Looked}
-use Rattle.lines.specs.View.{boxOf}
-use Rattle.lines.specs.Looks.{RowFound, LookedAt}
-use Rattle.laws.specs.Places.{linesBefore}
-use Rattle.changes.specs.Changes.{Leaves, RowAsks, RecordAsks, LockAsks, withRow, withRecord, withLock}
-use Rattle.images.specs.Sections.{listed}
-use Rattle.images.specs.Entries.{StoredAt, defaultOf, LockedAt, keyLockOf, WrittenAt, keyRecordOf}
-use Rattle.images.specs.declared.entries.Stored.{Stored}
-use Rattle.images.specs.declared.entries.Locked.{Locked}
-use Rattle.images.specs.declared.entries.Written.{Written}
-use Rattle.images.proofs.ListedLaws.{Next, listed-none}
-use Rattle.images.proofs.WalkLaws.{default-next, lock-next, write-next}
-use Rattle.judging.proofs.EntryFacts.{all-head, all-rest, single-head, single-rest, good-default, good-lock, good-write}
-use Rattle.restores.specs.Fills.{Way, defaultWay, writeWay, lockWay, putAll, Filling, Filled}
-use Rattle.restores.proofs.WayLaws.{Lawful, default-laws, write-laws, lock-laws}
+use native.Mathlib.Numerals.{add-one}
+use mathlib.Core.Path.{_≡_, refl, sym, ap, ap₂, _∙_, subst}
+use mathlib.Core.Bool.{Bool, true, false}
+use mathlib.Core.List.{List, [], _∷_, _++_, map}
+use lib.ListN.{length, getD, take, drop, set, replicate, length-set, length-map, length-replicate, List·getD-map, take-append-drop, replicate-append-replicate, drop-of-length-le}
+use lib.Seq.{length-take-le, getD-take, take-all, take-suc, drop-cons, drop-drop, drop-at, drop-set-lt, set-at, append-snoc, take-suc-set}
+use lib.Dec.{ltb}
+use borrow.Author.Tests.{ltb-true, ltb-false}
+use Rattle.seqs.specs.Tables.{Table, shown}
+use Rattle.seqs.proofs.Tables.{table-empty, table-wider, table-added, shown-same, shown-added}
+use Rattle.forms.specs.Bytes.{Bytes}
+use Rattle.rules.specs.Room.{sumOf}
+use Rattle.areas.specs.Packs.{Above}
+use Rattle.areas.proofs.PackLaws.{Framed}
+use Rattle.restores.specs.Fills.{Way, Asks, Comes}
 
--- ---- all entries of a section
+-- ---- the first k elements, and empty ones after them
 
-module _ {A : Type 0} {way : Way A} {load : A → Load} (laws : Lawful way load) where
-  -- the first may come before the others
-  pub put-first : (x : A) (xs : List A) (b : Box) → noneLike (way .like) x xs ≡ true → putAll (way .put) xs (way .put x b) ≡ way .put x (putAll (way .put) xs b)
-  unfolding putAll noneLike
-  put-first x [] b n = refl
-  put-first x (y ∷ ys) b n =
-      ap (way .put y) (put-first x ys b (and-right (not (way .like x y)) _ n)) ∙ laws .swap x y (putAll (way .put) ys b) (not-true _ (and-left _ (noneLike (way .like) x ys) n))
+module _ {A : Type 0} (empty : A) where
+  abbrev pub blank : ℕ → List A → List A
+  blank k t = take k t ++ replicate (1024 - k) empty
 
-  still-free : (x : A) (xs : List A) (b : Box) → inOrder b ≡ true → noneLike (way .like) x xs ≡ true → allGood (λ (y : A). way .free y b) xs ≡ true → allGood (λ (y : A). way .free y (way .put x b)) xs ≡ true
-  unfolding allGood noneLike
-  still-free x [] b o n f = refl
-  still-free x (y ∷ ys) b o n f =
-      and-both (way .free y (way .put x b)) _ (laws .other x y b o (not-true _ (and-left _ (noneLike (way .like) x ys) n)) (and-left (way .free y b) _ f))
-      (still-free x ys b o (and-right (not (way .like x y)) _ n) (and-right (way .free y b) _ f))
+  module _ (k : ℕ) (t : List A) (long : length t ≡ 1024) (h : k < 1024) where
+    one-less : replicate (1024 - k) empty ≡ empty ∷ replicate (1024 - (k + 1)) empty
+    one-less =
+        let e : 1024 - k ≡ suc (1024 - (k + 1)) = omega arith in
+        ap (λ (n : ℕ). replicate n empty) e
 
-  pub put-more : (xs : List A) (b : Box) → AtMost (loadOf b) (loadOf (putAll (way .put) xs b))
-  unfolding putAll
-  put-more [] b = at-most-refl (loadOf b)
-  put-more (x ∷ xs) b = at-most-trans (put-more xs b) (at-most-plus _ _ _ (laws .loads x (putAll (way .put) xs b)))
+    blank-next : (x : A) → blank (k + 1) (set t k x) ≡ take k t ++ x ∷ replicate (1024 - (k + 1)) empty
+    blank-next x =
+        let l : k < length t = omega arith in
+        ap (λ (n : ℕ). take n (set t k x) ++ replicate (1024 - (k + 1)) empty) (add-one k)
+        ∙ ap (λ (f : List A). f ++ replicate (1024 - (k + 1)) empty) (take-suc-set t k x l)
+        ∙ append-snoc (take k t) x (replicate (1024 - (k + 1)) empty)
 
-pub fits-under : {a b : Load} → AtMost a b → Fits b → Fits a
-fits-under m f = omega arith
+    blank-past : blank (k + 1) (set t k empty) ≡ blank k t
+    blank-past = blank-next empty ∙ ap (λ (r : List A). take k t ++ r) (sym one-less)
 
--- ---- the loop
+    blank-put : (x : A) → blank (k + 1) (set t k x) ≡ set (blank k t) k x
+    blank-put x =
+        let l : k ≤ length t = omega arith in
+        blank-next x ∙ sym (ap (λ (r : List A). set (take k t ++ r) k x) one-less ∙ set-at (take k t) empty (replicate (1024 - (k + 1)) empty) x k (length-take-le k t l))
 
-pub record Walking {A : Type 0} (way : Way A) (r : Reader A) (s : Bytes) (from count : ℕ) (st₀ : Store) (area₀ : Bytes) (at left : ℕ) (st : Store) (area : Bytes) : Type 0 where
-  pub filling : Filling way r s at left st area
-  pub is : putAll (way .put) (listed r left (drop at s)) (boxOf st area) ≡ putAll (way .put) (listed r count (drop from s)) (boxOf st₀ area₀)
+  -- past the elements of a table all are empty
+  rest-empty : {P : A → Type 0} {m k : ℕ} {old : List A} → Table P empty 1024 m old → m ≤ k → k ≤ 1024 → drop k old ≡ replicate (1024 - k) empty
+  rest-empty {m = m} {k = k} {old = old} t h l =
+      let e : k ≡ m + (k - m) = omega arith in
+      let f : 1024 - m ≡ (k - m) + (1024 - k) = omega arith in
+      ap (λ (n : ℕ). drop n old) e ∙ sym (drop-drop (k - m) m old)
+      ∙ ap (drop (k - m)) (t .rest ∙ ap (λ (n : ℕ). replicate n empty) f ∙ sym (replicate-append-replicate (k - m) (1024 - k) empty))
+      ∙ drop-at (replicate (k - m) empty) (replicate (1024 - k) empty) (k - m) (length-replicate (k - m) empty)
 
-pub walking-start : {A : Type 0} {way : Way A} {r : Reader A} {s : Bytes} {from count : ℕ} {st : Store} {area : Bytes} → Filling way r s from count st area → Walking way r s from count st area from count st area
-walking-start v = record { filling = v; is = refl }
+-- ---- a table that shows a list
 
-pub walking-end : {A : Type 0} {way : Way A} {r : Reader A} {s : Bytes} {from count : ℕ} {st₀ : Store} {area₀ : Bytes} {at left : ℕ} {st : Store} {area : Bytes} → Walking way r s from count st₀ area₀ at left st area → left ≤ 0
-    → Filled (putAll (way .put) (listed r count (drop from s)) (boxOf st₀ area₀)) st area
-unfolding putAll
-walking-end {A} {way} {r} {s} {at = at} {left = left} {st = st} {area = area} v h = record {
-  built = v .filling .built;
-  packed = v .filling .packed;
-  shown = sym (ap (λ (l : List A). putAll (way .put) l (boxOf st area)) (listed-none r left (drop at s) h)) ∙ v .is;
-}
+pub record Seen {A B : Type 0} (way : Way A B) (top : ℕ) (area : Bytes) (n : ℕ) (t : List A) (all : List B) : Type 0 where
+  pub table : Table (way .Below top) (way .empty) 1024 n t
+  pub shows : shown (way .show area) n t ≡ all
 
-module _ {A : Type 0} {way : Way A} {load : A → Load} (laws : Lawful way load) {r : Reader A} {s : Bytes} {from count : ℕ} {st₀ : Store} {area₀ : Bytes} {at left : ℕ} {st : Store} {area : Bytes} (v : Walking way r s from count st₀ area₀ at left st area) {ok : Bool} {x : A} {next : ℕ} (n : Next r s at left ok x next) where
-  abbrev b : Box
-  b = boxOf st area
+module _ {A B : Type 0} {way : Way A B} {top n : ℕ} {area : Bytes} {t : List A} {all : List B} (v : Seen way top area n t all) where
+  pub seen-as : {m : ℕ} {u : List A} {more : List B} → n ≡ m → t ≡ u → all ≡ more → Seen way top area m u more
+  seen-as {m} {u} e f g =
+      subst (λ (x : List B). Seen way top area m u x) g (subst (λ (x : List A). Seen way top area m x all) f (subst (λ (x : ℕ). Seen way top area x t all) e v))
 
-  abbrev rest : List A
-  rest = listed r (left - 1) (drop next s)
-
-  good-here : allGood (way .good (v .filling .table)) (x ∷ rest) ≡ true
-  good-here = ap (allGood (way .good (v .filling .table))) (sym (n .is)) ∙ v .filling .good
-
-  once-here : noSecond (way .like) (x ∷ rest) ≡ true
-  once-here = ap (noSecond (way .like)) (sym (n .is)) ∙ v .filling .once
-
-  free-here : allGood (λ (y : A). way .free y b) (x ∷ rest) ≡ true
-  free-here = ap (allGood (λ (y : A). way .free y b)) (sym (n .is)) ∙ v .filling .free
-
-  apart : noneLike (way .like) x rest ≡ true
-  apart = single-head (way .like) x rest once-here
-
-  turned : putAll (way .put) rest (way .put x b) ≡ putAll (way .put) (listed r left (drop at s)) b
-  unfolding putAll
-  turned = put-first laws x rest b apart ∙ ap (λ (l : List A). putAll (way .put) l b) (sym (n .is))
-
-  -- the entry is good, its place is free, and it has room
-  pub entry-good : way .good (v .filling .table) x ≡ true
-  entry-good = all-head (way .good (v .filling .table)) x rest good-here
-
-  pub entry-free : way .free x (boxOf st area) ≡ true
-  entry-free = all-head (λ (y : A). way .free y b) x rest free-here
-
-  pub entry-fits : Fits (plus (st .load) (load x))
-  entry-fits =
-      let e = load-fields (laws .loads x b) in
-      let k = load-fields (v .filling .built .kept .load-is) in
-      let m = put-more laws rest (way .put x b) in
-      let q = load-fields (ap loadOf turned) in
-      let f = v .filling .room in
-      omega arith
-
-  pub walking-more : {top : ℕ} {st′ : Store} {area′ : Bytes} → Leaves (way .put x (boxOf st area)) top st′ area′ → top ≡ st .top + load x .bytes → Walking way r s from count st₀ area₀ next (left - 1) st′ area′
-  walking-more {top} {st′} {area′} p t = record {
-    filling = record {
-      built = p .built;
-      packed =
-          omega
-          (arith, p .top-is, v .filling .packed, load-fields (p .built .kept .load-is) .bytes, load-fields (ap loadOf (p .shown)) .bytes, load-fields (laws .loads x b) .bytes, load-fields (v .filling .built .kept .load-is) .bytes);
-      form = n .form;
-      table = v .filling .table;
-      good = all-rest (way .good (v .filling .table)) x rest good-here;
-      once = single-rest (way .like) x rest once-here;
-      free =
-          subst (λ (c : Box). allGood (λ (y : A). way .free y c) rest ≡ true) (sym (p .shown))
-          (still-free laws x rest b (v .filling .built .kept .sorted) apart (all-rest (λ (y : A). way .free y b) x rest free-here));
-      room = subst (λ (c : Box). Fits (loadOf c)) (sym (ap (putAll (way .put) rest) (p .shown) ∙ turned)) (v .filling .room);
-    };
-    is = ap (putAll (way .put) rest) (p .shown) ∙ turned ∙ v .is;
+  -- other bytes come
+  seen-kept : Framed (way .show) (way .Below) (way .size) (way .empty) → {end : ℕ} {area′ : Bytes} → Above area top area′ → top ≤ end → Seen way end area′ n t all
+  seen-kept f {end} {area′} ab up = record {
+    table = table-wider (v .table) (way .Below end) (f .wider top end up);
+    shows = shown-same (way .show area′) (way .show area) (way .Below top) (f .same area′ area top (ab .kept)) n t (v .table .holds) ∙ v .shows;
   }
 
--- ---- defaults
+  seen-more : n < 1024 → {x : A} {y : B} → way .show area x ≡ y → way .Below top x → Seen way top area (n + 1) (set t n x) (all ++ (y ∷ []))
+  seen-more l {x} e p = record {
+    table = table-added (v .table) x p l;
+    shows = shown-added (way .show area) t n x (omega (arith, v .table .long)) ∙ ap₂ (λ (r : List B) (y : B). r ++ (y ∷ [])) (v .shows) e;
+  }
 
-module _ {s : Bytes} {from count : ℕ} {st₀ : Store} {area₀ : Bytes} {at left : ℕ} {st : Store} {area : Bytes} (v : Walking defaultWay defaultFrom s from count st₀ area₀ at left st area) {e : Stored} (q : StoredAt s at e) (more : 0 < left) where
-  default-here : Next defaultFrom s at left (e .ok) (defaultOf s e) (e .next)
-  default-here = default-next (v .filling .form) q more
+-- ---- the elements so far
 
-  pub default-asks : {f : FoundRow} → RowFound st area (bytesAt s (e .at) (e .len)) (e .start) f → RowAsks st area (f .place) (bytesAt s (e .at) (e .len)) (e .start) (bytesAt s (e .rowat) (e .rowlen))
-  default-asks p =
-      let g = good-default (v .filling .table) (defaultOf s e) (entry-good default-laws v default-here) in
-      let t = entry-fits default-laws v default-here in
-      let w = row-bounds (bytesAt s (e .rowat) (e .rowlen)) (g .row) in
-      record {
-        built = v .filling .built;
-        at = p .place-is;
-        free = none-there _ (entry-free default-laws v default-here);
-        form = g .key .form;
-        row-some = omega arith;
-        row-short = w .short;
-        slot-free = omega arith;
-        area-room = omega (arith, v .filling .packed);
-      }
+-- the first k elements of t show the first k of `all`, or all of them and are empty from there on; past k is what stood there
+pub record Half {A B : Type 0} (way : Way A B) (old : List A) (all : List B) (k top : ℕ) (area : Bytes) (t : List A) : Type 0 where
+  pub low : k ≤ 1024
+  pub long : length t ≡ 1024
+  pub seen : Seen way top area (min k (length all)) (blank (way .empty) k t) (take k all)
+  pub rest : drop k t ≡ drop k old
 
-  pub default-more : {st′ : Store} {area′ : Bytes}
-      → Leaves (withRow (boxOf st area) (defaultOf s e)) (st .top + length (bytesAt s (e .at) (e .len)) + length (bytesAt s (e .rowat) (e .rowlen))) st′ area′
-      → Walking defaultWay defaultFrom s from count st₀ area₀ (e .next) (left - 1) st′ area′
-  default-more p = walking-more default-laws v default-here p (omega arith)
+pub half-start : {A B : Type 0} (way : Way A B) (old : List A) (all : List B) (top : ℕ) (area : Bytes) → length old ≡ 1024 → Half way old all 0 top area old
+unfolding shown
+half-start way old all top area h = record {
+  low = omega arith;
+  long = h;
+  seen = seen-as (record { table = table-empty (way .Below top) (way .empty) 1024; shows = refl }) (omega arith) refl refl;
+  rest = refl;
+}
 
--- ---- writes
+module _ {A B : Type 0} {way : Way A B} {old : List A} {all : List B} {k top : ℕ} {area : Bytes} {t : List A} (h : Half way old all k top area t) where
+  pub half-kept : Framed (way .show) (way .Below) (way .size) (way .empty) → {end : ℕ} {area′ : Bytes} → Above area top area′ → top ≤ end → Half way old all k end area′ t
+  half-kept f ab up = record { low = h .low; long = h .long; seen = seen-kept (h .seen) f ab up; rest = h .rest }
 
-module _ {s : Bytes} {from count : ℕ} {st₀ : Store} {area₀ : Bytes} {at left : ℕ} {st : Store} {area : Bytes} (v : Walking writeWay writeFrom s from count st₀ area₀ at left st area) {e : Written} (q : WrittenAt s at e) (more : 0 < left) where
-  write-here : Next writeFrom s at left (e .ok) (keyRecordOf s e) (e .next)
-  write-here = write-next (v .filling .form) q more
+  module _ (l : k < 1024) where
+    half-next : (x : A) → Seen way top area (min (k + 1) (length all)) (blank (way .empty) (k + 1) (set t k x)) (take (k + 1) all) → Half way old all (k + 1) top area (set t k x)
+    half-next x v = record {
+      low = omega arith;
+      long = length-set t k x ∙ h .long;
+      seen = v;
+      rest = drop-set-lt (k + 1) t k x (omega arith) ∙ sym (drop-drop 1 k t) ∙ ap (drop 1) (h .rest) ∙ drop-drop 1 k old;
+    }
 
-  pub write-asks : {f : Looked} → LookedAt st area (bytesAt s (e .at) (e .len)) (e .start) (e .stamp) f → RecordAsks st area (f .place) (bytesAt s (e .at) (e .len)) (keyRecordOf s e .write)
-  write-asks p =
-      let g = good-write (v .filling .table) (keyRecordOf s e) (entry-good write-laws v write-here) in
-      let t = entry-fits write-laws v write-here in
-      record {
-        built = v .filling .built;
-        at = p .place-is;
-        free = none-there _ (entry-free write-laws v write-here);
-        form = g .key .form;
-        slot-free = omega arith;
-        area-room = omega (arith, v .filling .packed);
-      }
+    half-past : length all ≤ k → Half way old all (k + 1) top area (set t k (way .empty))
+    half-past g = half-next (way .empty) (seen-as (h .seen) (omega arith) (sym (blank-past (way .empty) k t (h .long) l)) (take-all k all g ∙ sym (take-all (k + 1) all (omega arith))))
 
-  pub write-more : {st′ : Store} {area′ : Bytes} → Leaves (withRecord (boxOf st area) (bytesAt s (e .at) (e .len)) (keyRecordOf s e .write)) (st .top + length (bytesAt s (e .at) (e .len))) st′ area′
-      → Walking writeWay writeFrom s from count st₀ area₀ (e .next) (left - 1) st′ area′
-  write-more p = walking-more write-laws v write-here p refl
+    half-more : k < length all → {x : A} (d : B) → way .show area x ≡ getD all k d → way .Below top x → Half way old all (k + 1) top area (set t k x)
+    half-more g {x} d e p =
+        half-next x
+        (seen-as (seen-more (seen-as (h .seen) (omega arith) refl refl) l e p) (omega arith) (sym (blank-put (way .empty) k t (h .long) l x))
+        (sym (take-suc all k d g) ∙ ap (λ (n : ℕ). take n all) (sym (add-one k))))
 
--- ---- locks
+  pub half-end : {P : A → Type 0} {m : ℕ} → Table P (way .empty) 1024 m old → m ≤ k → length all ≤ k → Seen way top area (length all) t all
+  half-end o q g =
+      seen-as (h .seen) (omega arith) (ap (λ (r : List A). take k t ++ r) (sym (h .rest ∙ rest-empty (way .empty) o q (h .low))) ∙ take-append-drop k t) (take-all k all g)
 
--- "primary a key"
-primary-form : (l : Lock) → soundLock l ≡ true → keyForm (l .primary) ≡ true
-unfolding soundLock
-primary-form l h = and-right (not (eqb (l .txn) 0) && not (eqb (l .start) 0) && not (eqb (l .ttl) 0) && not (eqKind (l .kind) Rollback)) (keyForm (l .primary)) h
+-- ---- one more of the entries that a list of places tells
 
-module _ {s : Bytes} {from count : ℕ} {st₀ : Store} {area₀ : Bytes} {at left : ℕ} {st : Store} {area : Bytes} (v : Walking lockWay keyLockFrom s from count st₀ area₀ at left st area) {e : Locked} (q : LockedAt s at e) (more : 0 < left) where
-  lock-here : Next keyLockFrom s at left (e .ok) (keyLockOf s e) (e .next)
-  lock-here = lock-next (v .filling .form) q more
+pub comes-up : {A B : Type 0} {way : Way A B} {x : B} (t : Bool) {area area′ : Bytes} {top end : ℕ} {r : A} → Comes way x t area top r end area′ → top ≤ end
+comes-up true c = omega (arith, c .stands refl .end-is)
+comes-up false c = omega (arith, c .none refl .1)
 
-  pub lock-asks : {first : ℕ} → first ≡ linesBefore (bytesAt s (e .at) (e .len)) (boxOf st area .lines) → LockAsks st area first (bytesAt s (e .at) (e .len)) (bytesAt s (e .pat) (e .plen))
-  lock-asks p =
-      let g = good-lock (v .filling .table) (keyLockOf s e) (entry-good lock-laws v lock-here) in
-      let t = entry-fits lock-laws v lock-here in
-      let w = key-bounds (bytesAt s (e .pat) (e .plen)) (primary-form (keyLockOf s e .lock) (g .sound)) in
-      record {
-        built = v .filling .built;
-        at = p;
-        free = none-there _ (entry-free lock-laws v lock-here);
-        form = g .key .form;
-        primary-some = omega arith;
-        primary-short = omega arith;
-        slot-free = omega arith;
-        area-room = omega (arith, v .filling .packed);
-      }
+-- the entries at the first n places of a list, and that it has so many
+abbrev pub entries : {B : Type 0} → (ℕ → B) → List ℕ → ℕ → List B
+entries at places n = map at (take n places)
 
-  pub lock-more : {st′ : Store} {area′ : Bytes}
-      → Leaves (withLock (boxOf st area) (bytesAt s (e .at) (e .len)) (keyLockOf s e .lock)) (st .top + length (bytesAt s (e .at) (e .len)) + length (bytesAt s (e .pat) (e .plen))) st′ area′
-      → Walking lockWay keyLockFrom s from count st₀ area₀ (e .next) (left - 1) st′ area′
-  lock-more p = walking-more lock-laws v lock-here p (omega arith)
+pub record Told {B : Type 0} (at : ℕ → B) (places : List ℕ) (n : ℕ) : Type 0 where
+  pub few : n ≤ length places
+
+module _ {B : Type 0} {at : ℕ → B} {places : List ℕ} {n : ℕ} (w : Told at places n) where
+  pub told-long : length (entries at places n) ≡ n
+  told-long = length-map (take n places) at ∙ length-take-le n places (w .few)
+
+  told-at : {k : ℕ} → k < n → getD (entries at places n) k (at 0) ≡ at (getD places k 0)
+  told-at {k} l = List·getD-map at (take n places) k 0 ∙ ap at (getD-take n places k 0 l)
+
+  -- the bytes of those from k on
+  told-next : (size : B → ℕ) {k : ℕ} → k < n → sumOf size (drop k (entries at places n)) ≡ size (at (getD places k 0)) + sumOf size (drop (k + 1) (entries at places n))
+  unfolding sumOf
+  told-next size {k} l =
+      let g : k < length (entries at places n) = omega (arith, told-long) in
+      ap (sumOf size) (drop-cons (entries at places n) k (at 0) g) ∙ ap₂ (λ (x : B) (m : ℕ). size x + sumOf size (drop m (entries at places n))) (told-at l) (sym (add-one k))
+
+  pub told-past : (size : B → ℕ) (k : ℕ) → n ≤ k → sumOf size (drop k (entries at places n)) ≡ 0
+  unfolding sumOf
+  told-past size k l =
+      let m : length (entries at places n) ≤ k = omega (arith, told-long) in
+      ap (sumOf size) (drop-of-length-le (entries at places n) m)
+
+  module _ {A : Type 0} {way : Way A B} (k : ℕ) {top : ℕ} {area : Bytes} where
+    -- there is room for the next, where there is for all that are left
+    pub told-asks : length area ≡ 65536 → top + sumOf (way .size) (drop k (entries at places n)) < 65536 → Asks way (at (getD places k 0)) (ltb k n) area top
+    told-asks h g = record { long = h; room = λ l. omega (arith, told-next (way .size) (ltb-true k n l)) }
+
+    module _ {end : ℕ} {area′ : Bytes} {r : A} where
+      -- it takes its bytes from those that are left
+      pub comes-left : (t : Bool) → ltb k n ≡ t → Comes way (at (getD places k 0)) t area top r end area′ → end + sumOf (way .size) (drop (k + 1) (entries at places n)) ≡ top + sumOf (way .size) (drop k (entries at places n))
+      comes-left true e c = omega (arith, c .stands refl .end-is, told-next (way .size) (ltb-true k n e))
+      comes-left false e c =
+          let l : n ≤ k = ltb-false k n e in
+          omega (arith, c .none refl .1, told-past (way .size) k l, told-past (way .size) (k + 1) (omega arith))
+
+      pub half-comes : (t : Bool) → ltb k n ≡ t → Comes way (at (getD places k 0)) t area top r end area′ → Framed (way .show) (way .Below) (way .size) (way .empty)
+          → {old u : List A} → Half way old (entries at places n) k top area u → k < 1024 → Half way old (entries at places n) (k + 1) end area′ (set u k r)
+      half-comes true e c f h g =
+          let l : k < n = ltb-true k n e in
+          half-more (half-kept h f (c .above) (comes-up true c)) g (omega (arith, told-long)) (at 0) (c .stands refl .shows ∙ sym (told-at l)) (c .stands refl .below)
+      half-comes false e c f {old} {u} h g =
+          let l : n ≤ k = ltb-false k n e in
+          subst (λ (x : A). Half way old (entries at places n) (k + 1) end area′ (set u k x)) (sym (c .none refl .0)) (half-past (half-kept h f (c .above) (comes-up false c)) g (omega (arith, told-long)))

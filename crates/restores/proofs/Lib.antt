@@ -1,4 +1,3 @@
-pub mod TurnLaws
-pub mod WayLaws
+pub mod EntryLaws
 pub mod FillLaws
 pub mod RestoreLaws

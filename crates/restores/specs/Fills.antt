@@ -1,74 +1,77 @@
--- A store is filled with the entries of an image, a section at a time: what the entries make of a box, what the filling asks, and what it
--- leaves.
+-- What filling a store with the entries of an image asks and leaves, an entry at a time.
 -- Assumes nothing.
-use Prim.Native.Nat.{ℕ}
 use mathlib.Core.Path.{_≡_}
-use mathlib.Core.Bool.{Bool, true, not}
-use mathlib.Core.List.{List, [], _∷_}
-use lib.ListN.{drop}
-use Rattle.forms.specs.Bytes.{Bytes}
-use Rattle.forms.specs.Readers.{Reader, isSome}
-use Rattle.rules.specs.Box.{Box, Default, recordsOf, lockOf, rowOf}
-use Rattle.rules.specs.Room.{loadOf, Fits}
-use Rattle.rules.specs.Calls.{stampedAt}
-use Rattle.rules.specs.Page.{KeyLock}
-use Rattle.rules.specs.Image.{KeyRecord}
-use Rattle.rules.specs.Restore.{goodDefault, goodLock, goodWrite, allGood, noSecond, likeDefault, likeLock, likeWrite}
-use Rattle.lines.specs.declared.store.Store.{Store}
-use Rattle.lines.specs.View.{boxOf}
-use Rattle.lines.specs.Made.{Built}
-use Rattle.changes.specs.Changes.{withRow, withRecord, withLock}
-use Rattle.images.specs.Sections.{listed, InForm}
+use mathlib.Core.Bool.{Bool, true, false}
+use Prim.Native.Nat.{ℕ, _+_, _<_}
+use lib.ListN.{length}
+use Rattle.forms.specs.Bytes.{Bytes, bytesAt}
+use Rattle.rules.specs.declared.records.Kind.{Kind}
+use Rattle.rules.specs.Box as box
+use Rattle.lines.specs.declared.store.Line.{Line}
+use Rattle.lines.specs.declared.store.Line.the-variants.{Standing, Finished}
+use Rattle.lines.specs.declared.store.Slot.{Slot}
+use Rattle.lines.specs.declared.store.Held.{Held}
+use Rattle.lines.specs.View.{lineOf, defaultOf, noSlot, noHeld}
+use Rattle.lines.specs.Made.{SlotBelow, HeldBelow}
+use Rattle.areas.specs.Packs.{Above, sizeOf, rowSize}
+use Rattle.images.specs.Entries.{rawAt, EntryAt}
+use Rattle.images.specs.declared.entries.Section.{Section}
+use Rattle.images.specs.declared.entries.Section.the-variants.{Lock, Write}
+use Rattle.images.specs.declared.entries.Entry.{Entry}
+use Rattle.judging.specs.Sections.{rawBytes}
 
--- how the entries of a section come into a box: what one makes of it, when it is good, when two are alike, and whether its place is free
-pub record Way (A : Type 0) : Type 0 where
-  pub put : A → Box → Box
-  pub good : ℕ → A → Bool
-  pub like : A → A → Bool
-  pub free : A → Box → Bool
+-- ---- the bytes of an entry
 
-abbrev pub defaultWay : Way Default
-defaultWay = record {
-  put = λ (d : Default) (b : Box). withRow b d;
-  good = goodDefault;
-  like = likeDefault;
-  free = λ (d : Default) (b : Box). not (isSome (rowOf (d .key) (d .start) (b .defaults)));
-}
+pub record Brings (section : Section) (s : Bytes) (p : ℕ) (area : Bytes) (top : ℕ) : Type 0 where
+  pub long : length area ≡ 65536
+  pub room : top + rawBytes (rawAt section s p) < 65536
 
-abbrev pub writeWay : Way KeyRecord
-writeWay = record {
-  put = λ (x : KeyRecord) (b : Box). withRecord b (x .key) (x .write);
-  good = goodWrite;
-  like = likeWrite;
-  free = λ (x : KeyRecord) (b : Box). not (isSome (stampedAt (x .write .stamp) (recordsOf (x .key) (b .lines))));
-}
+-- the key of the entry at p stands at the top, and its piece after it
+pub record Brought (section : Section) (s : Bytes) (p : ℕ) (area : Bytes) (top : ℕ) (e : Entry) (area′ : Bytes) : Type 0 where
+  pub entry : EntryAt section s p e
+  pub room : top + e .len + e .plen < 65536
+  pub above : Above area top area′
+  pub key-is : bytesAt area′ top (e .len) ≡ bytesAt s (e .at) (e .len)
+  pub piece-is : bytesAt area′ (top + e .len) (e .plen) ≡ bytesAt s (e .pat) (e .plen)
 
-abbrev pub lockWay : Way KeyLock
-lockWay = record {
-  put = λ (x : KeyLock) (b : Box). withLock b (x .key) (x .lock);
-  good = goodLock;
-  like = likeLock;
-  free = λ (x : KeyLock) (b : Box). not (isSome (lockOf (x .key) (b .lines)));
-}
+-- ---- the numbers of a line
 
--- all of them
-unfoldable pub putAll : {A : Type 0} → (A → Box → Box) → List A → Box → Box
-putAll put [] b = b
-putAll put (x ∷ xs) b = put x (putAll put xs b)
+abbrev pub sectionFor : Bool → Section
+sectionFor true = Lock
+sectionFor false = Write
 
--- the entries still to come stand in form; they are good, no two are alike, each has a free place, and all of them have room. Nothing has
--- gone from the store: the top is its live bytes.
-pub record Filling {A : Type 0} (way : Way A) (r : Reader A) (s : Bytes) (at left : ℕ) (st : Store) (area : Bytes) : Type 0 where
-  pub built : Built st area
-  pub packed : st .top ≡ st .load .bytes
-  pub form : InForm r s at left
-  pub table : ℕ
-  pub good : allGood (way .good table) (listed r left (drop at s)) ≡ true
-  pub once : noSecond (way .like) (listed r left (drop at s)) ≡ true
-  pub free : allGood (λ (x : A). way .free x (boxOf st area)) (listed r left (drop at s)) ≡ true
-  pub room : Fits (loadOf (putAll (way .put) (listed r left (drop at s)) (boxOf st area)))
+abbrev pub lineFor : Bool → Entry → Kind → ℕ → ℕ → Line
+lineFor true e kind at len = Standing (record { txn = e .one; start = e .two; ttl = e .three; at = at; len = len; kind = kind })
+lineFor false e kind at len = Finished (record { stamp = e .one; start = e .two; commit = e .three; kind = kind })
 
-pub record Filled (b : Box) (st : Store) (area : Bytes) : Type 0 where
-  pub built : Built st area
-  pub packed : st .top ≡ st .load .bytes
-  pub shown : boxOf st area ≡ b
+-- ---- an entry in a table
+
+-- how a table's elements show entries: what one shows, that its bytes lie below a place, the bytes of an entry, and the empty element
+pub record Way (A B : Type 0) : Type 1 where
+  pub show : Bytes → A → B
+  pub Below : ℕ → A → Type 0
+  pub size : B → ℕ
+  pub empty : A
+
+abbrev pub rowWay : Way Held box.Default
+rowWay = record { show = defaultOf; Below = HeldBelow; size = rowSize; empty = noHeld }
+
+abbrev pub lineWay : Way Slot box.KeyLine
+lineWay = record { show = lineOf; Below = SlotBelow; size = sizeOf; empty = noSlot }
+
+-- the entry x that comes, if one comes, has room
+pub record Asks {A B : Type 0} (way : Way A B) (x : B) (here : Bool) (area : Bytes) (top : ℕ) : Type 0 where
+  pub long : length area ≡ 65536
+  pub room : here ≡ true → top + way .size x < 65536
+
+-- an element shows x, whose bytes lie from `top` to `end`
+pub record Stood {A B : Type 0} (way : Way A B) (x : B) (top : ℕ) (r : A) (end : ℕ) (area : Bytes) : Type 0 where
+  pub shows : way .show area r ≡ x
+  pub below : way .Below end r
+  pub end-is : end ≡ top + way .size x
+
+-- the element that x gives, or the empty one
+pub record Comes {A B : Type 0} (way : Way A B) (x : B) (here : Bool) (area : Bytes) (top : ℕ) (r : A) (end : ℕ) (area′ : Bytes) : Type 0 where
+  pub above : Above area top area′
+  pub stands : here ≡ true → Stood way x top r end area′
+  pub none : here ≡ false → (r ≡ way .empty) × (end ≡ top)

@@ -1,27 +1,14 @@
 -- The promise of restore: `d` is the definition's answer and the box after it.
 -- Assumes nothing.
 use mathlib.Core.Path.{_≡_}
-use lib.ListN.{length}
 use Rattle.forms.specs.Bytes.{Bytes}
 use Rattle.rules.specs.declared.answers.Answer.the-variants.{Accepted}
-use Rattle.rules.specs.Box.{Box}
 use Rattle.rules.specs.Calls.{Done}
-use Rattle.rules.specs.Restore.{restore}
 use Rattle.lines.specs.declared.store.Store.{Store}
 use Rattle.lines.specs.View.{boxOf}
 use Rattle.lines.specs.Made.{Made}
 use Rattle.calls.specs.declared.changed.Changed.{Changed}
 use Rattle.calls.specs.Settled.{Untouched}
-
--- an image that restore accepts, whatever it replaces, and an area for its bytes
-pub record Taken (s area : Bytes) : Type 0 where
-  pub accepted : (b : Box) → Accepted ≡ restore s b .answer
-  pub long : length area ≡ 65536
-
--- the store shows what restore leaves
-pub record Stocked (s : Bytes) (st : Store) (area : Bytes) : Type 0 where
-  pub made : Made st area
-  pub is : (b : Box) → restore s b ≡ record { answer = Accepted; box = boxOf st area }
 
 -- the answer is the definition's, the store is made and shows the definition's box, and "A refusal changes nothing in store or buffers"
 pub record Replaced (st : Store) (area : Bytes) (d : Done) (r : Changed) (area′ : Bytes) : Type 0 where

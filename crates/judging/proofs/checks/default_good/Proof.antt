@@ -1,12 +1,19 @@
--- `judging::checks::default_good` meets its contract: each way out is a law of `GoodLaws`, and a part that starts at a place and ends a length later
--- is the bytes at that place.
--- Assumes nothing.
-use Rattle.judging.proofs.GoodLaws.{default-key, default-start, default-row}
-use Rattle.images.specs.Entries.{defaultOf}
 use native.Mathlib.Nat.{add-sub-cancel-left}
+use Rattle.images.specs.Entries.{rawOf}
+use Rattle.judging.specs.Good.{defaultOf}
+use Rattle.judging.proofs.GoodLaws.{default-key, default-start, default-row}
+use borrow.Author.Needs.{needs}
+use native.Mathlib.Omega.{arith}
+use Prim.Native.Nat.{ℕ, suc, _+_, _-_, _*_, _<_, _≤_}
+use mathlib.Core.Path.{_≡_, refl, sym, ap, _∙_}
+use lib.ListN.{length, getD, take, drop, set, length-set}
 use borrow.Author.Needs.{needs}
 use Rattle.judging.proofs.checks.default_good.Statement.{statement}
 use Rattle.judging.proofs.checks.default_good.Tie as tie
+use Rattle.judging.proofs.checks.default_good.Reads as reads
+use Rattle.judging.proofs.checks.default_good.Lts as lts
+use Rattle.forms.proofs.row_in_form.Reads as row-in-form-reads
+use Rattle.judging.proofs.checks.of_table.Reads as of-table-reads
 
 add-b : tie.Need-add-b
 add-b c = search needs
@@ -24,10 +31,10 @@ of-table-requires : tie.Need-of-table-requires
 of-table-requires c κs = search needs
 
 returns : tie.Need-returns
-returns c = default-key _ (defaultOf ((c .before .before .before .before .before .args) .s .now) ((c .before .before .before .before .before .args) .e)) (simp add-sub-cancel-left at ((c .before .of-table) .ensures)) ((c .if1) .taken)
+returns c = default-key _ (defaultOf (rawOf ((c .before .before .before .before .before .args) .s .now) ((c .before .before .before .before .before .args) .e))) (simp add-sub-cancel-left at ((c .before .of-table) .ensures)) ((c .if1) .taken)
 
 returns-2 : tie.Need-returns-2
-returns-2 c = default-start _ (defaultOf ((c .before .before .before .before .before .before .before .args) .s .now) ((c .before .before .before .before .before .before .before .args) .e)) (simp add-sub-cancel-left at ((c .before .before .before .of-table) .ensures)) ((c .if2) .taken)
+returns-2 c = default-start _ (defaultOf (rawOf ((c .before .before .before .before .before .before .before .args) .s .now) ((c .before .before .before .before .before .before .before .args) .e))) (simp add-sub-cancel-left at ((c .before .before .before .of-table) .ensures)) ((c .if2) .taken)
 
 add-d : tie.Need-add-d
 add-d c = search needs
@@ -45,7 +52,7 @@ row-in-form-requires : tie.Need-row-in-form-requires
 row-in-form-requires c κs = search needs
 
 returns-3 : tie.Need-returns-3
-returns-3 c = default-row _ (defaultOf ((c .before .before .before .before .before .before .before .before .before .before .args) .s .now) ((c .before .before .before .before .before .before .before .before .before .before .args) .e)) (simp add-sub-cancel-left at ((c .before .before .before .before .before .before .of-table) .ensures)) ((c .before .before .before .before .before .if1) .left) ((c .before .before .before .if2) .left) (simp add-sub-cancel-left at ((c .row-in-form) .ensures))
+returns-3 c = default-row _ (defaultOf (rawOf ((c .before .before .before .before .before .before .before .before .before .before .args) .s .now) ((c .before .before .before .before .before .before .before .before .before .before .args) .e))) (simp add-sub-cancel-left at ((c .before .before .before .before .before .before .of-table) .ensures)) ((c .before .before .before .before .before .if1) .left) ((c .before .before .before .if2) .left) (simp add-sub-cancel-left at ((c .row-in-form) .ensures))
 
 pub default-good-spec : {M : Type 1} → statement M
 default-good-spec =

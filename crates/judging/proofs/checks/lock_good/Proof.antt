@@ -1,12 +1,21 @@
--- `judging::checks::lock_good` meets its contract: each way out is a law of `GoodLaws`, and a part that starts at a place and ends a length later
--- is the bytes at that place.
--- Assumes nothing.
-use Rattle.judging.proofs.GoodLaws.{lock-key, lock-txn, lock-start, lock-ttl, lock-kind, lock-primary}
-use Rattle.images.specs.Entries.{keyLockOf}
 use native.Mathlib.Nat.{add-sub-cancel-left}
+use Rattle.images.specs.Entries.{rawOf}
+use Rattle.judging.specs.Good.{keyLockOf}
+use Rattle.judging.proofs.GoodLaws.{lock-key, lock-txn, lock-start, lock-ttl, lock-kind, lock-primary}
+use borrow.Author.Needs.{needs}
+use native.Mathlib.Omega.{arith}
+use Prim.Native.Nat.{ℕ, suc, _+_, _-_, _*_, _<_, _≤_}
+use mathlib.Core.Path.{_≡_, refl, sym, ap, _∙_}
+use lib.ListN.{length, getD, take, drop, set, length-set}
 use borrow.Author.Needs.{needs}
 use Rattle.judging.proofs.checks.lock_good.Statement.{statement}
 use Rattle.judging.proofs.checks.lock_good.Tie as tie
+use Rattle.judging.proofs.checks.lock_good.Reads as reads
+use Rattle.judging.proofs.checks.lock_good.Lts as lts
+use Rattle.forms.proofs.key_in_form.Reads as key-in-form-reads
+use Rattle.judging.proofs.checks.kind_of.Reads as kind-of-reads
+use Rattle.judging.proofs.checks.may_stand.Reads as may-stand-reads
+use Rattle.judging.proofs.checks.of_table.Reads as of-table-reads
 
 add-b : tie.Need-add-b
 add-b c = search needs
@@ -24,22 +33,25 @@ of-table-requires : tie.Need-of-table-requires
 of-table-requires c κs = search needs
 
 returns : tie.Need-returns
-returns c = lock-key _ (keyLockOf ((c .before .before .before .before .before .args) .s .now) ((c .before .before .before .before .before .args) .e)) (simp add-sub-cancel-left at ((c .before .of-table) .ensures)) ((c .if1) .taken)
+returns c = lock-key _ (keyLockOf (rawOf ((c .before .before .before .before .before .args) .s .now) ((c .before .before .before .before .before .args) .e))) (simp add-sub-cancel-left at ((c .before .of-table) .ensures)) ((c .if1) .taken)
 
 returns-2 : tie.Need-returns-2
-returns-2 c = lock-txn _ (keyLockOf ((c .before .before .before .before .before .before .before .args) .s .now) ((c .before .before .before .before .before .before .before .args) .e)) (simp add-sub-cancel-left at ((c .before .before .before .of-table) .ensures)) ((c .if2) .taken)
+returns-2 c = lock-txn _ (keyLockOf (rawOf ((c .before .before .before .before .before .before .before .args) .s .now) ((c .before .before .before .before .before .before .before .args) .e))) (simp add-sub-cancel-left at ((c .before .before .before .of-table) .ensures)) ((c .if2) .taken)
 
 returns-3 : tie.Need-returns-3
-returns-3 c = lock-start _ (keyLockOf ((c .before .before .before .before .before .before .before .before .before .args) .s .now) ((c .before .before .before .before .before .before .before .before .before .args) .e)) (simp add-sub-cancel-left at ((c .before .before .before .before .before .of-table) .ensures)) ((c .if3) .taken)
+returns-3 c = lock-start _ (keyLockOf (rawOf ((c .before .before .before .before .before .before .before .before .before .args) .s .now) ((c .before .before .before .before .before .before .before .before .before .args) .e))) (simp add-sub-cancel-left at ((c .before .before .before .before .before .of-table) .ensures)) ((c .if3) .taken)
 
 returns-4 : tie.Need-returns-4
-returns-4 c = lock-ttl _ (keyLockOf ((c .before .before .before .before .before .before .before .before .before .before .before .args) .s .now) ((c .before .before .before .before .before .before .before .before .before .before .before .args) .e)) (simp add-sub-cancel-left at ((c .before .before .before .before .before .before .before .of-table) .ensures)) ((c .if4) .taken)
+returns-4 c = lock-ttl _ (keyLockOf (rawOf ((c .before .before .before .before .before .before .before .before .before .before .before .args) .s .now) ((c .before .before .before .before .before .before .before .before .before .before .before .args) .e))) (simp add-sub-cancel-left at ((c .before .before .before .before .before .before .before .of-table) .ensures)) ((c .if4) .taken)
+
+kind-of-requires : tie.Need-kind-of-requires
+kind-of-requires c κs = search needs
 
 may-stand-requires : tie.Need-may-stand-requires
 may-stand-requires c κs = search needs
 
 returns-5 : tie.Need-returns-5
-returns-5 c = lock-kind _ (keyLockOf ((c .before .before .before .before .before .before .before .before .before .before .before .before .before .args) .s .now) ((c .before .before .before .before .before .before .before .before .before .before .before .before .before .args) .e)) (simp add-sub-cancel-left at ((c .before .before .before .before .before .before .before .before .before .of-table) .ensures)) ((c .before .may-stand) .ensures) ((c .if5) .taken)
+returns-5 c = lock-kind _ (keyLockOf (rawOf ((c .before .before .before .before .before .before .before .before .before .before .before .before .before .before .args) .s .now) ((c .before .before .before .before .before .before .before .before .before .before .before .before .before .before .args) .e))) (simp add-sub-cancel-left at ((c .before .before .before .before .before .before .before .before .before .before .of-table) .ensures)) (rw ((c .before .before .kind-of) .ensures) at ((c .before .may-stand) .ensures)) ((c .if5) .taken)
 
 add-d : tie.Need-add-d
 add-d c = search needs
@@ -57,7 +69,7 @@ key-in-form-requires : tie.Need-key-in-form-requires
 key-in-form-requires c κs = search needs
 
 returns-6 : tie.Need-returns-6
-returns-6 c = lock-primary _ (keyLockOf ((c .before .before .before .before .before .before .before .before .before .before .before .before .before .before .before .before .args) .s .now) ((c .before .before .before .before .before .before .before .before .before .before .before .before .before .before .before .before .args) .e)) (simp add-sub-cancel-left at ((c .before .before .before .before .before .before .before .before .before .before .before .before .of-table) .ensures)) ((c .before .before .before .before .before .before .before .before .before .before .before .if1) .left) ((c .before .before .before .before .before .before .before .before .before .if2) .left) ((c .before .before .before .before .before .before .before .if3) .left) ((c .before .before .before .before .before .if4) .left) ((c .before .before .before .before .may-stand) .ensures) ((c .before .before .before .if5) .left) (simp add-sub-cancel-left at ((c .key-in-form) .ensures))
+returns-6 c = lock-primary _ (keyLockOf (rawOf ((c .before .before .before .before .before .before .before .before .before .before .before .before .before .before .before .before .before .args) .s .now) ((c .before .before .before .before .before .before .before .before .before .before .before .before .before .before .before .before .before .args) .e))) (simp add-sub-cancel-left at ((c .before .before .before .before .before .before .before .before .before .before .before .before .before .of-table) .ensures)) ((c .before .before .before .before .before .before .before .before .before .before .before .before .if1) .left) ((c .before .before .before .before .before .before .before .before .before .before .if2) .left) ((c .before .before .before .before .before .before .before .before .if3) .left) ((c .before .before .before .before .before .before .if4) .left) (rw ((c .before .before .before .before .before .kind-of) .ensures) at ((c .before .before .before .before .may-stand) .ensures)) ((c .before .before .before .if5) .left) (simp add-sub-cancel-left at ((c .key-in-form) .ensures))
 
 pub lock-good-spec : {M : Type 1} → statement M
 lock-good-spec =
@@ -72,6 +84,7 @@ lock-good-spec =
     returns-2
     returns-3
     returns-4
+    kind-of-requires
     may-stand-requires
     returns-5
     add-d

@@ -1,9 +1,16 @@
--- `judging::checks::of_table` meets its contract: each way out is a law of `GoodLaws`.
--- Assumes nothing.
 use Rattle.judging.proofs.GoodLaws.{table-no-key, table-is}
+use borrow.Author.Needs.{needs}
+use native.Mathlib.Omega.{arith}
+use Prim.Native.Nat.{ℕ, suc, _+_, _-_, _*_, _<_, _≤_}
+use mathlib.Core.Path.{_≡_, refl, sym, ap, _∙_}
+use lib.ListN.{length, getD, take, drop, set, length-set}
 use borrow.Author.Needs.{needs}
 use Rattle.judging.proofs.checks.of_table.Statement.{statement}
 use Rattle.judging.proofs.checks.of_table.Tie as tie
+use Rattle.judging.proofs.checks.of_table.Reads as reads
+use Rattle.judging.proofs.checks.of_table.Lts as lts
+use Rattle.forms.proofs.key_in_form.Reads as key-in-form-reads
+use Rattle.forms.proofs.number_at.Reads as number-at-reads
 
 key-in-form-requires : tie.Need-key-in-form-requires
 key-in-form-requires c κs = search needs

@@ -1,37 +1,65 @@
--- `restores::replace::restore` meets its contract: a refusal leaves store and area, and an accepted image is the box of the new store
--- (`RestoreLaws`).
+-- `restores::replace::restore` meets its contract. The loop's invariant: the first k places of both tables are filled (`Filling` of
+-- `RestoreLaws`). The measure is how many are left.
 -- Assumes nothing.
-use Rattle.calls.proofs.SettledLaws.{is-accepted, is-refusal}
-use Rattle.restores.proofs.RestoreLaws.{restore-refused, restore-taken, restore-done}
+use Rattle.restores.proofs.RestoreLaws.{Filling, filling-start, row-asks, line-asks, filling-more, restore-refused, restore-done}
 use borrow.Author.Needs.{needs}
+use native.Mathlib.Omega.{arith}
+use Prim.Native.Nat.{_-_}
 use Rattle.restores.proofs.replace.restore.Statement.{statement}
 use Rattle.restores.proofs.replace.restore.Tie as tie
 
-restore-check-requires : tie.Need-restore-check-requires
-restore-check-requires c κs = search needs
+abbrev Inv-loop : tie.InvT-loop
+Inv-loop area₀ image store₀ rows places v answer load end top₀ k₀ area store top k = Filling image load (v .wat) rows places store₀ end k top area store
 
-accepted-requires : tie.Need-accepted-requires
-accepted-requires c κs = search needs
+abbrev μ-loop : tie.MeasureT-loop
+μ-loop area₀ image store₀ rows places v answer load end top₀ k₀ area store top k = end - k
 
-returns : tie.Need-returns
-returns c = restore-refused _ ((c .before .before .restore-check) .ensures) (c .before .before .before .before .before .pre) (is-refusal _ ((c .before .accepted) .ensures) ((c .if1) .taken))
+loop-holds : tie.Need-loop-holds Inv-loop μ-loop
+loop-holds c = filling-start ((c .before .before .before .before .before .before .before .verdict) .ensures) ((c .before .before .before .before .accepted) .ensures) ((c .before .before .before .if1) .taken) (c .before .before .before .before .before .before .before .before .before .before .before .before .pre) ((c .places-of) .ensures)
 
-stock-requires : tie.Need-stock-requires
-stock-requires c κs = restore-taken _ ((c .before .before .before .restore-check) .ensures) (c .before .before .before .before .before .before .pre) (is-accepted _ ((c .before .before .accepted) .ensures) ((c .before .if1) .left))
+put-row-requires : tie.Need-put-row-requires Inv-loop μ-loop
+put-row-requires c κs = row-asks ((c .before .before .before .loop) .inv)
 
-same-length : tie.Need-same-length
-same-length c = search needs
+put-line-requires : tie.Need-put-line-requires Inv-loop μ-loop
+put-line-requires c κs = line-asks ((c .before .before .before .before .before .before .before .before .before .loop) .inv) ((c .before .before .before .before .before .put-row) .ensures)
 
-returns-2 : tie.Need-returns-2
-returns-2 c = restore-done _ ((c .before .before .before .before .before .before .restore-check) .ensures) ((c .before .before .stock) .ensures)
+loop-less : tie.Need-loop-less Inv-loop μ-loop
+loop-less c = omega (arith, (c .before .before .before .before .before .before .before .before .before .before .before .before .loop-test) .taken)
+
+loop-again : tie.Need-loop-again Inv-loop μ-loop
+loop-again c = filling-more ((c .before .before .before .before .before .before .before .before .before .before .before .before .before .loop) .inv) ((c .before .before .before .before .before .before .before .before .before .put-row) .ensures) ((c .before .before .before .put-line) .ensures) ((c .before .before .before .before .before .before .before .before .before .before .before .before .loop-test) .taken)
+
+returns : tie.Need-returns Inv-loop μ-loop
+returns c = restore-done ((c .before .before .before .before .before .before .before .before .before .verdict) .ensures) ((c .before .before .before .before .before .before .accepted) .ensures) (c .before .before .before .before .before .before .before .before .before .before .before .before .before .before .pre) ((c .before .before .before .before .before .if1) .taken) ((c .before .loop) .inv) ((c .before .before .places-of) .ensures) ((c .loop-test) .left)
+
+returns-2 : tie.Need-returns-2 Inv-loop μ-loop
+returns-2 c = restore-refused ((c .before .before .before .before .verdict) .ensures) ((c .before .accepted) .ensures) (c .before .before .before .before .before .before .before .before .before .pre) ((c .if1) .left)
 
 pub restore-spec : {M : Type 1} → statement M
 restore-spec =
     tie.close
     (tie.spec
-    restore-check-requires
-    accepted-requires
+    Inv-loop
+    μ-loop
+    (λ c. search needs)
+    (λ c. search needs)
+    (λ c κs. search needs)
+    (λ c κs. search needs)
+    (λ c κs. search needs)
+    loop-holds
+    (λ c. search needs)
+    (λ c. search needs)
+    put-row-requires
+    (λ c. search needs)
+    (λ c. search needs)
+    (λ c. search needs)
+    (λ c. search needs)
+    put-line-requires
+    (λ c. search needs)
+    (λ c. search needs)
+    (λ c. search needs)
+    loop-less
+    loop-again
+    (λ c. search needs)
     returns
-    stock-requires
-    same-length
     returns-2)

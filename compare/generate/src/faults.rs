@@ -1,0 +1,268 @@
+//! One fault in an image, of each kind and at each place.
+
+use paper::restore::{Image, RawLock, RawRecord};
+use paper::store::Bytes;
+
+use crate::orders::{Mark, default_mark, lock_mark, write_mark};
+use crate::random::Random;
+use crate::stock::{Stock, row, row_out_of_form};
+
+/// What is at fault, and nothing else: where an entry's key or start would be missed by another entry, an entry of its own
+/// is added.
+#[derive(Clone, Copy, Debug, PartialEq, Eq, PartialOrd, Ord)]
+pub enum Fault {
+    Trailing,
+    Missing,
+    Cut,
+    Count,
+    Table,
+    DefaultKey,
+    DefaultTable,
+    DefaultStart,
+    DefaultRow,
+    SecondDefault,
+    LockKey,
+    LockTable,
+    LockTransaction,
+    LockStart,
+    LockTimeToLive,
+    LockKind,
+    LockPrimary,
+    SecondLock,
+    WriteKey,
+    WriteTable,
+    WriteStamp,
+    WriteStart,
+    WriteKind,
+    WriteCommit,
+    RollbackStart,
+    RollbackCommit,
+    SecondWrite,
+    PutWithoutDefault,
+}
+
+/// The faults of the image as a whole.
+pub const WHOLE: [Fault; 5] = [Fault::Trailing, Fault::Missing, Fault::Cut, Fault::Count, Fault::Table];
+
+/// The faults of an entry.
+pub const OF_ENTRIES: [Fault; 23] = [
+    Fault::DefaultKey,
+    Fault::DefaultTable,
+    Fault::DefaultStart,
+    Fault::DefaultRow,
+    Fault::SecondDefault,
+    Fault::LockKey,
+    Fault::LockTable,
+    Fault::LockTransaction,
+    Fault::LockStart,
+    Fault::LockTimeToLive,
+    Fault::LockKind,
+    Fault::LockPrimary,
+    Fault::SecondLock,
+    Fault::WriteKey,
+    Fault::WriteTable,
+    Fault::WriteStamp,
+    Fault::WriteStart,
+    Fault::WriteKind,
+    Fault::WriteCommit,
+    Fault::RollbackStart,
+    Fault::RollbackCommit,
+    Fault::SecondWrite,
+    Fault::PutWithoutDefault,
+];
+
+/// Those of them that an entry has only beside others.
+const AGAINST_OTHERS: [Fault; 4] =
+    [Fault::SecondDefault, Fault::SecondLock, Fault::SecondWrite, Fault::PutWithoutDefault];
+
+/// Which entry of its section is at fault.
+#[derive(Clone, Copy, Debug, PartialEq, Eq, PartialOrd, Ord)]
+pub enum Place {
+    First,
+    Last,
+    /// The least by key, then start or stamp, wherever it stands.
+    Least,
+    Greatest,
+    Any,
+}
+
+pub const PLACES: [Place; 5] = [Place::First, Place::Last, Place::Least, Place::Greatest, Place::Any];
+
+impl Place {
+    /// The place of the entry meant, of which there is one.
+    fn of<T>(self, random: &mut Random, entries: &[T], mark: fn(&T) -> Mark<'_>) -> usize {
+        let by_mark = |left: &usize, right: &usize| mark(&entries[*left]).cmp(&mark(&entries[*right]));
+        match self {
+            Place::First => 0,
+            Place::Last => entries.len() - 1,
+            Place::Least => (0..entries.len()).min_by(by_mark).expect("an entry"),
+            Place::Greatest => (0..entries.len()).max_by(by_mark).expect("an entry"),
+            Place::Any => random.below(entries.len()),
+        }
+    }
+}
+
+/// An image with a fault drawn at a place drawn, its bytes.
+pub fn any(random: &mut Random, stock: &Stock, image: Image) -> Bytes {
+    let fault = match random.below(100) {
+        0..15 => *random.pick(&WHOLE),
+        15..45 => *random.pick(&AGAINST_OTHERS),
+        _ => *random.pick(&OF_ENTRIES),
+    };
+    let place = *random.pick(&PLACES);
+    one(random, stock, image, fault, place)
+}
+
+/// The bytes of an image with this fault at this place; where the section has no entry, with a byte that follows.
+pub fn one(random: &mut Random, stock: &Stock, mut image: Image, fault: Fault, place: Place) -> Bytes {
+    if WHOLE.contains(&fault) {
+        return whole(random, image, fault);
+    }
+    let done = in_default(random, stock, &mut image, fault, place)
+        .or_else(|| in_lock(random, stock, &mut image, fault, place))
+        .or_else(|| in_write(random, stock, &mut image, fault, place));
+    if done.is_some() { image.write() } else { whole(random, image, Fault::Trailing) }
+}
+
+fn whole(random: &mut Random, image: Image, fault: Fault) -> Bytes {
+    if fault == Fault::Table {
+        return Image { table: 0, ..if random.percent(50) { Image::default() } else { image } }.write();
+    }
+    let mut bytes = image.write();
+    match fault {
+        Fault::Missing => {
+            bytes.pop();
+        }
+        Fault::Cut => bytes.truncate(random.below(bytes.len())),
+        Fault::Count => {
+            let at = *random.pick(&counts(image));
+            bytes[at] = bytes[at].wrapping_add(*random.pick(&[1, 255]));
+        }
+        _ => bytes.push(*random.pick(&[0, 1, 255])),
+    }
+    bytes
+}
+
+/// Where the low bytes of the three counts stand.
+fn counts(image: Image) -> [usize; 3] {
+    let bytes_of = |image: Image| image.write().len() - Image::default().write().len();
+    let defaults = bytes_of(Image { defaults: image.defaults, ..Image::default() });
+    let locks = bytes_of(Image { locks: image.locks, ..Image::default() });
+    [5, 7 + defaults, 9 + defaults + locks]
+}
+
+/// The same key in another table.
+fn foreign(key: &Bytes) -> Bytes {
+    let mut other = key.clone();
+    other[0] ^= 1;
+    if other[..4] == [0, 0, 0, 0] {
+        other[3] = 1;
+    }
+    other
+}
+
+/// Adds an entry at the place, or anywhere where the place is the order's.
+fn add<T>(random: &mut Random, entries: &mut Vec<T>, entry: T, place: Place) {
+    let at = match place {
+        Place::First => 0,
+        Place::Last => entries.len(),
+        _ => random.below(entries.len() + 1),
+    };
+    entries.insert(at, entry);
+}
+
+/// Adds an entry like the one at this place: beside it, or as far from it as can be.
+fn again<T>(random: &mut Random, entries: &mut Vec<T>, entry: T, at: usize) {
+    let far = if 2 * at < entries.len() { entries.len() } else { 0 };
+    let at = *random.pick(&[at, at + 1, far, far]);
+    entries.insert(at, entry);
+}
+
+fn in_default(random: &mut Random, stock: &Stock, image: &mut Image, fault: Fault, place: Place) -> Option<()> {
+    let defaults = &mut image.defaults;
+    if !(Fault::DefaultKey..=Fault::SecondDefault).contains(&fault) || defaults.is_empty() {
+        return None;
+    }
+    let at = place.of(random, defaults, default_mark);
+    let (key, start, _) = defaults[at].clone();
+    match fault {
+        Fault::DefaultKey => {
+            let entry = (stock.key_out_of_form(random, false), start, row(random));
+            add(random, defaults, entry, place);
+        }
+        Fault::DefaultTable => {
+            let entry = (foreign(&key), start, row(random));
+            add(random, defaults, entry, place);
+        }
+        Fault::DefaultStart => {
+            let entry = (key, 0, row(random));
+            add(random, defaults, entry, place);
+        }
+        Fault::DefaultRow => defaults[at].2 = row_out_of_form(random, false),
+        _ => {
+            let entry = (key, start, row(random));
+            again(random, defaults, entry, at);
+        }
+    }
+    Some(())
+}
+
+fn in_lock(random: &mut Random, stock: &Stock, image: &mut Image, fault: Fault, place: Place) -> Option<()> {
+    let locks = &mut image.locks;
+    if !(Fault::LockKey..=Fault::SecondLock).contains(&fault) || locks.is_empty() {
+        return None;
+    }
+    let at = place.of(random, locks, lock_mark);
+    let (key, lock) = &mut locks[at];
+    match fault {
+        Fault::LockKey => *key = stock.key_out_of_form(random, false),
+        Fault::LockTable => *key = foreign(key),
+        Fault::LockTransaction => lock.transaction = 0,
+        Fault::LockStart => lock.start = 0,
+        Fault::LockTimeToLive => lock.time_to_live = 0,
+        Fault::LockKind => lock.kind = *random.pick(&[0, 3, 3, 3, 4, 255]),
+        Fault::LockPrimary => lock.primary = stock.key_out_of_form(random, false),
+        _ => {
+            let entry = (key.clone(), RawLock { start: random.between(1, 9) as u64, ..lock.clone() });
+            again(random, locks, entry, at);
+        }
+    }
+    Some(())
+}
+
+fn in_write(random: &mut Random, stock: &Stock, image: &mut Image, fault: Fault, place: Place) -> Option<()> {
+    let writes = &mut image.writes;
+    if !(Fault::WriteKey..=Fault::PutWithoutDefault).contains(&fault) || writes.is_empty() {
+        return None;
+    }
+    let at = place.of(random, writes, write_mark);
+    let (key, stamp, record) = &mut writes[at];
+    // A Put that is to have another fault becomes a Delete, so that it does not lose its default too.
+    let deleted = if record.kind == 1 { 2 } else { record.kind };
+    match fault {
+        Fault::WriteKey => (*key, record.kind) = (stock.key_out_of_form(random, false), deleted),
+        Fault::WriteTable => (*key, record.kind) = (foreign(key), deleted),
+        Fault::WriteStamp => *stamp = stamp.wrapping_add(1),
+        Fault::WriteStart => *record = RawRecord { start: 0, kind: 2, ..*record },
+        Fault::WriteKind => record.kind = *random.pick(&[0, 4, 255]),
+        Fault::WriteCommit => *record = RawRecord { start: *stamp, commit: *stamp, kind: 2 },
+        Fault::RollbackStart => (*record, *stamp) = (RawRecord { start: 0, commit: 0, kind: 3 }, 0),
+        Fault::RollbackCommit => {
+            let start = stamp.saturating_sub(1).max(1);
+            (*record, *stamp) = (RawRecord { start, commit: start + 1, kind: 3 }, start + 1);
+        }
+        Fault::SecondWrite => {
+            let entry = (key.clone(), *stamp, *record);
+            again(random, writes, entry, at);
+        }
+        _ => {
+            // Whatever it was, it is a Put now, and no default stands at its start.
+            *stamp = if *stamp > 1 { *stamp } else { u64::MAX - 1 };
+            let start = record.start.min(*stamp - 1);
+            *record = RawRecord { start, commit: *stamp, kind: 1 };
+            let key = key.clone();
+            image.defaults.retain(|(other, at, _)| *other != key || *at != start);
+        }
+    }
+    Some(())
+}

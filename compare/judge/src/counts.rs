@@ -1,0 +1,69 @@
+//! What was compared: the calls by op; the single forms by the lengths that a batch's length byte sets apart; the restores
+//! by the order of their entries and by the answer.
+
+use std::collections::BTreeMap;
+
+use generate::orders::ascends;
+use generate::singles::LENGTHS;
+use paper::restore::Image;
+use paper::run::run_trace;
+use paper::trace::{Call, read_trace};
+
+#[derive(Default)]
+pub struct Counts {
+    pub answers: u64,
+    ops: BTreeMap<u8, u64>,
+    lengths: BTreeMap<usize, u64>,
+    restores: BTreeMap<&'static str, BTreeMap<u8, u64>>,
+}
+
+impl Counts {
+    pub fn take_all(&mut self, trace: &[u8]) {
+        let answers = run_trace(trace);
+        self.answers += answers.len() as u64;
+        for (call, answer) in read_trace(trace).iter().flatten().zip(&answers) {
+            *self.ops.entry(call.op()).or_default() += 1;
+            match call {
+                Call::Prewrite { key, row, .. } => self.take_lengths(&[key.len(), row.len()]),
+                Call::Commit { key, .. } | Call::Rollback { key, .. } => self.take_lengths(&[key.len()]),
+                Call::Restore { image } => self.take_restore(image, answer.number),
+                _ => {}
+            }
+        }
+    }
+
+    fn take_lengths(&mut self, lengths: &[usize]) {
+        for length in lengths.iter().filter(|length| LENGTHS.contains(length) || **length > 255) {
+            *self.lengths.entry(*length).or_default() += 1;
+        }
+    }
+
+    fn take_restore(&mut self, image: &[u8], number: u8) {
+        let order = match Image::read(image) {
+            None => "not in form",
+            Some(image) if ascends(&image) => "ascending",
+            Some(_) => "in other orders",
+        };
+        *self.restores.entry(order).or_default().entry(number).or_default() += 1;
+    }
+
+    pub fn print(&self) {
+        let ops: Vec<String> = self.ops.iter().map(|(op, count)| format!("{op} x{count}")).collect();
+        println!("calls by op: {}", ops.join(", "));
+        let of = |length: &usize| format!("{length} bytes x{}", self.lengths.get(length).unwrap_or(&0));
+        let above: u64 = self.lengths.iter().filter(|(length, _)| **length > 255).map(|(_, count)| count).sum();
+        let singles: u64 = [6, 8, 10].iter().filter_map(|op| self.ops.get(op)).sum();
+        let named: Vec<String> = LENGTHS.iter().map(of).collect();
+        println!("single forms: {singles} calls; keys and rows of {}; above 255 in all x{above}", named.join(", "));
+        self.print_restores();
+    }
+
+    pub fn print_restores(&self) {
+        let of = |(order, answers): (&&str, &BTreeMap<u8, u64>)| {
+            let answers: Vec<String> = answers.iter().map(|(number, count)| format!("{number} x{count}")).collect();
+            format!("{order} {}", answers.join(", "))
+        };
+        let orders: Vec<String> = self.restores.iter().map(of).collect();
+        println!("restores by answer: {} in all; {}", self.ops.get(&32).unwrap_or(&0), orders.join("; "));
+    }
+}

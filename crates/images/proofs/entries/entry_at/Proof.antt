@@ -1,0 +1,86 @@
+use Rattle.forms.proofs.NumberLaws.{number-long}
+use Rattle.images.proofs.EntryLaws.{entry-no-key, entry-no-one, entry-no-piece, entry-no-tail, entry-good}
+use borrow.Author.Needs.{needs}
+use native.Mathlib.Omega.{arith}
+use Prim.Native.Nat.{ℕ, suc, _+_, _-_, _*_, _<_, _≤_}
+use mathlib.Core.Path.{_≡_, refl, sym, ap, _∙_}
+use lib.ListN.{length, getD, take, drop, set, length-set}
+use borrow.Author.Needs.{needs}
+use Rattle.images.proofs.entries.entry_at.Statement.{statement}
+use Rattle.images.proofs.entries.entry_at.Tie as tie
+use Rattle.images.proofs.entries.entry_at.Reads as reads
+use Rattle.images.proofs.entries.entry_at.Lts as lts
+use Rattle.forms.proofs.number_at.Reads as number-at-reads
+use Rattle.forms.proofs.part_at.Reads as part-at-reads
+use Rattle.images.proofs.entries.no_entry.Reads as no-entry-reads
+use Rattle.images.proofs.entries.piece_at.Reads as piece-at-reads
+use Rattle.images.proofs.entries.tail_at.Reads as tail-at-reads
+
+part-at-requires : tie.Need-part-at-requires
+part-at-requires c κs = search needs
+
+no-entry-requires : tie.Need-no-entry-requires
+no-entry-requires c κs = search needs
+
+returns : tie.Need-returns
+returns c = rw ((c .no-entry) .ensures) (entry-no-key _ ((c .before .before .before .part-at) .ensures) ((c .before .if1) .taken))
+
+add-a : tie.Need-add-a
+add-a c = search needs
+
+number-at-requires : tie.Need-number-at-requires
+number-at-requires c κs = search needs
+
+no-entry-requires-2 : tie.Need-no-entry-requires-2
+no-entry-requires-2 c κs = search needs
+
+returns-2 : tie.Need-returns-2
+returns-2 c = rw ((c .no-entry2) .ensures) (entry-no-one _ ((c .before .before .before .before .before .before .before .part-at) .ensures) ((c .before .before .before .before .before .if1) .left) ((c .before .before .before .number-at) .ensures) ((c .before .if2) .taken))
+
+add-piece-at : tie.Need-add-piece-at
+add-piece-at c = omega (arith, number-long ((c .before .before .number-at) .ensures) ((c .if2) .left))
+
+piece-at-requires : tie.Need-piece-at-requires
+piece-at-requires c κs = omega (arith, number-long ((c .before .before .number-at) .ensures) ((c .if2) .left))
+
+no-entry-requires-3 : tie.Need-no-entry-requires-3
+no-entry-requires-3 c κs = search needs
+
+returns-3 : tie.Need-returns-3
+returns-3 c = rw ((c .no-entry3) .ensures) (entry-no-piece _ ((c .before .before .before .before .before .before .before .before .before .before .part-at) .ensures) ((c .before .before .before .before .before .before .before .before .if1) .left) ((c .before .before .before .before .before .before .number-at) .ensures) ((c .before .before .before .before .if2) .left) ((c .before .before .before .piece-at) .ensures) ((c .before .if3) .taken))
+
+add-tail-at : tie.Need-add-tail-at
+add-tail-at c = search needs
+
+tail-at-requires : tie.Need-tail-at-requires
+tail-at-requires c κs = (c .before .before .before .piece-at) .ensures .within
+
+no-entry-requires-4 : tie.Need-no-entry-requires-4
+no-entry-requires-4 c κs = search needs
+
+returns-4 : tie.Need-returns-4
+returns-4 c = rw ((c .no-entry4) .ensures) (entry-no-tail _ ((c .before .before .before .before .before .before .before .before .before .before .before .before .before .before .part-at) .ensures) ((c .before .before .before .before .before .before .before .before .before .before .before .before .if1) .left) ((c .before .before .before .before .before .before .before .before .before .before .number-at) .ensures) ((c .before .before .before .before .before .before .before .before .if2) .left) ((c .before .before .before .before .before .before .before .piece-at) .ensures) ((c .before .before .before .before .before .if3) .left) ((c .before .before .before .tail-at) .ensures) ((c .before .if4) .taken))
+
+returns-5 : tie.Need-returns-5
+returns-5 c = entry-good _ ((c .before .before .before .before .before .before .before .before .before .before .before .before .before .part-at) .ensures) ((c .before .before .before .before .before .before .before .before .before .before .before .if1) .left) ((c .before .before .before .before .before .before .before .before .before .number-at) .ensures) ((c .before .before .before .before .before .before .before .if2) .left) ((c .before .before .before .before .before .before .piece-at) .ensures) ((c .before .before .before .before .if3) .left) ((c .before .before .tail-at) .ensures) ((c .if4) .left)
+
+pub entry-at-spec : {M : Type 1} → statement M
+entry-at-spec =
+    tie.close
+    (tie.spec
+    part-at-requires
+    no-entry-requires
+    returns
+    add-a
+    number-at-requires
+    no-entry-requires-2
+    returns-2
+    add-piece-at
+    piece-at-requires
+    no-entry-requires-3
+    returns-3
+    add-tail-at
+    tail-at-requires
+    no-entry-requires-4
+    returns-4
+    returns-5)

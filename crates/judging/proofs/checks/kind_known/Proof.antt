@@ -1,0 +1,22 @@
+use borrow.Author.Tests.{eq-eqb, ne-eqb}
+use borrow.Author.Needs.{needs}
+use native.Mathlib.Omega.{arith}
+use Prim.Native.Nat.{ℕ, suc, _+_, _-_, _*_, _<_, _≤_}
+use mathlib.Core.Path.{_≡_, refl, sym, ap, _∙_}
+use lib.ListN.{length, getD, take, drop, set, length-set}
+use Rattle.judging.proofs.checks.kind_known.Statement.{statement}
+use Rattle.judging.proofs.checks.kind_known.Tie as tie
+use Rattle.judging.proofs.checks.kind_known.Reads as reads
+use Rattle.judging.proofs.checks.kind_known.Lts as lts
+
+returns : tie.Need-returns
+returns c = rw (eq-eqb _ _ ((c .if1) .taken))
+
+returns-2 : tie.Need-returns-2
+returns-2 c = rw (ne-eqb _ _ ((c .before .if1) .left), eq-eqb _ _ ((c .if2) .taken))
+
+returns-3 : tie.Need-returns-3
+returns-3 c = rw (ne-eqb _ _ ((c .before .if1) .left), ne-eqb _ _ ((c .if2) .left))
+
+pub kind-known-spec : {M : Type 1} → statement M
+kind-known-spec = tie.close (tie.spec returns returns-2 returns-3)

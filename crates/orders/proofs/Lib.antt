@@ -1,0 +1,3 @@
+pub mod MarkLaws
+pub mod SortLaws
+pub mod MergeLaws

@@ -1,0 +1,5 @@
+pub mod MarkPlaces
+pub mod PlaceLaws
+pub mod PutLaws
+pub mod LoadLaws
+pub mod VerdictLaws

@@ -1,0 +1,145 @@
+// Restore's verdict from the image's bytes alone: "Any fault 13, then 11"; and of an image that has room, its places in order.
+ghost use mathlib.Core.Path.{_≡_};
+ghost use Prim.Native.Nat.{_-_, _*_, _≤_};
+ghost use lib.ListN.{length, take};
+ghost use Rattle.orders.specs.declared.marks.By.the-variants.{Lines};
+ghost use Rattle.orders.specs.Marks.{beforeAt};
+ghost use Rattle.orders.specs.Sorts.{merged};
+ghost use Rattle.verdicts.specs.Verdicts.{JoinAsk, DecideAsk, VerdictAsk, Decided};
+use crate::judge::judge;
+use crate::outcome::Verdict;
+use judging::sections::Sections;
+use orders::By;
+use orders::copy;
+use orders::merge;
+use rules::Answer;
+use rules::Load;
+use rules::load_fits;
+
+// The first `l` places of the locks and those of the writes, merged; `ps` has room for just these.
+fn join(s: &[u8], wat: usize, ls: &[u32], l: usize, ws: &[u32], ps: &mut [u32], lines: &mut [u32])
+    requires { ⌜ JoinAsk (now ls) l (now ws) (now ps) (now lines) ⌝ }
+    ensures { λ _. ⌜ take (length (now (ps .entry))) (now (lines .exit)) ≡ merged (beforeAt (Lines wat) (now (s .entry))) (take l (now (ls .entry))) (take (length (now (ps .entry)) - l) (now (ws .entry))) ⌝ }
+{
+    copy(ls, &mut ps[..l]);
+    copy(ws, &mut ps[l..]);
+    merge(s, By::Lines(wat), ps, l, lines);
+}
+
+// The verdict on an image that was judged; of an accepted one the places of its defaults and of its lines, in order.
+fn decide(
+    s: &[u8],
+    i: Sections,
+    ds: &[u32],
+    ls: &[u32],
+    ws: &[u32],
+    ps: &mut [u32],
+    rows: &mut [u32],
+    lines: &mut [u32],
+) -> Verdict
+    requires { ⌜ DecideAsk (now s) i (now ds) (now ls) (now ws) (now ps) (now rows) (now lines) ⌝ }
+    ensures { λ v. ⌜ Decided (now (s .entry)) v (now (rows .exit)) (now (lines .exit)) ⌝ }
+{
+    let d = i.defaults;
+    let l = i.locks;
+    let n = l + i.writes;
+    let wat = i.wat;
+    let load = Load {
+        lines: n,
+        locks: l,
+        defaults: d,
+        bytes: i.bytes,
+    };
+    if !i.ok {
+        return Verdict {
+            answer: Answer::No(13),
+            load: load,
+            wat: wat,
+        };
+    }
+    if !load_fits(load) {
+        return Verdict {
+            answer: Answer::No(11),
+            load: load,
+            wat: wat,
+        };
+    }
+    copy(ds, &mut rows[..d]);
+    join(s, wat, ls, l, ws, &mut ps[..n], lines);
+    Verdict {
+        answer: Answer::Accepted,
+        load: load,
+        wat: wat,
+    }
+}
+
+// The verdict, with room for the places of each section.
+fn verdict_with(
+    s: &[u8],
+    ds: &mut [u32],
+    ls: &mut [u32],
+    ws: &mut [u32],
+    ps: &mut [u32],
+    room: &mut [u32],
+    rows: &mut [u32],
+    lines: &mut [u32],
+) -> Verdict
+    requires { ⌜ VerdictAsk (now s) (now ds) (now ls) (now ws) (now ps) (now room) (now rows) (now lines) ⌝ }
+    ensures { λ v. ⌜ Decided (now (s .entry)) v (now (rows .exit)) (now (lines .exit)) ⌝ }
+{
+    let i = judge(s, ds, ls, ws, ps, room);
+    decide(s, i, ds, ls, ws, ps, rows, lines)
+}
+
+fn verdict_small(s: &[u8], rows: &mut [u32], lines: &mut [u32]) -> Verdict
+    requires { ⌜ (length (now s) ≤ 9 * 1024) × (1024 ≤ length (now rows)) × (1024 ≤ length (now lines)) ⌝ }
+    ensures { λ v. ⌜ Decided (now (s .entry)) v (now (rows .exit)) (now (lines .exit)) ⌝ }
+{
+    let mut ds = [0u32; 1024];
+    let mut ls = [0u32; 1024];
+    let mut ws = [0u32; 1024];
+    let mut ps = [0u32; 1024];
+    let mut room = [0u32; 1024];
+    verdict_with(
+        s,
+        &mut ds,
+        &mut ls,
+        &mut ws,
+        &mut ps,
+        &mut room,
+        rows,
+        lines,
+    )
+}
+
+fn verdict_large(s: &[u8], rows: &mut [u32], lines: &mut [u32]) -> Verdict
+    requires { ⌜ (1024 ≤ length (now rows)) × (1024 ≤ length (now lines)) ⌝ }
+    ensures { λ v. ⌜ Decided (now (s .entry)) v (now (rows .exit)) (now (lines .exit)) ⌝ }
+{
+    let mut ds = [0u32; 65536];
+    let mut ls = [0u32; 65536];
+    let mut ws = [0u32; 65536];
+    let mut ps = [0u32; 65536];
+    let mut room = [0u32; 65536];
+    verdict_with(
+        s,
+        &mut ds,
+        &mut ls,
+        &mut ws,
+        &mut ps,
+        &mut room,
+        rows,
+        lines,
+    )
+}
+
+// A small image does not pay for the places of a large one: an entry has at least 9 bytes.
+pub fn verdict(s: &[u8], rows: &mut [u32], lines: &mut [u32]) -> Verdict
+    requires { ⌜ (1024 ≤ length (now rows)) × (1024 ≤ length (now lines)) ⌝ }
+    ensures { λ v. ⌜ Decided (now (s .entry)) v (now (rows .exit)) (now (lines .exit)) ⌝ }
+{
+    if s.len() <= 9216 {
+        return verdict_small(s, rows, lines);
+    }
+    verdict_large(s, rows, lines)
+}
