@@ -5,10 +5,11 @@ use paper::store::Bytes;
 
 use crate::orders::{Mark, default_mark, lock_mark, write_mark};
 use crate::random::Random;
+use crate::sick::{delete_lock, delete_write, free_start, make_sick};
 use crate::stock::{Stock, row, row_out_of_form};
 
-/// What is at fault, and nothing else: where an entry's key or start would be missed by another entry, an entry of its own
-/// is added.
+/// What is at fault, and nothing else: where a Put line is given another key, start or kind, its default goes. Only a
+/// default of a key or start that no line can have is an orphan besides.
 #[derive(Clone, Copy, Debug, PartialEq, Eq, PartialOrd, Ord)]
 pub enum Fault {
     Trailing,
@@ -39,6 +40,13 @@ pub enum Fault {
     RollbackCommit,
     SecondWrite,
     PutWithoutDefault,
+    // Sick images, made in sick.rs.
+    LockWithoutDefault,
+    Orphan,
+    OrphanBesideRecord,
+    OrphanBesideLock,
+    TwoRecords,
+    LockBesideRecord,
 }
 
 /// The faults of the image as a whole.
@@ -71,7 +79,17 @@ pub const OF_ENTRIES: [Fault; 23] = [
     Fault::PutWithoutDefault,
 ];
 
-/// Those of them that an entry has only beside others.
+/// What makes an image sick.
+pub const SICK: [Fault; 6] = [
+    Fault::LockWithoutDefault,
+    Fault::Orphan,
+    Fault::OrphanBesideRecord,
+    Fault::OrphanBesideLock,
+    Fault::TwoRecords,
+    Fault::LockBesideRecord,
+];
+
+/// Those of an entry's that it has only beside others.
 const AGAINST_OTHERS: [Fault; 4] =
     [Fault::SecondDefault, Fault::SecondLock, Fault::SecondWrite, Fault::PutWithoutDefault];
 
@@ -90,7 +108,7 @@ pub const PLACES: [Place; 5] = [Place::First, Place::Last, Place::Least, Place::
 
 impl Place {
     /// The place of the entry meant, of which there is one.
-    fn of<T>(self, random: &mut Random, entries: &[T], mark: fn(&T) -> Mark<'_>) -> usize {
+    pub fn of<T>(self, random: &mut Random, entries: &[T], mark: fn(&T) -> Mark<'_>) -> usize {
         let by_mark = |left: &usize, right: &usize| mark(&entries[*left]).cmp(&mark(&entries[*right]));
         match self {
             Place::First => 0,
@@ -102,15 +120,25 @@ impl Place {
     }
 }
 
-/// An image with a fault drawn at a place drawn, its bytes.
-pub fn any(random: &mut Random, stock: &Stock, image: Image) -> Bytes {
+/// An image with a fault drawn at a place drawn, its bytes; now and then sick besides.
+pub fn any(random: &mut Random, stock: &Stock, mut image: Image) -> Bytes {
+    if random.percent(5) {
+        sick(random, &mut image);
+    }
     let fault = match random.below(100) {
-        0..15 => *random.pick(&WHOLE),
-        15..45 => *random.pick(&AGAINST_OTHERS),
+        0..12 => *random.pick(&WHOLE),
+        12..35 => *random.pick(&AGAINST_OTHERS),
+        35..65 => *random.pick(&SICK),
         _ => *random.pick(&OF_ENTRIES),
     };
     let place = *random.pick(&PLACES);
     one(random, stock, image, fault, place)
+}
+
+/// Makes the image sick in a way drawn, at a place drawn, if it has an entry for it.
+pub fn sick(random: &mut Random, image: &mut Image) {
+    let (fault, place) = (*random.pick(&SICK), *random.pick(&PLACES));
+    make_sick(random, image, fault, place);
 }
 
 /// The bytes of an image with this fault at this place; where the section has no entry, with a byte that follows.
@@ -120,7 +148,8 @@ pub fn one(random: &mut Random, stock: &Stock, mut image: Image, fault: Fault, p
     }
     let done = in_default(random, stock, &mut image, fault, place)
         .or_else(|| in_lock(random, stock, &mut image, fault, place))
-        .or_else(|| in_write(random, stock, &mut image, fault, place));
+        .or_else(|| in_write(random, stock, &mut image, fault, place))
+        .or_else(|| make_sick(random, &mut image, fault, place));
     if done.is_some() { image.write() } else { whole(random, image, Fault::Trailing) }
 }
 
@@ -162,7 +191,7 @@ fn foreign(key: &Bytes) -> Bytes {
 }
 
 /// Adds an entry at the place, or anywhere where the place is the order's.
-fn add<T>(random: &mut Random, entries: &mut Vec<T>, entry: T, place: Place) {
+pub fn add<T>(random: &mut Random, entries: &mut Vec<T>, entry: T, place: Place) {
     let at = match place {
         Place::First => 0,
         Place::Last => entries.len(),
@@ -208,12 +237,14 @@ fn in_default(random: &mut Random, stock: &Stock, image: &mut Image, fault: Faul
 }
 
 fn in_lock(random: &mut Random, stock: &Stock, image: &mut Image, fault: Fault, place: Place) -> Option<()> {
-    let locks = &mut image.locks;
-    if !(Fault::LockKey..=Fault::SecondLock).contains(&fault) || locks.is_empty() {
+    if !(Fault::LockKey..=Fault::SecondLock).contains(&fault) || image.locks.is_empty() {
         return None;
     }
-    let at = place.of(random, locks, lock_mark);
-    let (key, lock) = &mut locks[at];
+    let at = place.of(random, &image.locks, lock_mark);
+    if !matches!(fault, Fault::LockTransaction | Fault::LockTimeToLive | Fault::LockPrimary) {
+        delete_lock(image, at);
+    }
+    let (key, lock) = &mut image.locks[at];
     match fault {
         Fault::LockKey => *key = stock.key_out_of_form(random, false),
         Fault::LockTable => *key = foreign(key),
@@ -223,46 +254,46 @@ fn in_lock(random: &mut Random, stock: &Stock, image: &mut Image, fault: Fault, 
         Fault::LockKind => lock.kind = *random.pick(&[0, 3, 3, 3, 4, 255]),
         Fault::LockPrimary => lock.primary = stock.key_out_of_form(random, false),
         _ => {
-            let entry = (key.clone(), RawLock { start: random.between(1, 9) as u64, ..lock.clone() });
-            again(random, locks, entry, at);
+            let (key, lock) = image.locks[at].clone();
+            let start = free_start(random, image, &key, u64::MAX);
+            again(random, &mut image.locks, (key, RawLock { start, ..lock }), at);
         }
     }
     Some(())
 }
 
 fn in_write(random: &mut Random, stock: &Stock, image: &mut Image, fault: Fault, place: Place) -> Option<()> {
-    let writes = &mut image.writes;
-    if !(Fault::WriteKey..=Fault::PutWithoutDefault).contains(&fault) || writes.is_empty() {
+    if !(Fault::WriteKey..=Fault::PutWithoutDefault).contains(&fault) || image.writes.is_empty() {
         return None;
     }
-    let at = place.of(random, writes, write_mark);
-    let (key, stamp, record) = &mut writes[at];
-    // A Put that is to have another fault becomes a Delete, so that it does not lose its default too.
-    let deleted = if record.kind == 1 { 2 } else { record.kind };
-    match fault {
-        Fault::WriteKey => (*key, record.kind) = (stock.key_out_of_form(random, false), deleted),
-        Fault::WriteTable => (*key, record.kind) = (foreign(key), deleted),
-        Fault::WriteStamp => *stamp = stamp.wrapping_add(1),
-        Fault::WriteStart => *record = RawRecord { start: 0, kind: 2, ..*record },
-        Fault::WriteKind => record.kind = *random.pick(&[0, 4, 255]),
-        Fault::WriteCommit => *record = RawRecord { start: *stamp, commit: *stamp, kind: 2 },
-        Fault::RollbackStart => (*record, *stamp) = (RawRecord { start: 0, commit: 0, kind: 3 }, 0),
-        Fault::RollbackCommit => {
-            let start = stamp.saturating_sub(1).max(1);
-            (*record, *stamp) = (RawRecord { start, commit: start + 1, kind: 3 }, start + 1);
-        }
-        Fault::SecondWrite => {
-            let entry = (key.clone(), *stamp, *record);
-            again(random, writes, entry, at);
-        }
-        _ => {
-            // Whatever it was, it is a Put now, and no default stands at its start.
-            *stamp = if *stamp > 1 { *stamp } else { u64::MAX - 1 };
-            let start = record.start.min(*stamp - 1);
-            *record = RawRecord { start, commit: *stamp, kind: 1 };
-            let key = key.clone();
-            image.defaults.retain(|(other, at, _)| *other != key || *at != start);
-        }
+    let at = place.of(random, &image.writes, write_mark);
+    let as_it_is = fault == Fault::SecondWrite && random.percent(50);
+    if fault != Fault::WriteStamp && !as_it_is {
+        delete_write(image, at);
+    }
+    let (key, stamp, record) = image.writes[at].clone();
+    // A record of this key whose start no other line has, if there is one below.
+    let free = free_start(random, image, &key, stamp);
+    let new = |stamp, start, kind| (key.clone(), stamp, RawRecord { start, commit: stamp, kind });
+    image.writes[at] = match fault {
+        Fault::WriteKey => (stock.key_out_of_form(random, false), stamp, record),
+        Fault::WriteTable => (foreign(&key), stamp, record),
+        Fault::WriteStamp => (key.clone(), stamp.wrapping_add(1), record),
+        Fault::WriteStart => new(stamp, 0, 2),
+        Fault::WriteKind => (key.clone(), stamp, RawRecord { kind: *random.pick(&[0, 4, 255]), ..record }),
+        Fault::WriteCommit => new(stamp, stamp, 2),
+        Fault::RollbackStart => new(0, 0, 3),
+        Fault::RollbackCommit if free < stamp => new(stamp, free, 3),
+        Fault::RollbackCommit => new(stamp.max(1) + 1, stamp.max(1), 3),
+        Fault::SecondWrite => (key.clone(), stamp, record),
+        // Whatever it was, it is a Put now, and no default stands at its start.
+        _ if record.start < stamp => new(stamp, record.start, 1),
+        _ if free < stamp => new(stamp, free, 1),
+        _ => new(u64::MAX - 1, stamp.min(u64::MAX - 2), 1),
+    };
+    if fault == Fault::SecondWrite {
+        let second = if as_it_is || free >= stamp { (key, stamp, record) } else { new(stamp, free, 2) };
+        again(random, &mut image.writes, second, at);
     }
     Some(())
 }

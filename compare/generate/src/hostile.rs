@@ -50,7 +50,7 @@ fn keys(keys: Keys, many: usize) -> Vec<Bytes> {
 }
 
 /// A sound image of so many keys. A key has one to three records, whose starts need not ascend with their stamps, a lock
-/// or none, and a row for each Put; now and then a row of its own.
+/// or none, now and then below a stamp of its key, and a row for each Put.
 pub fn sound(random: &mut Random, keys_of: Keys, many: usize, order: Order) -> Image {
     let mut image = Image { table: TABLE, ..Image::default() };
     for key in keys(keys_of, many) {
@@ -75,14 +75,11 @@ fn one_key(random: &mut Random, image: &mut Image, key: &Bytes) {
     }
     if random.percent(40) {
         let kind = *random.pick(&[1, 1, 2]);
-        let (transaction, start) = (random.between(1, 3) as u64, 40);
+        let (transaction, start) = (random.between(1, 3) as u64, *random.pick(&[40, 40, 40, 15]));
         image.locks.push((key.clone(), RawLock { transaction, primary: key.clone(), start, time_to_live: 1, kind }));
         if kind == 1 {
             image.defaults.push((key.clone(), start, vec![0, 0]));
         }
-    }
-    if random.percent(10) {
-        image.defaults.push((key.clone(), 50, row(random)));
     }
 }
 
@@ -118,6 +115,12 @@ pub fn cases() -> Vec<(&'static str, Vec<Call>)> {
             (Fault::SecondWrite, Place::Last),
             (Fault::PutWithoutDefault, Place::Greatest),
             (Fault::Trailing, Place::Last),
+            (Fault::LockWithoutDefault, Place::Greatest),
+            (Fault::Orphan, Place::Greatest),
+            (Fault::OrphanBesideRecord, Place::Greatest),
+            (Fault::OrphanBesideLock, Place::Greatest),
+            (Fault::TwoRecords, Place::Greatest),
+            (Fault::LockBesideRecord, Place::Greatest),
         ] {
             let image = sound(random, keys, 30, order);
             calls.push(Call::Restore { image: faults::one(random, stock, image, fault, place) });

@@ -1,4 +1,4 @@
-//! Images on few keys, full of odd but sound states.
+//! Sound images on few keys, full of odd states.
 
 use std::collections::BTreeMap;
 
@@ -10,8 +10,12 @@ use crate::orders::{ORDERS, put};
 use crate::random::Random;
 use crate::stock::{EXTREMES, Stock, row};
 
-/// A sound image on few keys: orphan defaults, Put locks without default, several lines of one key and start, chains
-/// around the figures' edges. The entries stand in any order.
+/// How often a record is drawn for each one wanted.
+const TRIES: usize = 20;
+
+/// A sound image on few keys: chains around the figures' edges, starts that need not ascend with their stamps, locks at
+/// and below stamps of their key. Each key and start has one line, and a row stands for each Put alone. The entries stand
+/// in any order.
 pub fn few_keys(random: &mut Random, stock: &Stock) -> Image {
     let table = table_of(random.pick::<Bytes>(&stock.keys));
     let mut image = Image { table, ..Image::default() };
@@ -26,34 +30,26 @@ pub fn few_keys(random: &mut Random, stock: &Stock) -> Image {
 }
 
 fn one_key(random: &mut Random, stock: &Stock, image: &mut Image, key: &Bytes) {
-    let mut defaults: BTreeMap<u64, Bytes> = BTreeMap::new();
     let mut writes: BTreeMap<u64, RawRecord> = BTreeMap::new();
-    let chain = if random.percent(15) { *random.pick(&[4, 5, 15, 16, 17, 18]) } else { random.below(4) };
+    let long = random.percent(15);
+    let chain = if long { *random.pick(&[4, 5, 15, 16, 17, 18]) } else { random.below(4) };
+    let kinds: &[u8] = if long && random.percent(50) { &[1] } else { &[1, 1, 2, 3] };
     let span = chain + 10;
-    for _ in 0..chain {
-        let stamp = random.between(1, span) as u64;
-        let kind = *random.pick(&[1, 1, 2, 3]);
-        let start = if kind == 3 { stamp } else { random.below(stamp as usize) as u64 };
-        if start > 0 {
-            writes.insert(stamp, RawRecord { start, commit: stamp, kind });
+    for _ in 0..TRIES * chain {
+        if writes.len() < chain {
+            let kind = *random.pick(kinds);
+            add_record(random, &mut writes, span, kind);
         }
     }
     if random.percent(4) {
         writes.insert(u64::MAX, RawRecord { start: u64::MAX, commit: u64::MAX, kind: 3 });
     }
-    for record in writes.values().filter(|record| record.kind == 1) {
-        defaults.entry(record.start).or_insert_with(|| row(random));
-    }
-    let orphans = if random.percent(8) { random.between(4, 17) } else { random.below(3) };
-    for _ in 0..orphans {
-        let start = if random.percent(5) { u64::MAX } else { random.between(1, span) as u64 };
-        defaults.entry(start).or_insert_with(|| row(random));
-    }
-    if random.percent(55) {
-        let lock = some_lock(random, stock, &writes, span);
-        let put_with_row = lock.kind == 1 && random.percent(75);
-        if put_with_row || lock.kind == 2 && random.percent(20) {
-            defaults.entry(lock.start).or_insert_with(|| row(random));
+    let puts = writes.values().filter(|record| record.kind == 1);
+    let mut defaults: BTreeMap<u64, Bytes> = puts.map(|record| (record.start, row(random))).collect();
+    let lock = some_lock(random, stock, &writes, span);
+    if !has_start(&writes, lock.start) && random.percent(60) {
+        if lock.kind == 1 {
+            defaults.insert(lock.start, row(random));
         }
         image.locks.push((key.clone(), lock));
     }
@@ -61,11 +57,24 @@ fn one_key(random: &mut Random, stock: &Stock, image: &mut Image, key: &Bytes) {
     image.writes.extend(writes.into_iter().map(|(stamp, record)| (key.clone(), stamp, record)));
 }
 
-/// A lock whose start is often one that a record has too.
+/// Adds a record of a stamp and a start that the key does not have yet, if such are drawn.
+fn add_record(random: &mut Random, writes: &mut BTreeMap<u64, RawRecord>, span: usize, kind: u8) {
+    let stamp = random.between(1, span) as u64;
+    let start = if kind == 3 { stamp } else { random.below(stamp as usize) as u64 };
+    if start > 0 && !writes.contains_key(&stamp) && !has_start(writes, start) {
+        writes.insert(stamp, RawRecord { start, commit: stamp, kind });
+    }
+}
+
+fn has_start(writes: &BTreeMap<u64, RawRecord>, start: u64) -> bool {
+    writes.values().any(|record| record.start == start)
+}
+
+/// A lock whose start is often a stamp of its key.
 fn some_lock(random: &mut Random, stock: &Stock, writes: &BTreeMap<u64, RawRecord>, span: usize) -> RawLock {
-    let starts: Vec<u64> = writes.values().map(|record| record.start).collect();
-    let start = match starts.is_empty() {
-        false if random.percent(35) => *random.pick(&starts),
+    let stamps: Vec<u64> = writes.keys().copied().collect();
+    let start = match stamps.is_empty() {
+        false if random.percent(20) => *random.pick(&stamps),
         _ if random.percent(3) => u64::MAX,
         _ => random.between(1, span) as u64,
     };
@@ -78,7 +87,7 @@ fn some_lock(random: &mut Random, stock: &Stock, writes: &BTreeMap<u64, RawRecor
     }
 }
 
-/// One number of an image set to an extreme; the image may stay sound or not.
+/// One number of an image set to an extreme; the image may stay sound, or become sick or faulty.
 pub fn with_extreme(random: &mut Random, mut image: Image) -> Bytes {
     let extreme = *random.pick(&EXTREMES);
     match random.below(3) {

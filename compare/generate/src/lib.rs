@@ -1,7 +1,7 @@
 //! A seeded generator of traces that is hard on the box: few keys with common prefixes in several tables, small and
 //! extreme numbers, replays, batches, rows and images in and out of form, every combination of bounds, buffers and
-//! byte limits at and one short of what is needed, boxes at and one past each of the four rooms, images longer than
-//! 65,535 bytes, damaged traces.
+//! byte limits at and one short of what is needed, boxes at and one past each of the four rooms, images sound and sick
+//! and longer than 65,535 bytes, damaged traces.
 
 pub mod batch;
 mod damage;
@@ -16,6 +16,7 @@ pub mod orders;
 pub mod random;
 pub mod repacks;
 mod room;
+pub mod sick;
 pub mod singles;
 pub mod stock;
 mod writes;
@@ -77,7 +78,7 @@ pub enum Kind {
     Odd,
     /// Single forms above all, with keys and rows of odd lengths.
     Singles,
-    /// Images, sound and not, with the store's figures between.
+    /// Images, sound, sick and faulty, with the store's figures between.
     Images,
     /// The same of few or many keys that are much alike, the entries in any order.
     Hostile,
@@ -212,7 +213,7 @@ fn room(maker: &mut Maker) {
     if maker.random.percent(50) {
         let past = *maker.random.pick(&[0, 1]);
         let image = room::beside_room(&mut maker.random, which, past);
-        let mut image = if past == 1 && maker.random.percent(50) { with_last_fault(image) } else { image };
+        let mut image = if past == 1 && maker.random.percent(65) { at_fault(maker, image) } else { image };
         image.defaults.reverse();
         maker.push(Call::Restore { image: image.write() });
         maker.look();
@@ -229,15 +230,24 @@ fn large(maker: &mut Maker) {
     } else {
         let entries = *maker.random.pick(&[257, 1025, 3000, 6000]);
         let mut image = room::far_beyond(&mut maker.random, entries);
-        if maker.random.percent(40) {
-            image = with_last_fault(image);
+        if maker.random.percent(60) {
+            image = at_fault(maker, image);
         }
         maker.push(Call::Restore { image: image.write() });
         maker.look();
     }
 }
 
-/// A fault in the last entry: 13 goes before 11.
+/// A fault in the last entry, or sick at any place: 13 goes before 11.
+fn at_fault(maker: &mut Maker, mut image: Image) -> Image {
+    if maker.random.percent(40) {
+        return with_last_fault(image);
+    }
+    faults::sick(&mut maker.random, &mut image);
+    image
+}
+
+/// A fault in the last entry.
 fn with_last_fault(mut image: Image) -> Image {
     if let Some((key, ..)) = image.writes.last_mut() {
         key[0] ^= 1;

@@ -102,7 +102,7 @@ impl Maker {
         self.push(call);
     }
 
-    /// A restore on few keys: sound, with an extreme number, or with a fault.
+    /// A restore on few keys: sound, with an extreme number, sick or with a fault.
     pub fn restore(&mut self) -> Call {
         let image = few_keys(&mut self.random, &self.stock);
         let image = match self.random.below(10) {

@@ -90,11 +90,16 @@ pub fn cases() -> Vec<(&'static str, Vec<Call>)> {
 }
 
 /// All four rooms just full by an image of more than 65,535 bytes: a line may replace a line, nothing may be added, and
-/// one default more is no image for this box.
+/// 1,025 rows with their lines are no image for this box; if one of them has no line, the image is sick.
 fn all_full() -> Vec<Call> {
     let image = room::all_full(&mut Random::new(1));
     let mut beyond = Image { table: 1, ..Image::default() };
-    beyond.defaults = (0..1025_u16).map(|number| (key(&number.to_be_bytes()), 1, vec![0, 0])).collect();
+    for number in 0..1025_u16 {
+        beyond.defaults.push((key(&number.to_be_bytes()), 1, vec![0, 0]));
+        beyond.writes.push((key(&number.to_be_bytes()), 2, RawRecord { start: 1, commit: 2, kind: 1 }));
+    }
+    let mut orphan = beyond.clone();
+    orphan.writes.remove(512);
     let (held, lock) = image.locks[0].clone();
     let undo = Call::Rollback { transaction: lock.transaction, start: lock.start, key: held };
     let restore = |image: &Image| Call::Restore { image: image.write() };
@@ -106,6 +111,7 @@ fn all_full() -> Vec<Call> {
         undo,
         new_line(),
         restore(&beyond),
+        restore(&orphan),
         Call::Statistics,
         Call::Marks,
     ]

@@ -48,17 +48,23 @@ fn lines(random: &mut Random, image: &mut Image, lines: usize) {
     let mut number = 0;
     while left > 0 {
         let chain = (*random.pick(&[1, 1, 2, 4, 5, 16, 17])).min(left);
-        for stamp in 1..=chain as u64 {
-            let kind = if number % 9 == 0 && stamp > 1 { 1 } else { 3 };
-            let start = if kind == 1 { stamp - 1 } else { stamp };
-            image.writes.push((key(number), stamp, RawRecord { start, commit: stamp, kind }));
-            if kind == 1 {
-                image.defaults.push((key(number), start, vec![0, 0]));
+        for start in 1..=chain as u64 {
+            if number % 9 == 0 {
+                add_put(image, key(number), start, vec![0, 0]);
+            } else {
+                image.writes.push((key(number), start, RawRecord { start, commit: start, kind: 3 }));
             }
         }
         left -= chain;
         number += 1;
     }
+}
+
+/// A Put record of this start, stamped above all starts of its key, with its row.
+fn add_put(image: &mut Image, key: Bytes, start: u64, row: Bytes) {
+    let stamp = 100 + start;
+    image.writes.push((key.clone(), stamp, RawRecord { start, commit: stamp, kind: 1 }));
+    image.defaults.push((key, start, row));
 }
 
 fn locks(random: &mut Random, image: &mut Image, locks: usize) {
@@ -79,17 +85,19 @@ fn add_locks(random: &mut Random, image: &mut Image, locks: usize) {
     }
 }
 
-/// Defaults in chains, orphans and rows of Put records.
+/// Defaults in chains, those of some locks among them; each has its line, so the lines are at their room too, or a few
+/// beyond.
 fn defaults(random: &mut Random, image: &mut Image, defaults: usize) {
-    let mut left = defaults;
+    for number in 60_000..60_000 + *random.pick(&[0, 1, 30]) {
+        image.locks.push((key(number), RawLock { kind: 1, ..lock(random, key(60_000)) }));
+        image.defaults.push((key(number), 9, vec![0, 0]));
+    }
+    let mut left = defaults - image.defaults.len();
     let mut number = 0;
     while left > 0 {
         let chain = (*random.pick(&[1, 2, 4, 5, 16, 17])).min(left);
         for start in 1..=chain as u64 {
-            image.defaults.push((key(number), start, vec![0, 0]));
-        }
-        if random.percent(40) {
-            image.writes.push((key(number), 2, RawRecord { start: 1, commit: 2, kind: 1 }));
+            add_put(image, key(number), start, vec![0, 0]);
         }
         left -= chain;
         number += 1;
@@ -115,44 +123,42 @@ fn live_bytes(random: &mut Random, image: &mut Image, live_bytes: usize) {
     fill_with_rows(image, left, 1000);
 }
 
-/// Defaults of just these live bytes, of which there are at least 8: a 6-byte key and a row of 2 to 255 bytes each.
+/// Put records of just these live bytes, of which there are at least 14: a 6-byte key, that of the default, and a row of
+/// 2 to 255 bytes each.
 fn fill_with_rows(image: &mut Image, mut left: usize, mut number: usize) {
     while left > 0 {
-        let row = if left <= 261 { left - 6 } else { (left - 6 - 8).min(250) };
-        image.defaults.push((key(number), 1, row_of(row)));
-        left -= 6 + row;
+        let row = if left <= 267 { left - 12 } else { (left - 12 - 14).min(250) };
+        add_put(image, key(number), 1, row_of(row));
+        left -= 12 + row;
         number += 1;
     }
 }
 
-/// All four rooms just full; the image has more than 65,535 bytes.
+/// All four rooms just full: every line is a Put. The image has more than 65,535 bytes.
 pub fn all_full(random: &mut Random) -> Image {
     let mut image = Image { table: TABLE, ..Image::default() };
-    for number in 0..LOCKS {
-        image.locks.push((key(number), RawLock { kind: 2, ..lock(random, key(0)) }));
-    }
     let mut left = LIVE_BYTES - LOCKS * 12 - (LINES - LOCKS) * 6;
-    for number in 0..LINES - LOCKS {
-        let stamp = (number % 5 + 1) as u64;
-        image.writes.push((key(LOCKS + number / 5), stamp, RawRecord { start: stamp, commit: stamp, kind: 3 }));
-    }
-    for number in 0..DEFAULTS {
-        let rest = DEFAULTS - number;
-        let row = left / rest - 6;
-        image.defaults.push((key(2000 + number), 3, row_of(row)));
-        left -= 6 + row;
+    for number in 0..LINES {
+        let row = row_of(left / (LINES - number) - 6);
+        left -= 6 + row.len();
+        if number < LOCKS {
+            image.locks.push((key(number), RawLock { kind: 1, ..lock(random, key(0)) }));
+            image.defaults.push((key(number), 9, row));
+        } else {
+            add_put(&mut image, key(LOCKS + (number - LOCKS) / 5), (number % 5 + 1) as u64, row);
+        }
     }
     image
 }
 
-/// An image far beyond the room, of this many entries in one section.
+/// A sound image far beyond the room, of this many lines of one sort.
 pub fn far_beyond(random: &mut Random, entries: usize) -> Image {
     let mut image = Image { table: TABLE, ..Image::default() };
     let section = random.below(3);
     for number in 0..entries {
         match section {
-            0 => image.defaults.push((key(number), 1, vec![0, 0])),
-            1 => image.locks.push((key(number), lock(random, key(0)))),
+            0 => add_put(&mut image, key(number), 1, vec![0, 0]),
+            1 => image.locks.push((key(number), RawLock { kind: 2, ..lock(random, key(0)) })),
             _ => image.writes.push((key(number), 1, RawRecord { start: 1, commit: 1, kind: 3 })),
         }
     }

@@ -1,4 +1,4 @@
-//! Changing calls, aimed: at standing locks, at records for replays, at defaults without a line, or at nothing yet.
+//! Changing calls, aimed: at standing locks, at records for replays, at the starts of defaults, or at nothing yet.
 
 use std::collections::BTreeSet;
 
@@ -147,18 +147,13 @@ impl Maker {
         let (stamp, record) = chain.iter().nth(place).expect("the place is in the chain");
         let (start, commit) = (record.start, *stamp);
         let mut keys = vec![key.clone()];
-        let held = self.store.lock_of(key).filter(|lock| lock.start == start).map(|lock| lock.transaction);
         let others = self
             .store
             .records
             .iter()
             .filter(|(_, chain)| chain.get(&commit).is_some_and(|record| record.start == start));
         keys.extend(others.map(|(key, _)| key.clone()).take(4));
-        let transaction = match held {
-            Some(transaction) if self.random.percent(70) => transaction,
-            _ => self.random.between(1, 3) as u64,
-        };
-        Aim { transaction, start, commit, keys }
+        Aim { transaction: self.random.between(1, 3) as u64, start, commit, keys }
     }
 
     fn aim_at_default(&mut self) -> Aim {

@@ -3,12 +3,12 @@
 
 use std::collections::BTreeSet;
 
-use generate::faults::{self, Fault, OF_ENTRIES, PLACES, WHOLE};
+use generate::faults::{self, Fault, OF_ENTRIES, PLACES, SICK, WHOLE};
 use generate::hostile::{self, KEYS};
 use generate::orders::{ORDERS, Order, ascends};
 use generate::random::Random;
 use generate::stock::Stock;
-use generate::{Kind, Ops, trace_of};
+use generate::{Kind, Ops, sick, trace_of};
 use paper::bend::{Bend, with_bend};
 use paper::restore::Image;
 use paper::run::run_trace;
@@ -42,12 +42,16 @@ fn sound_ones_are_taken() {
     assert!(wild(Order::Descending) >= 12 && wild(Order::Shuffled) >= 12 && wild(Order::OneAstray) >= 8);
 }
 
-/// The rule without which an image with this fault is taken, where there is one.
+/// The rule without which an image with this fault is taken, where there is one. A default whose key or start no line can
+/// have has none: it is an orphan besides.
 fn rule(fault: Fault) -> Option<Bend> {
     Some(match fault {
+        Fault::LockWithoutDefault => Bend::PutLockWithoutDefaultTaken,
+        Fault::Orphan | Fault::OrphanBesideRecord | Fault::OrphanBesideLock => Bend::OrphanTaken,
+        Fault::TwoRecords => Bend::TwoRecordsTaken,
+        Fault::LockBesideRecord => Bend::LockBesideRecordTaken,
         Fault::Trailing => Bend::ImageTrailing,
-        Fault::DefaultTable | Fault::LockTable | Fault::WriteTable => Bend::ImageOtherTable,
-        Fault::DefaultStart => Bend::DefaultStartZero,
+        Fault::LockTable | Fault::WriteTable => Bend::ImageOtherTable,
         Fault::DefaultRow => Bend::ImageRowUnjudged,
         Fault::SecondDefault => Bend::SecondDefaultTaken,
         Fault::LockTransaction => Bend::LockTransactionZero,
@@ -70,7 +74,7 @@ fn each_fault_stands_alone_at_each_place() {
     let mut random = Random::new(8);
     let stock = Stock::new(&mut random);
     for (order, image) in sound_images() {
-        for fault in WHOLE.into_iter().chain(OF_ENTRIES) {
+        for fault in WHOLE.into_iter().chain(OF_ENTRIES).chain(SICK) {
             for place in PLACES {
                 let bytes = faults::one(&mut random, &stock, image.clone(), fault, place);
                 assert_eq!(number(&bytes), 13, "{order:?} {fault:?} {place:?} {image:?}");
@@ -86,6 +90,7 @@ fn each_fault_stands_alone_at_each_place() {
 fn empty(image: &Image, fault: Fault) -> bool {
     (Fault::DefaultKey..=Fault::SecondDefault).contains(&fault) && image.defaults.is_empty()
         || (Fault::LockKey..=Fault::SecondLock).contains(&fault) && image.locks.is_empty()
+        || matches!(fault, Fault::LockWithoutDefault | Fault::OrphanBesideLock) && image.locks.is_empty()
 }
 
 /// The place and order of a second entry: whether the first one, the last one, the least and the greatest are met, each
@@ -141,8 +146,17 @@ fn where_restore_stands_alone_traces_are_about_images() {
 
 #[test]
 fn the_named_images_answer_as_they_should() {
-    for (name, calls) in hostile::cases() {
+    for (name, calls) in hostile::cases().into_iter().chain(sick::cases()) {
         let numbers: Vec<u8> = run_trace(&write_trace(&calls)).iter().map(|answer| answer.number).collect();
-        assert_eq!(numbers, [0, 0, 0, 13, 13, 13, 13, 13, 0, 0], "{name}");
+        let expected: &[u8] = match name {
+            "sick in each way" => &[0, 13, 13, 13, 13, 13, 13, 13, 13, 13, 13, 13, 0, 0],
+            "an orphan among 1,025 defaults, and orphans alone" => &[13, 13, 0],
+            "a lock below a stamp of its key" => &[0, 8, 0, 0],
+            "a lock that cannot end" => &[0, 3, 9, 3],
+            "calls from an image" => &[0, 0, 8, 0, 7, 0, 0, 0, 0],
+            "no entries" => &[0, 0],
+            _ => &[0, 0, 0, 13, 13, 13, 13, 13, 13, 13, 13, 13, 13, 13, 0, 0],
+        };
+        assert_eq!(numbers, expected, "{name}");
     }
 }

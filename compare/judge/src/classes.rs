@@ -14,7 +14,7 @@ use paper::trace::Call;
 use ragnor::engine::Engine;
 
 use crate::one::agrees;
-use crate::rust_side::{Outcome, beyond_room, same_state};
+use crate::rust_side::{Outcome, beyond_room, same_state, sick};
 
 macro_rules! classes {
     ($($name:ident $word:literal $bend:ident [$($number:literal)*] $text:literal;)*) => {
@@ -58,12 +58,6 @@ classes! {
         "Rust CorruptData, paper goes on: validate_mutation as shown judges a default at the start before all else";
     CommitTaken "commit-stamp-taken" RustCommitTaken [7 8]
         "Rust CorruptData, paper 7 or 8: another start's record stands at the commit (commit of intents)";
-    TwoRecords "two-records-of-one-start" RustCommitTwoRecords [0 8]
-        "Rust CorruptData, paper 0 or 8: a second record of this start stands beside the one at the commit";
-    DeleteReplay "replayed-delete-with-default" ReplayDeleteDefaultRefused [0]
-        "Rust CorruptData, paper 0: a committed Delete is replayed while a default stands at its start";
-    DefaultBeforeHistory "default-before-history" RustCommitRowFirst [8]
-        "Rust CorruptData, paper 8: the lock's default is judged before the records";
     RecordBetween "record-between-start-and-commit" RustCommitBetween [0]
         "Rust WriteConflict, paper 0: a Put or Delete stamped above the start and below the commit";
     HolderForHistory "lock-named-for-history" RustCommitHolderFirst [8]
@@ -72,6 +66,8 @@ classes! {
         "Rust CorruptData, paper 7 or 8: another start's record stands at the commit (one-step batch)";
     EmptyTableZero "empty-table-zero" ImageTableZero [13]
         "paper 13, Rust Ok: an image of table 0 without entries";
+    SickImage "sick-image" RustSickTaken [13]
+        "paper 13, Rust Ok: a Put lock without its default, an orphan default, or two lines of one key and start";
 }
 
 /// Which of the two Rusts: with validate_mutation as shown, or written from document 01.
@@ -97,9 +93,11 @@ pub fn class_of<E: Engine>(
         agrees(call, &answer, said) && same_state(engine, &store)
     };
     // Where the paper goes on, a later entry of the batch may be refused for what the Rust never came to.
+    // What the Rust took as an image must be sick in its own state.
     let fits = |class: &Class| {
         let numbers = class.numbers();
-        numbers.contains(&paper.number) || numbers.contains(&0) && matches!(call.op(), 7 | 9 | 12)
+        let said = numbers.contains(&paper.number) || numbers.contains(&0) && matches!(call.op(), 7 | 9 | 12);
+        said && (*class != Class::SickImage || sick(engine))
     };
     // The Rust has no rooms in any call: where that alone explains it, its own state must be beyond one of them.
     let mut rules = vec![Class::Room.bend()];

@@ -1,5 +1,5 @@
 //! What was compared: the calls by op; the single forms by the lengths that a batch's length byte sets apart; the restores
-//! by the order of their entries and by the answer.
+//! by the order of their entries, by the answer and by what makes the image sick.
 
 use std::collections::BTreeMap;
 
@@ -7,6 +7,8 @@ use generate::orders::ascends;
 use generate::singles::LENGTHS;
 use paper::restore::Image;
 use paper::run::run_trace;
+use paper::sick::Sickness;
+use paper::store::Store;
 use paper::trace::{Call, read_trace};
 
 #[derive(Default)]
@@ -15,6 +17,7 @@ pub struct Counts {
     ops: BTreeMap<u8, u64>,
     lengths: BTreeMap<usize, u64>,
     restores: BTreeMap<&'static str, BTreeMap<u8, u64>>,
+    sick: BTreeMap<&'static str, u64>,
 }
 
 impl Counts {
@@ -39,12 +42,31 @@ impl Counts {
     }
 
     fn take_restore(&mut self, image: &[u8], number: u8) {
-        let order = match Image::read(image) {
+        let image = Image::read(image);
+        let order = match &image {
             None => "not in form",
-            Some(image) if ascends(&image) => "ascending",
+            Some(image) if ascends(image) => "ascending",
             Some(_) => "in other orders",
         };
         *self.restores.entry(order).or_default().entry(number).or_default() += 1;
+        if let Some(store) = image.and_then(|image| image.store()) {
+            self.take_sick(&store, order);
+        }
+    }
+
+    /// Counts what makes an image sick that has no other fault, and whether it ascends or is too large besides.
+    fn take_sick(&mut self, store: &Store, order: &'static str) {
+        let found = store.sicknesses();
+        let kind = match found.first() {
+            None => return,
+            Some(_) if found.len() > 1 => "several of these",
+            Some(Sickness::LockWithoutDefault) => "a Put lock without its default",
+            Some(Sickness::Orphan) => "an orphan default",
+            Some(Sickness::TwoLines) => "two lines of one key and start",
+        };
+        *self.sick.entry(kind).or_default() += 1;
+        *self.sick.entry(order).or_default() += 1;
+        *self.sick.entry("beyond the room").or_default() += u64::from(store.beyond_room());
     }
 
     pub fn print(&self) {
@@ -65,5 +87,7 @@ impl Counts {
         };
         let orders: Vec<String> = self.restores.iter().map(of).collect();
         println!("restores by answer: {} in all; {}", self.ops.get(&32).unwrap_or(&0), orders.join("; "));
+        let sick: Vec<String> = self.sick.iter().map(|(kind, count)| format!("{kind} x{count}")).collect();
+        println!("restores of sick images without other fault: {}", sick.join(", "));
     }
 }

@@ -4,6 +4,7 @@
 pub mod bends;
 pub mod classes;
 mod counts;
+pub mod length;
 pub mod one;
 pub mod rust_side;
 pub mod sample;

@@ -4,13 +4,15 @@ use std::process::ExitCode;
 use std::time::{Duration, SystemTime, UNIX_EPOCH};
 
 use generate::Ops;
+use judge::length::Length;
 use judge::two::{Choice, Driver};
 use judge::{bends, one, sample, shrink, two};
 
 const USAGE: &str = "\
-judge one      [--seconds N] [--seed S] [--ops LIST] [--smallest]    comparison 1: the paper against mvcc.rs
-judge two      [--seconds N] [--seed S] [--ops LIST] [--per-start N] [--patience N] [--save FILE] --driver COMMAND..
-                                                                     comparison 2: a driver against the paper
+judge one      [--seconds N | --traces N] [--seed S] [--ops LIST] [--smallest]
+                                                                     comparison 1: the paper against mvcc.rs
+judge two      [--seconds N | --traces N] [--seed S] [--ops LIST] [--per-start N] [--patience N] [--save FILE]
+               --driver COMMAND..                                    comparison 2: a driver against the paper
 judge bends    [--traces N] [--seed S] [--ops LIST]                  how many traces notice each bent rule
 judge sample   [--ops LIST] FOLDER                                   writes the fixed sample of traces and answers
 judge check    FOLDER --driver COMMAND..                             replays a sample with a driver
@@ -22,7 +24,7 @@ writes nothing for as many seconds as --patience says (20) counts as hanging and
 struct Words {
     seconds: u64,
     seed: u64,
-    traces: u64,
+    traces: Option<u64>,
     per_start: u64,
     patience: u64,
     ops: Ops,
@@ -49,16 +51,16 @@ fn command() -> Option<bool> {
     let mut words = std::env::args().skip(1);
     let name = words.next()?;
     let words = read(words)?;
-    let length = Duration::from_secs(words.seconds);
+    let length = Length::new(Duration::from_secs(words.seconds), words.traces);
     let driver = Driver { words: words.driver.clone(), patience: Duration::from_secs(words.patience) };
     let has_driver = !words.driver.is_empty();
     match (name.as_str(), &words.plain[..]) {
-        ("one", []) => Some(one::run(length, words.seed, words.ops, words.smallest)),
+        ("one", []) => Some(one::run(&length, words.seed, words.ops, words.smallest)),
         ("two", []) if has_driver && words.per_start > 0 => {
             let Words { seed, ops, per_start, save, .. } = words;
-            Some(two::run(&driver, length, &Choice { seed, ops, per_start, save }))
+            Some(two::run(&driver, &length, &Choice { seed, ops, per_start, save }))
         }
-        ("bends", []) => Some(bends::run(words.traces, words.seed, words.ops)),
+        ("bends", []) => Some(bends::run(words.traces.unwrap_or(1000), words.seed, words.ops)),
         ("sample", [folder]) => Some(sample::write(folder, words.ops)),
         ("check", [folder]) if has_driver => Some(sample::check(folder, &driver)),
         ("smallest", [file]) => smallest(file, &words, &driver),
@@ -100,7 +102,7 @@ fn read(mut words: impl Iterator<Item = String>) -> Option<Words> {
     let mut read = Words {
         seconds: 10,
         seed: now << 20,
-        traces: 1000,
+        traces: None,
         per_start: 200,
         patience: 20,
         ops: Ops::all(),
@@ -114,7 +116,7 @@ fn read(mut words: impl Iterator<Item = String>) -> Option<Words> {
         match word.as_str() {
             "--seconds" => read.seconds = words.next()?.parse().ok()?,
             "--seed" => read.seed = words.next()?.parse().ok()?,
-            "--traces" => read.traces = words.next()?.parse().ok()?,
+            "--traces" => read.traces = Some(words.next()?.parse().ok()?),
             "--per-start" => read.per_start = words.next()?.parse().ok()?,
             "--patience" => read.patience = words.next()?.parse().ok()?,
             "--ops" => read.ops = Ops::read(&words.next()?)?,

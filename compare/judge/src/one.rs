@@ -2,7 +2,6 @@
 //! paper's state after a difference. Both with validate_mutation as shown and written from document 01.
 
 use std::collections::BTreeMap;
-use std::time::{Duration, Instant};
 
 use generate::Ops;
 use paper::answer::{Answer, BATCH, CONTRADICTION, HISTORY, IMAGE, LOCKED, SHORT_BUFFER};
@@ -13,7 +12,8 @@ use ragnor::engine::Engine;
 
 use crate::classes::{Class, Rust, class_of};
 use crate::counts::Counts;
-use crate::rust_side::{Outcome, beyond_room, run_rust, same_state, set_state};
+use crate::length::Length;
+use crate::rust_side::{Outcome, beyond_room, run_rust, same_state, set_state, sick};
 use crate::{shrink, words};
 
 /// One difference: at which call, what each side said, and its class if it has one.
@@ -61,11 +61,11 @@ fn differences_with<E: Engine>(rust: Rust, calls: &[Call], found: &mut Vec<Diffe
         let said = run_rust(&mut engine, call);
         let agreed = agrees(call, &paper, &said);
         let same = same_state(&engine, &store);
-        // The Rust has no rooms; where its state is the paper's, the paper's is judged by it.
-        if agreed && same && !beyond_room(&engine) {
+        // The Rust has no rooms and takes sick images; where its state is the paper's, the paper's is judged by it.
+        if agreed && same && !beyond_room(&engine) && !sick(&engine) {
             continue;
         }
-        // A state that differs although the answers agree has no class, and none that is beyond a room.
+        // A state that differs although the answers agree has no class, and none that is beyond a room or sick.
         let class = if agreed { None } else { class_of(rust, &before, call, &paper, &said, &engine) };
         found.push(Difference { rust, at, paper, said, class });
         set_state(&mut engine, &store);
@@ -88,12 +88,11 @@ struct Tally {
 }
 
 /// Runs for so long from a seed; false if a difference has no class.
-pub fn run(length: Duration, seed: u64, ops: Ops, show_smallest: bool) -> bool {
-    let begin = Instant::now();
+pub fn run(length: &Length, seed: u64, ops: Ops, show_smallest: bool) -> bool {
     let mut tallies: BTreeMap<Class, Tally> = BTreeMap::new();
     let (mut traces, mut calls_run) = (0_u64, 0_u64);
     let mut counts = Counts::default();
-    while begin.elapsed() < length {
+    while length.more(traces) {
         let trace = generate::trace(seed.wrapping_add(traces), ops);
         traces += 1;
         let Some(calls) = read_trace(&trace) else {

@@ -1,7 +1,7 @@
 //! mvcc.rs as a driver of calls: a call's arguments handed over, its result put into the paper's terms, and its state
 //! read and set.
 
-use std::collections::BTreeMap;
+use std::collections::{BTreeMap, BTreeSet};
 
 use paper::form::{key_batch, mutation_batch};
 use paper::page::Bounds;
@@ -254,6 +254,22 @@ pub fn beyond_room<E: Engine>(engine: &E) -> bool {
         || locks.len() > LOCKS
         || rows().count() > DEFAULTS
         || live_bytes > LIVE_BYTES
+}
+
+/// Is the Rust's own state sick? Counted here, by change request 3: "a Put lock without its default; a default to which no
+/// Put lock or Put record of its key and start points; two lines of one key and start". So: as many lines as pairs of key
+/// and start, and the pairs of the Put lines are those of the defaults.
+pub fn sick<E: Engine>(engine: &E) -> bool {
+    let (defaults, locks, writes) = engine.maps();
+    let locked = locks.iter().map(|(key, lock)| (key, lock.start_timestamp.0, lock.op));
+    let chains = writes.iter().flat_map(|(key, chain)| chain.values().map(move |write| (key, write)));
+    let recorded = chains.map(|(key, write)| (key, write.start_timestamp.0, write.op));
+    let lines: Vec<(&Bytes, u64, WriteKind)> = locked.chain(recorded).collect();
+    let pairs: BTreeSet<(&Bytes, u64)> = lines.iter().map(|(key, start, _)| (*key, *start)).collect();
+    let puts = lines.iter().filter(|(_, _, kind)| *kind == WriteKind::Put);
+    let puts: BTreeSet<(&Bytes, u64)> = puts.map(|(key, start, _)| (*key, *start)).collect();
+    let rows = defaults.iter().flat_map(|(key, chain)| chain.keys().map(move |start| (key, start.0)));
+    pairs.len() < lines.len() || puts != rows.collect()
 }
 
 /// Sets the Rust to the paper's state.

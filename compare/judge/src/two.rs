@@ -14,6 +14,7 @@ use paper::trace::read_trace;
 
 use crate::bends::answers_of;
 use crate::counts::Counts;
+use crate::length::Length;
 use crate::{shrink, words};
 
 /// A driver's command: its program and words before `many`; and how long it may be silent, so that one that hangs is
@@ -164,13 +165,12 @@ pub struct Choice {
 }
 
 /// Runs for so long; false at the first byte that differs.
-pub fn run(driver: &Driver, length: Duration, choice: &Choice) -> bool {
+pub fn run(driver: &Driver, length: &Length, choice: &Choice) -> bool {
     let Choice { seed, ops, per_start, save } = choice;
     let (seed, ops, per_start, save) = (*seed, *ops, *per_start, save.as_deref());
-    let begin = Instant::now();
     let (mut traces, mut starts) = (0_u64, 0_u64);
     let mut counts = Counts::default();
-    while begin.elapsed() < length {
+    while length.more(traces) {
         let batch: Vec<Bytes> =
             (0..per_start).map(|number| generate::trace(seed.wrapping_add(traces + number), ops)).collect();
         let expected: Vec<Bytes> = batch.iter().map(|trace| answers_of(trace)).collect();

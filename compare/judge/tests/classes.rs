@@ -44,20 +44,15 @@ const UNSEEN: &[(&str, &[Bend])] = &[
     (
         "it is the Rust's own rule, or a part of it",
         &[
-            Bend::ReplayDeleteDefaultRefused,
-            Bend::CommitRowBeforeHistory,
             Bend::OneStepOccupied9,
             Bend::ImageTableZero,
             Bend::RustStampAtStart,
             Bend::RustRollbackAbove,
             Bend::RustCommitTaken,
-            Bend::RustCommitTwoRecords,
-            Bend::RustCommitRowFirst,
             Bend::RustCommitBetween,
             Bend::RustCommitHolderFirst,
         ],
     ),
-    ("the Rust says CorruptData to both records of the start", &[Bend::CommitHighestRecord]),
     (
         "the Rust has no area",
         &[
@@ -93,7 +88,6 @@ fn eleven_too_early_or_too_late_and_8_for_7_have_no_name() {
         Bend::LiveBytesOneLess,
         Bend::LinesOneMore,
         Bend::LocksOneMore,
-        Bend::DefaultsOneMore,
         Bend::LiveBytesOneMore,
         Bend::RoomUnjudged,
         Bend::HeldIsHistory,

@@ -136,15 +136,6 @@ fn default_judged_first() {
     differs(&[held(), one_step(10, 12, Kind::Put, other_row)], Class::DefaultFirst, 0, corrupt, None);
     let committed = [held(), commit(10, 12), prewrite(7, 10, Kind::Put, other_row)];
     differs(&committed, Class::DefaultFirst, 8, corrupt, None);
-    let delete_lock = restore(&[10], vec![lock(10, 2)], vec![]);
-    differs(&[delete_lock, prewrite(7, 10, Kind::Delete, &[])], Class::DefaultFirst, 0, corrupt, None);
-    differs(
-        &[restore(&[10], vec![], vec![]), one_step(10, 12, Kind::Delete, &[])],
-        Class::DefaultFirst,
-        0,
-        corrupt,
-        None,
-    );
 }
 
 #[test]
@@ -156,26 +147,28 @@ fn commit_stamp_taken() {
     both_differ(&[rollback(4), rollback(5), commit(4, 5)], Class::CommitTaken, 8, "CorruptData");
 }
 
-#[test]
-fn two_records_of_one_start() {
-    let image = || restore(&[], vec![], vec![write(4, 3, 2), write(7, 3, 2)]);
-    both_differ(&[image(), commit(3, 4)], Class::TwoRecords, 0, "CorruptData");
-    both_differ(&[image(), commit(3, 7)], Class::TwoRecords, 8, "CorruptData");
+/// What no store holds since sick images are refused, set by hand: the paper's number, and CorruptData of both Rusts.
+fn by_hand(defaults: &[u64], locks: Vec<(Vec<u8>, RawLock)>, writes: Vec<Write>, call: &Call, paper: u8) {
+    let Call::Restore { image } = restore(defaults, locks, writes) else { unreachable!("a restore") };
+    let sick = Image::read(&image).and_then(|image| image.store()).expect("without a fault by document 01's checks");
+    assert!(sick.sick());
+    let mut shown = ragnor::shown::InMemoryMvcc::default();
+    set_state(&mut shown, &sick);
+    assert_eq!(run_rust(&mut shown, call), Outcome::CorruptData);
+    let mut from_paper = ragnor::from_paper::InMemoryMvcc::default();
+    set_state(&mut from_paper, &sick);
+    assert_eq!(run_rust(&mut from_paper, call), Outcome::CorruptData);
+    assert_eq!(run_call(&mut sick.clone(), call).number, paper);
 }
 
 #[test]
-fn replayed_delete_with_default() {
-    let image = restore(&[3], vec![], vec![write(4, 3, 2)]);
-    both_differ(&[image, commit(3, 4)], Class::DeleteReplay, 0, "CorruptData");
-}
-
-#[test]
-fn default_before_history() {
-    let image = restore(&[], vec![lock(4, 1)], vec![write(12, 12, 3)]);
-    both_differ(&[image, commit(4, 7)], Class::DefaultBeforeHistory, 8, "CorruptData");
-    // 8 by the start's own record.
-    let rolled_back = restore(&[4], vec![lock(4, 2)], vec![write(4, 4, 3)]);
-    both_differ(&[rolled_back, commit(4, 5)], Class::DefaultBeforeHistory, 8, "CorruptData");
+fn what_only_sick_images_showed() {
+    let two_records = || vec![write(4, 3, 2), write(7, 3, 2)];
+    by_hand(&[], vec![], two_records(), &commit(3, 4), 0);
+    by_hand(&[], vec![], two_records(), &commit(3, 7), 8);
+    by_hand(&[3], vec![], vec![write(4, 3, 2)], &commit(3, 4), 0);
+    by_hand(&[], vec![lock(4, 1)], vec![write(12, 12, 3)], &commit(4, 7), 8);
+    by_hand(&[4], vec![lock(4, 2)], vec![write(4, 4, 3)], &commit(4, 5), 8);
 }
 
 /// No store holds a lock of kind Rollback; set by hand, under a history that forbids the commit.
@@ -211,6 +204,21 @@ fn lock_named_for_history() {
 #[test]
 fn one_step_stamp_taken() {
     both_differ(&[rollback(12), one_step(8, 12, Kind::Delete, &[])], Class::OneStepTaken, 8, "CorruptData");
+}
+
+#[test]
+fn sick_image() {
+    let sick = |defaults: &[u64], locks, writes| {
+        both_differ(&[restore(defaults, locks, writes)], Class::SickImage, 13, "Ok");
+    };
+    sick(&[], vec![lock(10, 1)], vec![]);
+    sick(&[10], vec![], vec![]);
+    sick(&[10], vec![], vec![write(12, 10, 2)]);
+    sick(&[], vec![], vec![write(4, 3, 2), write(7, 3, 2)]);
+    sick(&[], vec![lock(3, 2)], vec![write(3, 3, 3)]);
+    // Too large besides: 13 goes before 11.
+    let key = |number: u16| [&[0, 0, 0, 1][..], &number.to_be_bytes()].concat();
+    sick(&[], (0..257).map(|number| (key(number), lock(1, 1).1)).collect(), vec![]);
 }
 
 #[test]

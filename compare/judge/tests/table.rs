@@ -143,7 +143,7 @@ fn the_samples_named_cases() {
             // The last call is a one-step batch onto the Rollback that came before it.
             "key lengths" if last(&calls).number == 8 => &[(5, Class::OneStepTaken)],
             "1,023 lines" => &[(1, Class::Room), (5, Class::Room)],
-            "all four rooms full" => &[(2, Class::Room), (4, Class::Room), (5, Class::Room)],
+            "all four rooms full" => &[(2, Class::Room), (4, Class::Room), (5, Class::Room), (6, Class::SickImage)],
             _ => &[],
         };
         for rust in [Rust::Shown, Rust::FromPaper] {

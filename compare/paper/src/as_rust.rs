@@ -4,8 +4,8 @@
 use crate::answer::{CONTRADICTION, Refusal, refuse, refuse_held};
 use crate::bend::{Bend, bent};
 use crate::commit::Commit;
-use crate::form::{Entry, row_in_form};
-use crate::store::{Kind, Lock, Record, Store};
+use crate::form::Entry;
+use crate::store::{Kind, Record, Store};
 
 /// Is this record of the key, stamped at or above the start, no conflict to the Rust's `validate_write_history`?
 pub fn no_conflict(stamp: u64, record: &Record, start: u64) -> bool {
@@ -33,26 +33,11 @@ impl Store {
         let Commit { transaction, start, commit } = call;
         if let Some(record) = self.record_at(key, commit) {
             let other = record.start != start && bent(Bend::RustCommitTaken);
-            let elsewhere = |(stamp, record): (u64, &Record)| stamp != commit && record.start == start;
-            let second = bent(Bend::RustCommitTwoRecords) && self.records_of(key).any(elsewhere);
-            return if other || second { refuse(CONTRADICTION) } else { Ok(()) };
+            return if other { refuse(CONTRADICTION) } else { Ok(()) };
         }
         match self.lock_of(key) {
             Some(lock) if !lock.own(transaction, start) && bent(Bend::RustCommitHolderFirst) => refuse_held(lock),
-            Some(lock) if lock.own(transaction, start) && bent(Bend::RustCommitRowFirst) && self.unfit(key, lock) => {
-                refuse(CONTRADICTION)
-            }
             _ => Ok(()),
-        }
-    }
-
-    /// "Put whose default is missing or does not decode, Delete with a default, or kind Rollback".
-    fn unfit(&self, key: &[u8], lock: &Lock) -> bool {
-        let stored = self.default_at(key, lock.start);
-        match lock.kind {
-            Kind::Put => !stored.is_some_and(|row| row_in_form(row)),
-            Kind::Delete => stored.is_some(),
-            Kind::Rollback => true,
         }
     }
 

@@ -75,7 +75,8 @@ bends! {
     LocksOneLess "255 locks at most";
     LocksOneMore "257 locks at most";
     DefaultsOneLess "1,023 defaults at most";
-    DefaultsOneMore "1,025 defaults at most";
+    DefaultsOneMore "1,025 defaults at most"
+        never "every default has a Put line of its own, so the lines are as many";
     LiveBytesOneLess "49,151 live bytes at most";
     LiveBytesOneMore "49,153 live bytes at most";
     FreedRoomStaysTaken "room freed by a call counts as taken in it";
@@ -164,14 +165,17 @@ bends! {
     PrewriteIgnoresRollbacks "a Rollback is no 8 in a prewrite";
     OwnLockBeforeHistory "an own lock is looked at before the records";
     LockBeforeHistory "7 comes before 8 in a prewrite";
-    DefaultWithoutLockTaken "a default without lock is no 9";
+    DefaultWithoutLockTaken "a default without lock is no 9"
+        never "a default has a Put line of its start, which is 7 or 8 before, or the own lock";
     DefaultOfAnyStart "a default of any start without lock is 9";
     ReplayPrimaryAny "a replay may bring another primary";
     ReplayTimeToLiveAny "a replay may bring another time to live";
     ReplayKindAny "a replay may bring another kind";
-    ReplayRowMissingTaken "a replay is accepted though its row is missing";
+    ReplayRowMissingTaken "a replay is accepted though its row is missing"
+        never "a row stands for exactly the Put lines: restore asks it and every call keeps it";
     ReplayRowAny "a replay may bring another row";
-    ReplayDeleteWithDefaultRefused "a Delete's replay beside a default is 9";
+    ReplayDeleteWithDefaultRefused "a Delete's replay beside a default is 9"
+        never "a row stands for exactly the Put lines: restore asks it and every call keeps it";
     // Single forms
     LongKeyIs6 "a single key above 255 bytes is 6";
     LongKeyFirst "a single key above 255 bytes is 1 before any other step";
@@ -186,19 +190,26 @@ bends! {
     CommitEmptyTaken "an empty commit is accepted";
     CommitKeysFirst "1 of all keys comes first in a commit";
     CommitAppliesAsItGoes "a commit applies keys before the last is checked";
-    CommitHighestRecord "the highest-stamped record with this start decides";
+    CommitHighestRecord "the highest-stamped record with this start decides"
+        never "a key and start have one line: restore asks it and every call keeps it";
     CommitOfRolledBack9 "a commit of what was rolled back is 9";
     OtherCommitTaken "a replay with another commit is accepted";
-    ReplayLockOfOwnAlone "a replay minds the call's own lock only";
-    ReplayLockIgnored "a replay minds no lock";
+    ReplayLockOfOwnAlone "a replay minds the call's own lock only"
+        never "a key and start have one line: restore asks it and every call keeps it";
+    ReplayLockIgnored "a replay minds no lock"
+        never "a key and start have one line: restore asks it and every call keeps it";
     ReplayDefaultIgnored "a replay minds no missing default"
-        never "every Put record has its default: restore asks it and no call takes it away";
-    ReplayDeleteDefaultRefused "a Delete's replay with a default is 9";
+        never "a row stands for exactly the Put lines: restore asks it and every call keeps it";
+    ReplayDeleteDefaultRefused "a Delete's replay with a default is 9"
+        never "a row stands for exactly the Put lines: restore asks it and every call keeps it";
     ReplayRefused "a replay of a commit is 8";
     CommitNoLock9 "a commit without lock is 9";
-    CommitWithoutRowTaken "a Put lock without default is committed";
-    CommitDeleteWithRowTaken "a Delete lock with a default is committed";
-    CommitRowBeforeHistory "the row's 9 comes before the newest stamp's 8";
+    CommitWithoutRowTaken "a Put lock without default is committed"
+        never "a row stands for exactly the Put lines: restore asks it and every call keeps it";
+    CommitDeleteWithRowTaken "a Delete lock with a default is committed"
+        never "a row stands for exactly the Put lines: restore asks it and every call keeps it";
+    CommitRowBeforeHistory "the row's 9 comes before the newest stamp's 8"
+        never "a row stands for exactly the Put lines: restore asks it and every call keeps it";
     CommitNewestIgnoresRollbacks "the newest stamp is that of no Rollback";
     CommitOverNoNewer "any record above the start is 8 in a commit";
     CommitNewestAbove "a newest stamp equal to commit is no 8";
@@ -216,12 +227,17 @@ bends! {
     RollbackOverStampTaken "a rollback replaces a record stamped with its start";
     RollbackOverStamp8 "a rollback over a record stamped with its start is 8";
     RollbackBesideAnyLock "a Rollback beside any lock is 9";
-    RollbackReplayLockIgnored "a rollback's replay minds no lock";
-    RollbackReplayRowIgnored "a rollback's replay minds no default";
+    RollbackReplayLockIgnored "a rollback's replay minds no lock"
+        never "a key and start have one line: restore asks it and every call keeps it";
+    RollbackReplayRowIgnored "a rollback's replay minds no default"
+        never "a row stands for exactly the Put lines: restore asks it and every call keeps it";
     RollbackReplayRefused "a rollback's replay is 8";
-    RollbackWithoutRowTaken "a Put lock without default is rolled back";
-    RollbackDeleteWithRowTaken "a Delete lock with a default is rolled back";
-    RollbackOrphanTaken "a default without lock is no 9 in a rollback";
+    RollbackWithoutRowTaken "a Put lock without default is rolled back"
+        never "a row stands for exactly the Put lines: restore asks it and every call keeps it";
+    RollbackDeleteWithRowTaken "a Delete lock with a default is rolled back"
+        never "a row stands for exactly the Put lines: restore asks it and every call keeps it";
+    RollbackOrphanTaken "a default without lock is no 9 in a rollback"
+        never "a row stands for exactly the Put lines: restore asks it and every call keeps it";
     RollbackNeedsLock "a rollback without lock is 8";
     RollbackKeepsLock "a rollback leaves the lock";
     RollbackKeepsRow "a rollback leaves the row";
@@ -230,7 +246,8 @@ bends! {
     OneStepEmptyFirst "an empty one-step batch is accepted before 3";
     OneStepContentsLater "1 and 2 come with each entry's history";
     OneStepLocksBeforeReplay "locks are judged before replays";
-    OneStepReplayDropsLock "a replay drops an own lock";
+    OneStepReplayDropsLock "a replay drops an own lock"
+        never "a key and start have one line: restore asks it and every call keeps it";
     OneStepReplayCountsNone "a replay counts 0";
     OneStepSomeTaken "a batch applied in part is completed";
     OneStepHistoryFirst "8 comes before 7 in a one-step batch";
@@ -246,21 +263,22 @@ bends! {
     OneStepStampAbove "a record stamped with the start itself is no 8";
     OneStepIgnoresRollbacks "a Rollback is no 8 in a one-step batch";
     OneStepOldRowStays "a row already stored at this start stays";
-    OneStepDeleteDropsRow "a Delete drops a default at its start";
+    OneStepDeleteDropsRow "a Delete drops a default at its start"
+        never "a row stands for exactly the Put lines: restore asks it and every call keeps it";
     OneStepKeepsLock "an own lock stays";
     // Restore
     ImageTrailing "bytes may follow an image";
     ImageTableZero "an image of table 0 is taken";
     ImageOtherTable "an image may hold keys of other tables";
     ImageSortedOnly "an image's defaults must ascend";
-    DefaultStartZero "a default of start 0 is taken";
+    DefaultStartZero "a default of start 0 is taken"
+        never "no sound line has start 0, so such a default is an orphan and 13 as that";
     ImageRowUnjudged "an image's rows are not judged";
     SecondDefaultTaken "a second default replaces the first";
     SecondDefaultApartTaken "a second default that does not stand beside the first is let through";
     LastDefaultUnjudged "an image's last default is not judged";
     GreatestDefaultTwice "a second default is let through if none is greater by key and start";
     ImagePrimaryOfTable "a restored lock's primary must be of the table";
-    PutLockNeedsRow "a Put lock must have its default";
     SecondLockTaken "a second lock replaces the first";
     SecondLockApartTaken "a second lock that does not stand beside the first is let through";
     LastLockUnjudged "an image's last lock is not judged";
@@ -274,8 +292,25 @@ bends! {
     PutBeyondDefaultsTaken "a write Put without default is let through if no default is greater by key and start";
     PutAheadRefused "a write Put is refused if its default stands at a later place of its section than the Put of its own";
     PutsByStampRefused "a write Put is refused if one of its key with a lower stamp has a higher start";
-    OrphanDefaultRefused "a default without its Put line is refused";
-    TwoLinesRefused "two lines of one key and start are refused";
+    // Restore, sick images (sick.rs)
+    PutLockWithoutDefaultTaken "a Put lock without its default is let through";
+    PutLockWithAnyDefaultTaken "a Put lock without its default is let through if its key has another default";
+    OrphanTaken "a default to which no Put line points is let through";
+    OrphanBesideLineTaken "a default is let through if a Delete or Rollback line has its key and start";
+    OrphanBesideDeleteLockTaken "a default is let through if a Delete lock has its key and start";
+    OrphanOfAnyStartTaken "a default is let through if a Put line of its key has another start";
+    OrphanBelowPutsTaken "a default to which no Put line points is let through if a Put line is greater by key and start";
+    OrphanBeyondPutsTaken "a default to which no Put line points is let through if no Put line is greater by key and start";
+    LockedDefaultRefused "a default to which a Put lock alone points is refused";
+    TwoRecordsTaken "two records of one key and start are let through";
+    TwoRecordsApartTaken "two records of one key and start are let through if a record of another start is stamped between";
+    TwoPutsTaken "two Put records of one key and start are let through";
+    RollbackBesideRecordTaken "a Rollback and another record of one key and start are let through";
+    LockBesideRecordTaken "a lock and a record of one key and start are let through";
+    LockBesideRollbackTaken "a lock and a Rollback of one key and start are let through";
+    LowLockRefused "a lock whose start is at or below a stamp of its key is refused";
+    OneStartOnTwoKeysRefused "two lines of one start on different keys are refused";
+    SickRoomFirst "11 comes before the 13 of a sick image";
     ImageRoomFirst "11 comes before 13";
     RefusedImageEmpties "a refused image empties the store";
     ImageWithoutRoom13 "an image beyond the room is 13";
@@ -289,16 +324,16 @@ bends! {
     MarksWithoutRecordStarts "the marks leave record starts out"
         never "a sound record's start is never above its stamp";
     MarksWithoutLocks "the marks leave lock starts out";
-    MarksWithoutDefaults "the marks leave default starts out";
+    MarksWithoutDefaults "the marks leave default starts out"
+        never "every default's start is that of its Put line";
     // Rules of mvcc.rs in the place of the paper's (as_rust.rs)
     RustStampAtStart "a Put or Delete stamped with the start itself is no 8, as in mvcc.rs";
     RustRollbackAbove "a Rollback stamped above the start is no 8, as in mvcc.rs";
     RustDefaultFirst "a default at the start is judged before records and locks, as in mvcc.rs";
     RustCommitTaken "a commit onto another start's record is 9, as in mvcc.rs";
-    RustCommitTwoRecords "a commit onto a record beside one of this start is 9, as in mvcc.rs";
-    RustCommitRowFirst "a commit judges its lock's row before the records, as in mvcc.rs";
     RustCommitBetween "a Put or Delete above the start is 8 in a commit, as in mvcc.rs";
     RustCommitHolderFirst "another's lock is 7 in a commit before the records of this start, as in mvcc.rs";
+    RustSickTaken "sick images are let through, as in mvcc.rs";
     // The area, which the paper does not have (area.rs)
     RepackInPrewriteLosesARow "an area packed anew in a prewrite loses a row";
     RepackInPrewriteBatchLosesARow "an area packed anew in a prewrite of a batch loses a row";

@@ -1,6 +1,6 @@
 //! The paper: an own reading of document 01 in plain Rust over maps.
 //!
-//! Each module is one paragraph of document 01. Above each step stands the sentence it carries out, in quotes,
+//! Each module is one paragraph of document 01; sick.rs is what change request 3 adds to Restore. Above each step stands the sentence it carries out, in quotes,
 //! in the order of the paper, so that a reader holding 01 can lay the two side by side. Where 01 leaves room,
 //! docs/DECISIONS.md has the reading.
 //!
@@ -24,6 +24,7 @@ pub mod restore;
 pub mod rollback;
 pub mod room;
 pub mod run;
+pub mod sick;
 mod single;
 pub mod store;
 pub mod trace;

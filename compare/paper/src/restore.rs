@@ -1,6 +1,4 @@
-//! **Restore**: the image's form, its faults, and the store it brings.
-
-use std::collections::BTreeMap;
+//! **Restore**: the image's form, its faults, and the store it brings. What makes it sick is in sick.rs.
 
 use crate::answer::{IMAGE, NO_ROOM, Refusal, refuse};
 use crate::bend::{Bend, bent};
@@ -102,7 +100,7 @@ impl Image {
         self.locks.len() > LOCKS || self.defaults.len() > DEFAULTS || self.locks.len() + self.writes.len() > LINES
     }
 
-    /// The store of an image; none is a fault.
+    /// The store of an image, sick or not; none is a fault by document 01's own checks.
     pub fn store(&self) -> Option<Store> {
         self.judged().filter(|_| !misread::refused(self)).or_else(|| misread::seen(self)?.judged())
     }
@@ -132,8 +130,6 @@ impl Image {
             let lock = raw.lock()?;
             fine(lock.sound())?;
             fine(!bent(Bend::ImagePrimaryOfTable) || table_of(&lock.primary) == self.table)?;
-            let row_there = lock.kind != Kind::Put || store.default_at(key, lock.start).is_some();
-            fine(row_there || !bent(Bend::PutLockNeedsRow))?;
             // "no second lock for a key"
             fine(store.locks.insert(key.clone(), lock).is_none() || bent(Bend::SecondLockTaken))?;
         }
@@ -149,8 +145,6 @@ impl Image {
             let row_there = record.kind != Kind::Put || store.default_at(key, record.start).is_some();
             fine(row_there || bent(Bend::PutWithoutDefaultTaken))?;
         }
-        fine(!bent(Bend::OrphanDefaultRefused) || !store.has_orphan())?;
-        fine(!bent(Bend::TwoLinesRefused) || !store.has_two_lines())?;
         Some(store)
     }
 }
@@ -181,22 +175,15 @@ impl Store {
     /// "**Restore** (replaces the whole store): form, table number not zero, then each entry [..] Any fault 13, then
     /// 11." A refusal leaves the former store.
     pub fn restore(&mut self, image: &[u8]) -> Result<(), Refusal> {
-        let read = Image::read(image);
-        if bent(Bend::ImageRoomFirst) && read.as_ref().is_some_and(Image::counts_beyond_room) {
-            return refuse(NO_ROOM);
-        }
-        let Some(next) = read.and_then(|image| image.store()) else {
-            if bent(Bend::RefusedImageEmpties) {
-                *self = Store::default();
+        let next = match restored(image) {
+            Ok(next) => next,
+            Err(refusal) => {
+                if bent(Bend::RefusedImageEmpties) {
+                    *self = Store::default();
+                }
+                return Err(refusal);
             }
-            return refuse(IMAGE);
         };
-        if next.beyond_room() && !bent(Bend::RoomUnjudged) {
-            if bent(Bend::RefusedImageEmpties) {
-                *self = Store::default();
-            }
-            return refuse(if bent(Bend::ImageWithoutRoom13) { IMAGE } else { NO_ROOM });
-        }
         if bent(Bend::ImageAddsToStore) {
             self.locks.extend(next.locks);
             self.defaults.extend(next.defaults);
@@ -206,32 +193,24 @@ impl Store {
         }
         Ok(())
     }
+}
 
-    /// A default to which no Put line points; 01 accepts it.
-    fn has_orphan(&self) -> bool {
-        self.starts(|store| &store.defaults).any(|(key, start)| {
-            let locked = self.lock_of(key).is_some_and(|lock| lock.start == start && lock.kind == Kind::Put);
-            let recorded = self.records_of(key).any(|(_, record)| record.start == start && record.kind == Kind::Put);
-            !locked && !recorded
-        })
+/// The store that an image brings: document 01's checks, then those of sick images, then the room.
+fn restored(image: &[u8]) -> Result<Store, Refusal> {
+    let read = Image::read(image);
+    if bent(Bend::ImageRoomFirst) && read.as_ref().is_some_and(Image::counts_beyond_room) {
+        return refuse(NO_ROOM);
     }
-
-    /// Two lines of one key and start; 01 accepts them.
-    fn has_two_lines(&self) -> bool {
-        self.records.iter().any(|(key, chain)| {
-            let mut starts: Vec<u64> = chain.values().map(|record| record.start).collect();
-            starts.extend(self.lock_of(key).map(|lock| lock.start));
-            let lines = starts.len();
-            starts.sort_unstable();
-            starts.dedup();
-            starts.len() < lines
-        })
+    let Some(next) = read.and_then(|image| image.store()) else {
+        return refuse(IMAGE);
+    };
+    let beyond = next.beyond_room() && !bent(Bend::RoomUnjudged);
+    // "all are 13, after 01's image checks and before 11"
+    if next.sick() {
+        return refuse(if beyond && bent(Bend::SickRoomFirst) { NO_ROOM } else { IMAGE });
     }
-
-    fn starts<'a, T: 'a>(
-        &'a self,
-        of: impl Fn(&'a Store) -> &'a BTreeMap<Bytes, BTreeMap<u64, T>>,
-    ) -> impl Iterator<Item = (&'a Bytes, u64)> {
-        of(self).iter().flat_map(|(key, chain)| chain.keys().map(move |start| (key, *start)))
+    if beyond {
+        return refuse(if bent(Bend::ImageWithoutRoom13) { IMAGE } else { NO_ROOM });
     }
+    Ok(next)
 }

@@ -17,6 +17,7 @@ use Rattle.lines.specs.declared.store.Slot.{Slot}
 use Rattle.lines.specs.declared.store.Held.{Held}
 use Rattle.lines.specs.declared.store.Store.{Store}
 use Rattle.lines.specs.View.{lineOf, defaultOf, boxOf, noSlot, noHeld}
+use Rattle.ledger.specs.Tidy.{Tidy}
 use Rattle.lines.specs.Made.{SlotBelow, HeldBelow, Kept, Made}
 use Rattle.areas.specs.declared.packing.PackedSlot.{PackedSlot}
 use Rattle.areas.specs.declared.packing.PackedHeld.{PackedHeld}
@@ -194,6 +195,7 @@ module _ {st : Store} {area : Bytes} (m : Made st area) where
                 kept = subst (λ (x : box.Box). Kept x (st .load)) (sym shows) (m .built .kept);
               };
               fit = m .fit;
+              tidy = subst Tidy (sym shows) (m .tidy);
             };
             shown = shows;
             top-is = top-is;

@@ -2,4 +2,3 @@ pub mod KeptLaws
 pub mod WhereLaws
 pub mod BuiltLaws
 pub mod EntryLaws
-pub mod RowLaws

@@ -21,15 +21,17 @@ use Rattle.rules.specs.Room.{loadOf}
 use Rattle.rules.specs.Calls.{Done, settle}
 use Rattle.rules.specs.Commit.{Ending, endingStep, commitKeys, applyCommits, commitSteps, commitAll, commitBatch}
 use Rattle.laws.proofs.LoadLaws.{load-fields}
+use Rattle.ledger.specs.Ledger.{committingBatch, perform}
+use Rattle.ledger.proofs.Tidiness.{tidy-kept}
 use Rattle.lines.specs.declared.store.Store.{Store}
 use Rattle.lines.specs.declared.keys.Looked.{Looked}
 use Rattle.lines.specs.declared.places.FoundRow.{FoundRow}
 use Rattle.lines.specs.View.{boxOf}
 use Rattle.lines.specs.Made.{Made}
 use Rattle.calls.specs.declared.changed.Changed.{Changed}
-use Rattle.calls.specs.Settled.{Settled}
+use Rattle.calls.specs.Settled.{Moved, Settled}
 use Rattle.calls.specs.Walks.{LookedAll, RowsFound, PassAsks, AllAsks}
-use Rattle.calls.proofs.SettledLaws.{settled-same}
+use Rattle.calls.proofs.SettledLaws.{settled, settled-same}
 use Rattle.calls.proofs.AnswerLaws.{head-out, head-on, bad-batch, empty-batch, full-batch}
 use Rattle.commits.specs.Checks.{allDone}
 use Rattle.commits.specs.Passes.{KeysChecked, ApplyAsks, Applied}
@@ -49,19 +51,19 @@ module _ {st : Store} {area s : Bytes} {n : ℕ} {es : List Entry} (a : AllAsks 
     answer-is : v ≡ commitKeys h (boxOf st area) ks
     answer-is = k .is st (record { looks = f; stored = r })
 
-    pub keys-refused : (v ≡ Accepted → ⊥) → Settled st area (allDone h (shown (keyAt s) n es) (boxOf st area)) (record { store = st; answer = v }) area
+    pub keys-refused : (v ≡ Accepted → ⊥) → Moved st area (allDone h (shown (keyAt s) n es) (boxOf st area)) (record { store = st; answer = v }) area
     keys-refused n = all-refused (a .made) h ks answer-is n
 
     module _ (p : v ≡ Accepted) where
       pub all-apply : ApplyAsks st area h s n es founds
       all-apply = record { built = a .made .built; form = a .form; passes = sym answer-is ∙ p; looks = f }
 
-      pub all-applied : {t : Store} → Applied st area h (shown (keyAt s) n es) t → Settled st area (allDone h (shown (keyAt s) n es) (boxOf st area)) (record { store = t; answer = Accepted }) area
+      pub all-applied : {t : Store} → Applied st area h (shown (keyAt s) n es) t → Moved st area (allDone h (shown (keyAt s) n es) (boxOf st area)) (record { store = t; answer = Accepted }) area
       all-applied {t} x = go (x .moved)
         where
-          go : (t ≡ st) ⊎ (t .load .locks < st .load .locks) → Settled st area (allDone h ks (boxOf st area)) (record { store = t; answer = Accepted }) area
+          go : (t ≡ st) ⊎ (t .load .locks < st .load .locks) → Moved st area (allDone h ks (boxOf st area)) (record { store = t; answer = Accepted }) area
           go (inl e) =
-              subst (λ (y : Store). Settled st area (allDone h ks (boxOf st area)) (record { store = y; answer = Accepted }) area) (sym e)
+              subst (λ (y : Store). Moved st area (allDone h ks (boxOf st area)) (record { store = y; answer = Accepted }) area) (sym e)
               (all-replayed (a .made) h ks answer-is p (sym (x .shown) ∙ ap (λ (y : Store). boxOf y area) e))
           go (inr l) =
               let y = load-fields (x .built .kept .load-is ∙ ap loadOf (x .shown)) in
@@ -96,6 +98,6 @@ module _ {st : Store} {area : Bytes} (made : Made st area) (h : Ending) {s : Byt
       pub batch-head : (a ≡ Accepted → ⊥) → Settled st area (commitBatch h s (boxOf st area)) (record { store = st; answer = a }) area
       batch-head f = settled-same made (batch-is ∙ head-out a (commitKeys h (boxOf st area) names) (applyCommits h names (boxOf st area)) (boxOf st area) f)
 
-      pub batch-all : a ≡ Accepted → {t : Changed} → Settled st area (allDone h (shown (keyAt s) (r .count) (r .list)) (boxOf st area)) t area → Settled st area (commitBatch h s (boxOf st area)) t area
-      unfolding allDone
-      batch-all p {t} v = subst (λ (d : Done). Settled st area d t area) (sym (batch-is ∙ head-on a (commitKeys h (boxOf st area) names) (applyCommits h names (boxOf st area)) (boxOf st area) p)) v
+      pub batch-all : a ≡ Accepted → {t : Changed} → Moved st area (allDone h (shown (keyAt s) (r .count) (r .list)) (boxOf st area)) t area → Settled st area (commitBatch h s (boxOf st area)) t area
+      unfolding allDone perform
+      batch-all p {t} v = settled (tidy-kept (committingBatch h s) (boxOf st area) (made .tidy)) (subst (λ (d : Done). Moved st area d t area) (sym (batch-is ∙ head-on a (commitKeys h (boxOf st area) names) (applyCommits h names (boxOf st area)) (boxOf st area) p)) v)

@@ -19,9 +19,9 @@ use Rattle.laws.proofs.CommitLaws.{commits-room}
 use Rattle.lines.specs.declared.store.Store.{Store}
 use Rattle.lines.specs.View.{boxOf}
 use Rattle.lines.specs.Made.{Built, Made}
-use Rattle.lines.proofs.MadeLaws.{made-room, room-made}
-use Rattle.calls.specs.Settled.{Settled}
-use Rattle.calls.proofs.SettledLaws.{settled-same, settled-new}
+use Rattle.lines.proofs.MadeLaws.{room-fits, room-made}
+use Rattle.calls.specs.Settled.{Moved}
+use Rattle.calls.proofs.SettledLaws.{moved-same, moved-new}
 use Rattle.commits.specs.Checks.{allDone}
 
 -- ---- from the keys on: refused, replayed or moved
@@ -31,9 +31,9 @@ module _ {st : Store} {area : Bytes} (made : Made st area) (h : Ending) (ks : Li
   b = boxOf st area
 
   module _ {a : Answer} (e : a ≡ commitKeys h (boxOf st area) ks) where
-    pub all-refused : (a ≡ Accepted → ⊥) → Settled st area (allDone h ks (boxOf st area)) (record { store = st; answer = a }) area
+    pub all-refused : (a ≡ Accepted → ⊥) → Moved st area (allDone h ks (boxOf st area)) (record { store = st; answer = a }) area
     unfolding allDone
-    all-refused n = settled-same made (ap (λ (x : Answer). settle x (applyCommits h ks b) b) (sym e) ∙ settle-old a (applyCommits h ks b) b n)
+    all-refused n = moved-same made (ap (λ (x : Answer). settle x (applyCommits h ks b) b) (sym e) ∙ settle-old a (applyCommits h ks b) b n)
 
     module _ (p : a ≡ Accepted) where
       done-is : allDone h ks b ≡ record { answer = Accepted; box = applyCommits h ks b }
@@ -41,13 +41,13 @@ module _ {st : Store} {area : Bytes} (made : Made st area) (h : Ending) (ks : Li
       done-is = ap (λ (x : Answer). settle x (applyCommits h ks b) b) (sym e) ∙ settle-new a (applyCommits h ks b) b p
 
       -- "equal commit, accepted and unchanged", at every key
-      pub all-replayed : applyCommits h ks (boxOf st area) ≡ boxOf st area → Settled st area (allDone h ks (boxOf st area)) (record { store = st; answer = Accepted }) area
-      all-replayed s = settled-same made (done-is ∙ ap (λ (x : Box). record { answer = Accepted; box = x }) s)
+      pub all-replayed : applyCommits h ks (boxOf st area) ≡ boxOf st area → Moved st area (allDone h ks (boxOf st area)) (record { store = st; answer = Accepted }) area
+      all-replayed s = moved-same made (done-is ∙ ap (λ (x : Box). record { answer = Accepted; box = x }) s)
 
       -- a key at least has a lock less
       pub all-moved : {r : Store} → Built r area → boxOf r area ≡ applyCommits h ks (boxOf st area) → loadOf (applyCommits h ks (boxOf st area)) .locks < loadOf (boxOf st area) .locks
-          → Settled st area (allDone h ks (boxOf st area)) (record { store = r; answer = Accepted }) area
+          → Moved st area (allDone h ks (boxOf st area)) (record { store = r; answer = Accepted }) area
       all-moved {r} v s l =
-          settled-new (made-room v s (commits-room h ks b (room-made made))) (done-is ∙ ap (λ (x : Box). record { answer = Accepted; box = x }) (sym s)) (λ f.
+          moved-new v (room-fits v s (commits-room h ks b (room-made made))) (done-is ∙ ap (λ (x : Box). record { answer = Accepted; box = x }) (sym s)) (λ f.
           let x = load-fields (ap loadOf (sym s ∙ f)) in
           omega (arith, x .locks))

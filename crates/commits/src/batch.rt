@@ -4,7 +4,7 @@ ghost use Rattle.forms.specs.Places.{keyAt};
 ghost use Rattle.rules.specs.Commit.{commitBatch};
 ghost use Rattle.lines.specs.View.{boxOf};
 ghost use Rattle.lines.specs.Made.{Made};
-ghost use Rattle.calls.specs.Settled.{Settled};
+ghost use Rattle.calls.specs.Settled.{Moved, Settled};
 ghost use Rattle.calls.specs.Walks.{endingOf, AllAsks};
 ghost use Rattle.commits.specs.Checks.{allDone};
 use crate::passes::apply_all;
@@ -25,7 +25,7 @@ fn commit_all(
     list: [Entry; 32],
 ) -> Changed
     requires { ⌜ AllAsks store (now area) (now batch) n list ⌝ }
-    ensures { λ r. ⌜ Settled store (now (area .entry)) (allDone (endingOf terms) (shown (keyAt (now (batch .entry))) n list) (boxOf store (now (area .entry)))) r (now (area .entry)) ⌝ }
+    ensures { λ r. ⌜ Moved store (now (area .entry)) (allDone (endingOf terms) (shown (keyAt (now (batch .entry))) n list) (boxOf store (now (area .entry)))) r (now (area .entry)) ⌝ }
 {
     let founds = surveys::look_all(store, area, batch, list, n, terms.start, terms.commit);
     let rows = surveys::find_rows(store, area, batch, list, n, terms.start);

@@ -4,9 +4,11 @@
 use Prim.Native.Nat.{_+_}
 use mathlib.Core.Path.{_≡_}
 use mathlib.Core.List.{List, [], _∷_}
+use Rattle.rules.specs.Image.{Image}
 use Rattle.rules.specs.Figures.{stats}
 use Rattle.ledger.specs.Ledger as ledger
 use Rattle.ledger.specs.Ledger.{Call, after, empty, Holds, differentPairs}
+use Rattle.ledger.specs.Restored.{restored}
 use Rattle.demands.specs.Calls as calls
 use Rattle.demands.specs.Calls.{Sort, aChange, aCommit, aStep, Public, Lent, boxIn, Given, Kept, MadeIn}
 
@@ -43,3 +45,10 @@ pub record Demand3 (cs : List Call) (w : Lent) : Type 0 where
   pub pairs : Holds (boxIn w) (after cs empty .log)
   pub sum : stats (boxIn w) .locks + stats (boxIn w) .records .all ≡ differentPairs (after cs empty .log)
   pub lines : w .store .load .lines ≡ differentPairs (after cs empty .log)
+
+-- Document 02, CR 3: "The third demand then also holds from a restored store, with the image's pairs and rows counted as named before the first
+-- call": the same of the store, where the log begins with the image's names
+pub record Demand3Restored (i : Image) (cs : List Call) (w : Lent) : Type 0 where
+  pub pairs : Holds (boxIn w) (after cs (restored i) .log)
+  pub sum : stats (boxIn w) .locks + stats (boxIn w) .records .all ≡ differentPairs (after cs (restored i) .log)
+  pub lines : w .store .load .lines ≡ differentPairs (after cs (restored i) .log)

@@ -17,7 +17,7 @@ use Rattle.rules.specs.declared.room.Load.{Load}
 use Rattle.rules.specs.Box as box
 use Rattle.rules.specs.Room.{sumOf, loadOf, Fits}
 use Rattle.rules.specs.Image.{Image, image}
-use Rattle.rules.specs.Restore.{allGood, goodDefault, goodLock, goodWrite, goodImage, boxOf}
+use Rattle.rules.specs.Restore.{allGood, goodDefault, goodLock, goodWrite, goodImage, healthyImage, boxOf}
 use Rattle.images.specs.Entries.{Raw, rawAt}
 use Rattle.images.specs.declared.entries.Section.{Section}
 use Rattle.images.specs.declared.entries.Section.the-variants.{Default, Lock, Write}
@@ -91,6 +91,7 @@ pub record Placed (s : Bytes) (load : Load) (wat : ℕ) (rows lines : List ℕ) 
   pub img : Image
   pub is : image s ≡ some img
   pub good : goodImage img ≡ true
+  pub healthy : healthyImage img ≡ true
   pub fit : Fits load
   pub load-is : load ≡ loadOf (boxOf img)
   pub rows-are : map (rowAt s) (take (load .defaults) rows) ≡ boxOf img .defaults

@@ -71,6 +71,11 @@ unfolding allSound
 sound-in (v ∷ ws) w a (inl e) = ap soundRecord e ∙ and-left _ (allSound ws) a
 sound-in (v ∷ ws) w a (inr m) = sound-in ws w (and-right (soundRecord v) _ a) m
 
+pub in-sound : (ws : List Record) → ((w : Record) → In w ws → soundRecord w ≡ true) → allSound ws ≡ true
+unfolding allSound
+in-sound [] h = refl
+in-sound (w ∷ ws) h = and-both _ _ (h w (inl refl)) (in-sound ws (λ v m. h v (inr m)))
+
 pub below-in : (s : ℕ) (ws : List Record) (w : Record) → allBelow s ws ≡ true → In w ws → w .stamp < s
 unfolding allBelow
 below-in s (v ∷ ws) w a (inl e) = ltb-true (w .stamp) s (ap (λ (u : Record). ltb (u .stamp) s) e ∙ and-left _ (allBelow s ws) a)

@@ -4,18 +4,21 @@ use native.Mathlib.Omega.{arith}
 use mathlib.Core.Path.{_≡_, refl, ap, sym, _∙_}
 use mathlib.Core.Logic.{_⊎_, inl, inr}
 use mathlib.Core.Bool.{Bool, true, false, _&&_, not}
-use mathlib.Core.List.{List, [], _∷_, map}
+use mathlib.Core.List.{List, [], _∷_, _++_, map}
+use mathlib.Core.Option.{Option, none, some}
 use lib.Dec.{eqb}
-use Rattle.forms.specs.Bytes.{eqBytes}
+use Rattle.forms.specs.Bytes.{Bytes, eqBytes}
 use Rattle.rules.specs.declared.room.Load.{Load}
-use Rattle.rules.specs.Box.{Standing, Finished, KeyLine, Default, before, rowBefore, insertLine, ordered, inOrder}
-use Rattle.rules.specs.Room.{loadOf}
+use Rattle.rules.specs.Box.{Box, KeyLine, Default, before, rowBefore, insertBy, insertLine, ordered, inOrder}
+use Rattle.rules.specs.Room.{loadOf, roomFor}
 use Rattle.rules.specs.Page.{KeyLock}
-use Rattle.rules.specs.Image.{Image, KeyRecord}
-use Rattle.rules.specs.Restore.{allGood, noneLike, noSecond, goodDefault, goodLock, goodWrite, likeDefault, likeLock, likeWrite, hasDefault, goodImage, placeDefaults, placeWrites, placeLocks, boxOf}
+use Rattle.rules.specs.Image.{Image, KeyRecord, image}
+use Rattle.rules.specs.Restore.{allGood, noneLike, noSecond, goodDefault, goodLock, goodWrite, likeDefault, likeLock, likeWrite, hasDefault, goodImage, imageLines, lockHasDefault, pointedTo, likeLine, healthyImage, placeDefaults, placeWrites, placeLocks, boxOf, restoreSteps, restoreTo, restore}
+pub use Rattle.rules.specs.Restore.{lockLine, writeLine}
 use Rattle.laws.specs.Adds.{plus, sumLoads, lockLoad, recordLoad, rowLoad, linesLoad, defaultsLoad}
-use Rattle.laws.proofs.StepLaws.{and-left, and-right, not-true}
-use Rattle.laws.proofs.Sorted.{In, Clear, clear-insert, ordered-insert, insert-in, in-insert, ordered-same}
+use Rattle.laws.proofs.StepLaws.{passed, and-left, and-right, and-both, not-true}
+use Rattle.laws.proofs.SettleLaws.{settle-keeps}
+use Rattle.laws.proofs.Sorted.{In, all-insert, Clear, clear-insert, ordered-insert, insert-in, in-insert, ordered-same}
 use Rattle.laws.proofs.BoxOrder.{before-trans, before-irrefl, before-else, rowBefore-trans, rowBefore-irrefl, rowBefore-else, samePlace, in-order}
 use Rattle.laws.proofs.LoadLaws.{load-eq, load-fields, none-plus, load-parts, lines-insert, defaults-insert}
 
@@ -49,13 +52,27 @@ good-image i g =
     (noSecond likeDefault (i .defaults)) (noSecond likeLock (i .locks)) (noSecond likeWrite (i .writes)) (allGood (hasDefault (i .defaults)) (i .writes)) g in
     record { table = v .0; defaults = v .1; locks = v .2; writes = v .3; defaults-once = v .4; locks-once = v .5; writes-once = v .6; writes-have = v .7 }
 
--- ---- an image's entries as lines
+-- ---- what an image says that is not sick
 
-abbrev pub lockLine : KeyLock → KeyLine
-lockLine x = record { key = x .key; line = Standing (x .lock) }
+pub record HealthyImage (i : Image) : Type 0 where
+  pub locks-have : allGood (lockHasDefault (i .defaults)) (i .locks) ≡ true
+  pub pointed-to : allGood (pointedTo (imageLines i)) (i .defaults) ≡ true
+  pub lines-once : noSecond likeLine (imageLines i) ≡ true
 
-abbrev pub writeLine : KeyRecord → KeyLine
-writeLine x = record { key = x .key; line = Finished (x .write) }
+pub healthy-image : (i : Image) → healthyImage i ≡ true → HealthyImage i
+unfolding healthyImage
+healthy-image i v = record { locks-have = search passed; pointed-to = search passed; lines-once = search passed }
+
+-- ---- what holds of the box before, and of every image's box that may replace it, holds after
+
+pub restore-keeps : (P : Box → Type 0) (s : Bytes) (b : Box) → P b
+    → ((i : Image) → image s ≡ some i → goodImage i ≡ true → healthyImage i ≡ true → roomFor (boxOf i) ≡ true → P (boxOf i)) → P (restore s b .box)
+unfolding restore restoreTo restoreSteps
+restore-keeps P s b v h = go (image s) h
+  where
+    go : (o : Option Image) → ((i : Image) → o ≡ some i → goodImage i ≡ true → healthyImage i ≡ true → roomFor (boxOf i) ≡ true → P (boxOf i)) → P (restoreTo o b .box)
+    go none h = v
+    go (some i) h = settle-keeps P _ (boxOf i) b v (λ p. h i refl (search passed) (search passed) (search passed))
 
 -- ---- no second of its like: each comes where it has no equal
 
@@ -93,6 +110,36 @@ module _ (x : KeyLock) where
     where
       apart : (t : Bool) → t ≡ false → t && true ≡ false
       apart t e = rw e
+
+-- ---- the box's lines are the image's in one list, each at its place, and so are its defaults
+
+unfoldable pub placed : {A : Type 0} → (A → A → Bool) → List A → List A
+placed lt [] = []
+placed lt (x ∷ xs) = insertBy lt x (placed lt xs)
+
+pub placed-good : {A : Type 0} (lt : A → A → Bool) (p : A → Bool) (xs : List A) → allGood p xs ≡ true → allGood p (placed lt xs) ≡ true
+unfolding placed allGood
+placed-good lt p [] a = refl
+placed-good lt p (x ∷ xs) a = all-insert lt x p (placed lt xs) (and-left _ _ a) (placed-good lt p xs (and-right (p x) _ a))
+
+pub placed-defaults : (ds : List Default) → placeDefaults ds ≡ placed rowBefore ds
+unfolding placeDefaults placed
+placed-defaults [] = refl
+placed-defaults (d ∷ ds) = ap (insertBy rowBefore d) (placed-defaults ds)
+
+pub placed-lines : (ls : List KeyLock) (ws : List KeyRecord) → placeLocks ls (placeWrites ws) ≡ placed before (map lockLine ls ++ map writeLine ws)
+unfolding placeLocks placeWrites placed
+placed-lines [] [] = refl
+placed-lines [] (y ∷ ys) = ap (insertBy before (writeLine y)) (placed-lines [] ys)
+placed-lines (x ∷ xs) ws = ap (insertBy before (lockLine x)) (placed-lines xs ws)
+
+-- what holds of each lock and each write holds of each line
+pub good-lines : (p : KeyLine → Bool) (ls : List KeyLock) (ws : List KeyRecord) → allGood (λ (x : KeyLock). p (lockLine x)) ls ≡ true → allGood (λ (x : KeyRecord). p (writeLine x)) ws ≡ true
+    → allGood p (map lockLine ls ++ map writeLine ws) ≡ true
+unfolding allGood
+good-lines p [] [] a c = refl
+good-lines p [] (y ∷ ys) a c = and-both (p (writeLine y)) _ (and-left _ _ c) (good-lines p [] ys a (and-right (p (writeLine y)) _ c))
+good-lines p (x ∷ xs) ws a c = and-both (p (lockLine x)) _ (and-left _ _ a) (good-lines p xs ws (and-right (p (lockLine x)) _ a) c)
 
 -- ---- the order
 

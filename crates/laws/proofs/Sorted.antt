@@ -99,6 +99,11 @@ fewer-good p empty a = refl
 fewer-good p (gone {x = x} {xs = xs} q) a = fewer-good p q (and-right (p x) (allGood p xs) a)
 fewer-good p (kept {x = x} {xs = xs} q) a = and-both (p x) _ (and-left (p x) (allGood p xs) a) (fewer-good p q (and-right (p x) (allGood p xs) a))
 
+pub good-weaken : {A : Type 0} (p q : A → Bool) → ((x : A) → p x ≡ true → q x ≡ true) → (xs : List A) → allGood p xs ≡ true → allGood q xs ≡ true
+unfolding allGood
+good-weaken p q h [] a = refl
+good-weaken p q h (x ∷ xs) a = and-both (q x) _ (h x (and-left _ _ a)) (good-weaken p q h xs (and-right (p x) _ a))
+
 -- ---- the order
 
 module _ {A : Type 0} (lt : A → A → Bool) where

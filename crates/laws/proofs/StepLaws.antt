@@ -84,5 +84,10 @@ is-none (some x) h = cc
 pub none-there : {A : Type 0} (o : Option A) → not (isSome o) ≡ true → o ≡ none
 none-there o h = is-none o (not-true (isSome o) h)
 
+-- by the two values of a test
+pub by-test : (P : Bool → Type 0) (t : Bool) → (t ≡ true → P true) → (t ≡ false → P false) → P t
+by-test P true f g = f refl
+by-test P false f g = g refl
+
 -- what a checking pass that has passed says of its steps: `search passed`
 pub ruleset passed = (then-left, then-right, need-true, own-true, and-left, and-right)

@@ -1,5 +1,5 @@
--- What holds of a box and its log from an empty store on, after any sequence of calls, follows from what each entry does: one law for every
--- such claim. An entry finds the box as the entries before it left it; what it was allowed on the box as the call found it, it is allowed
+-- What holds of a box and its log, from an empty store or another on, after any sequence of calls, follows from what each entry does: one law
+-- for every such claim. An entry finds the box as the entries before it left it; what it was allowed on the box as the call found it, it is allowed
 -- then. Assumes nothing.
 use Prim.Native.Nat.{ℕ}
 use mathlib.Core.Path.{_≡_, refl}
@@ -130,7 +130,7 @@ module _ (P : Box → List Named → Type 0) (kept : Inductive P) where
     step-kept h (some ms) a =
         then-kept _ _ _ (λ p. applied-kept (allApplied h b ms) h ms refl (a ms refl) (then-left _ _ p) (then-left _ _ (then-right _ _ p)))
 
-    call-kept : (c : Call) → Kept (perform c b) (namedBy c) log
+    pub call-kept : (c : Call) → Kept (perform c b) (namedBy c) log
     unfolding perform namedBy prewriteBatch commitBatch rollbackBatch oneStep
     call-kept (prewritingBatch h s) = batch-kept _ (mutations s) (prewriteAll h) b log (λ ms e. prewriteAll-kept h ms (mutations-ascend s ms e)) v
     call-kept (committingBatch h s) = batch-kept _ (keys s) (commitAll h) b log (λ ks e. commitAll-kept h ks (keys-ascend s ks e)) v
@@ -139,7 +139,7 @@ module _ (P : Box → List Named → Type 0) (kept : Inductive P) where
 
   -- ---- every sequence
 
-  after-kept : (cs : List Call) (p : Past) → P (p .box) (p .log) → P (after cs p .box) (after cs p .log)
+  pub after-kept : (cs : List Call) (p : Past) → P (p .box) (p .log) → P (after cs p .box) (after cs p .log)
   unfolding after then
   after-kept [] p v = v
   after-kept (c ∷ cs) p v = after-kept cs (then c p) (call-kept (p .box) (p .log) v c)

@@ -1,4 +1,4 @@
--- The theorems of this crate, Demand3, Refusals and Tidiness, and the laws that they stand on. Assumes nothing.
+-- The theorems of this crate, Demand3, Restored, Refusals, Tidiness and Unmet, and the laws that they stand on. Assumes nothing.
 pub mod ChosenLaws
 pub mod LineLaws
 pub mod RowLaws
@@ -15,4 +15,6 @@ pub mod Refusals
 pub mod SoundEntries
 pub mod Rooms
 pub mod Tidiness
+pub mod Unmet
+pub mod Restored
 pub mod Example

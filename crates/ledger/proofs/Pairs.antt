@@ -15,7 +15,7 @@ fresh-holds : Holds fresh []
 unfolding fresh named chosen
 fresh-holds k s = absent refl refl
 
-holds-kept : Inductive Holds
+pub holds-kept : Inductive Holds
 holds-kept = record {
   at-first = fresh-holds;
   prewritten = λ h m b log z p. prewrite-holds h m b log p;

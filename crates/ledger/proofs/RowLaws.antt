@@ -1,7 +1,7 @@
 -- What the rows of a pair become when a row comes or goes. Assumes nothing.
 use Prim.Native.Nat.{ℕ}
 use mathlib.Core.Path.{_≡_, refl, sym, _∙_}
-use mathlib.Core.Bool.{Bool, true, false, _&&_}
+use mathlib.Core.Bool.{Bool, true, false, _&&_, not}
 use mathlib.Core.List.{List, [], _∷_}
 use mathlib.Core.Option.{Option, none, some}
 use lib.Dec.{eqb}
@@ -13,7 +13,7 @@ use Rattle.forms.proofs.Orders.{eqBytes-refl, eqBytes-true}
 use Rattle.rules.specs.Box.{Default, atPair, rowBefore, insertDefault, dropRow, unlessRow, rowOf, addRow}
 use Rattle.laws.proofs.StepLaws.{and-left, and-right}
 use Rattle.ledger.specs.Ledger.{chosen, rowsAt, consIf}
-use Rattle.ledger.proofs.ChosenLaws.{chosen-other, chosen-new}
+use Rattle.ledger.proofs.ChosenLaws.{without, without-gone, without-stays, chosen-other, chosen-new}
 
 abbrev pub firstOf : List Row → Option Row
 firstOf [] = none
@@ -37,37 +37,40 @@ nil-first (r ∷ rs) h = cc
 pub no-rows : (k : Key) (s : ℕ) (ds : List Default) → rowOf k s ds ≡ none → rowsAt k s ds ≡ []
 no-rows k s ds h = nil-first _ (sym (row-first k s ds) ∙ h)
 
+-- ---- pairs
+
+pub pair-is : (k j : Key) (s q : ℕ) → eqBytes k j && eqb s q ≡ true → (k ≡ j) × (s ≡ q)
+pair-is k j s q h = (eqBytes-true k j (and-left _ _ h), eqb-true s q (and-right (eqBytes k j) _ h))
+
+-- what is of one pair is alike
+pub pair-alike : (k : Key) (s : ℕ) (i j : Key) (q r : ℕ) → eqBytes k i && eqb s q ≡ true → eqBytes k j && eqb s r ≡ true → eqBytes i j && eqb q r ≡ true
+pair-alike k s i j q r h n = let e = pair-is k i s q h in rw (sym (e .0), sym (e .1)) n
+
+pub apart : (k i : Key) (s q : ℕ) (j : Key) (r : ℕ) → eqBytes k i && eqb s q ≡ false → eqBytes i j && eqb q r ≡ true → eqBytes k j && eqb s r ≡ false
+apart k i s q j r h e = let p = pair-is i j q r e in rw (sym (p .0), sym (p .1)) h
+
 -- ---- a row goes
 
-gone-cons : (b : Bool) (k : Key) (s : ℕ) (d : Default) (ds : List Default) → atPair k s d ≡ b → rowsAt k s ds ≡ [] → rowsAt k s (unlessRow b d ds) ≡ []
-unfolding unlessRow chosen consIf
-gone-cons true k s d ds h ih = ih
-gone-cons false k s d ds h ih = rw h ih
+drop-without : (k : Key) (s : ℕ) (ds : List Default) → dropRow k s ds ≡ without (atPair k s) ds
+unfolding dropRow unlessRow chosen consIf
+drop-without k s [] = refl
+drop-without k s (d ∷ ds) = go (atPair k s d) (drop-without k s ds)
+  where
+    go : (t : Bool) → dropRow k s ds ≡ without (atPair k s) ds → unlessRow t d (dropRow k s ds) ≡ consIf (not t) d (without (atPair k s) ds)
+    go true ih = ih
+    go false ih = rw ih
 
 pub rows-gone : (k : Key) (s : ℕ) (ds : List Default) → rowsAt k s (dropRow k s ds) ≡ []
-unfolding dropRow chosen
-rows-gone k s [] = refl
-rows-gone k s (d ∷ ds) = gone-cons (atPair k s d) k s d (dropRow k s ds) refl (rows-gone k s ds)
+rows-gone k s ds = rw (drop-without k s ds) (without-gone (atPair k s) (λ (d : Default). d .row) ds)
 
-module _ (i k : Key) (q s : ℕ) (apart : eqBytes k i && eqb s q ≡ false) where
-  stays-cons : (b : Bool) (d : Default) (ds rest : List Default) → atPair i q d ≡ b → rowsAt k s rest ≡ rowsAt k s ds → rowsAt k s (unlessRow b d rest) ≡ rowsAt k s (d ∷ ds)
-  unfolding unlessRow chosen consIf
-  stays-cons true d ds rest h ih =
-      let a : d .key ≡ i = sym (eqBytes-true i (d .key) (and-left _ _ h)) in
-      let c : d .start ≡ q = sym (eqb-true q (d .start) (and-right (eqBytes i (d .key)) _ h)) in
-      let t : atPair k s d ≡ false = rw (a, c) apart in
-      rw t ih
-  stays-cons false d ds rest h ih = rw ih
-
+module _ (i k : Key) (q s : ℕ) (other : eqBytes k i && eqb s q ≡ false) where
   pub rows-stay : (ds : List Default) → rowsAt k s (dropRow i q ds) ≡ rowsAt k s ds
-  unfolding dropRow
-  rows-stay [] = refl
-  rows-stay (d ∷ ds) = stays-cons (atPair i q d) d ds (dropRow i q ds) refl (rows-stay ds)
+  rows-stay ds = rw (drop-without i q ds) (without-stays (atPair k s) (λ (d : Default). d .row) (atPair i q) (λ d. apart k i s q (d .key) (d .start) other) ds)
 
   -- ---- a row comes
 
   pub rows-other : (r : Row) (ds : List Default) → rowsAt k s (insertDefault (record { key = i; start = q; row = r }) ds) ≡ rowsAt k s ds
-  rows-other r ds = chosen-other (atPair k s) (λ (d : Default). d .row) rowBefore (record { key = i; start = q; row = r }) ds apart
+  rows-other r ds = chosen-other (atPair k s) (λ (d : Default). d .row) rowBefore (record { key = i; start = q; row = r }) ds other
 
 pub self : (k : Key) (s : ℕ) → eqBytes k k && eqb s s ≡ true
 self k s = rw (eqBytes-refl k) (eq-eqb s s refl)

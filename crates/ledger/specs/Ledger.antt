@@ -19,7 +19,8 @@ use Rattle.rules.specs.declared.answers.Answer.{Answer}
 use Rattle.rules.specs.declared.answers.Answer.the-variants.{Accepted, No, Held}
 use Rattle.rules.specs.declared.records.Kind.{Kind}
 use Rattle.rules.specs.declared.records.Kind.the-variants.{Put, Delete, Rollback}
-use Rattle.rules.specs.Box.{Box, Line, Standing, Finished, KeyLine, Default, fresh, atPair}
+use Rattle.rules.specs.Box.{Box, Line, KeyLine, Default, fresh, atPair, rowOf, eqKind}
+pub use Rattle.rules.specs.Box.{startOf, kindIn, lineIs}
 use Rattle.rules.specs.Calls.{Done}
 use Rattle.rules.specs.Prewrite.{Head, prewriteBatch}
 use Rattle.rules.specs.Commit.{Ending, commitBatch}
@@ -146,20 +147,6 @@ differentPairs (n ∷ log) = sucUnless (named (n .key) (n .start) log) (differen
 
 -- ---- the pair in the box: its lines and its rows
 
--- a line's start, a standing lock's or a finished record's
-abbrev pub startOf : Line → ℕ
-startOf (Standing l) = l .start
-startOf (Finished w) = w .start
-
--- a line's kind
-abbrev pub kindIn : Line → Kind
-kindIn (Standing l) = l .kind
-kindIn (Finished w) = w .kind
-
--- the line is of this pair
-abbrev pub lineIs : Key → ℕ → KeyLine → Bool
-lineIs k s e = eqBytes k (e .key) && eqb s (startOf (e .line))
-
 -- one more, if it is chosen
 unfoldable pub consIf : {A : Type 0} → Bool → A → List A → List A
 consIf true x xs = x ∷ xs
@@ -177,6 +164,15 @@ linesAt k s es = chosen (lineIs k s) (λ (e : KeyLine). e .line) es
 -- each row that is stored for this key and this start
 abbrev pub rowsAt : Key → ℕ → List Default → List Row
 rowsAt k s ds = chosen (atPair k s) (λ (d : Default). d .row) ds
+
+-- ---- what stands, as if it had been named: one name for each line, its key and start, with its row if it is a Put
+
+abbrev pub ofLine : List Default → KeyLine → Named
+ofLine ds e = record {
+  key = e .key;
+  start = startOf (e .line);
+  row = rowIf (eqKind (kindIn (e .line)) Put) (rowOf (e .key) (startOf (e .line)) ds);
+}
 
 -- ---- the demand
 

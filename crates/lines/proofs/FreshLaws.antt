@@ -11,6 +11,7 @@ use Rattle.forms.specs.Bytes.{Bytes}
 use Rattle.rules.specs.Box as box
 use Rattle.rules.specs.Restore.{allGood}
 use Rattle.rules.specs.Room.{loadOf, sumOf}
+use Rattle.ledger.proofs.Tidiness.{fresh-tidy}
 use Rattle.lines.specs.declared.store.Slot.{Slot}
 use Rattle.lines.specs.declared.store.Held.{Held}
 use Rattle.lines.specs.View.{noSlot, noHeld, boxOf}
@@ -30,6 +31,7 @@ fresh-store s d e f area l = record {
       kept = record { load-is = refl; sorted = refl; keys = record { lines = refl; defaults = refl } };
     };
     fit = record { lines = omega arith; locks = omega arith; defaults = omega arith; bytes = omega arith };
+    tidy = fresh-tidy;
   };
   shown = refl;
   top-is = refl;

@@ -12,7 +12,7 @@ use Rattle.forms.specs.Bytes.{Bytes}
 use Rattle.forms.specs.Key.{keyForm}
 use Rattle.rules.specs.Box as box
 use Rattle.rules.specs.Restore.{allGood}
-use Rattle.rules.specs.Room.{fits, roomFor}
+use Rattle.rules.specs.Room.{Fits, fits, roomFor}
 use Rattle.rules.proofs.RoomLaws.{fits-out, fits-in}
 use Rattle.laws.proofs.StepLaws.{and-left, and-right}
 use Rattle.lines.specs.declared.store.Store.{Store}
@@ -27,12 +27,9 @@ module _ {st : Store} {area : Bytes} (b : Built st area) where
   unfolding roomFor
   room-is = ap fits (b .kept .load-is)
 
-  pub made-fits : fits (st .load) ≡ true → Made st area
-  made-fits h = record { built = b; fit = fits-out (st .load) h }
-
-  -- a box with room is that of a made store
-  pub made-room : {x : box.Box} → boxOf st area ≡ x → roomFor x ≡ true → Made st area
-  made-room e h = made-fits (room-is ∙ ap roomFor e ∙ h)
+  -- the store of a box with room is within the limits
+  pub room-fits : {x : box.Box} → boxOf st area ≡ x → roomFor x ≡ true → Fits (st .load)
+  room-fits e h = fits-out (st .load) (room-is ∙ ap roomFor e ∙ h)
 
 pub room-made : {st : Store} {area : Bytes} → Made st area → roomFor (boxOf st area) ≡ true
 room-made {st} m = sym (room-is (m .built)) ∙ fits-in (st .load) (m .fit)

@@ -1,5 +1,4 @@
--- What every call asks of a store, and leaves: the only premise of any public call. Nothing here speaks of soundness, of rows in form or of
--- rows being there: those checks stay in the steps.
+-- What every call asks of a store, and leaves: the only premise of any public call.
 -- Assumes nothing.
 use mathlib.Core.Path.{_≡_}
 use mathlib.Core.Bool.{Bool, true, false}
@@ -13,6 +12,7 @@ use Rattle.rules.specs.Box as box
 use Rattle.rules.specs.Room.{loadOf, Fits}
 use Rattle.rules.specs.Restore.{allGood}
 use Rattle.rules.specs.declared.room.Load.{Load}
+use Rattle.ledger.specs.Tidy.{Tidy}
 use Rattle.lines.specs.View.{boxOf, noSlot, noHeld}
 use Rattle.lines.specs.declared.store.Line.{Line}
 use Rattle.lines.specs.declared.store.Line.the-variants.{Standing, Finished}
@@ -56,10 +56,11 @@ pub record Built (s : Store) (area : Bytes) : Type 0 where
   pub defaults : Table (HeldBelow (s .top)) noHeld 1024 (s .load .defaults) (s .defaults)
   pub kept : Kept (boxOf s area) (s .load)
 
--- within the four limits: what every call asks, and leaves
+-- within the four limits, and tidy: what every call asks, and leaves
 pub record Made (s : Store) (area : Bytes) : Type 0 where
   pub built : Built s area
   pub fit : Fits (s .load)
+  pub tidy : Tidy (boxOf s area)
 
 pub record FreshStore (s : Store) (area : Bytes) : Type 0 where
   pub made : Made s area

@@ -29,28 +29,35 @@ use Rattle.laws.proofs.CallLaws.{step-new}
 use Rattle.laws.proofs.FrameLaws.{ascend-apart}
 use Rattle.laws.proofs.BatchLaws.{checkAll}
 use Rattle.laws.proofs.OneStepLaws.{stepCheck, step-passed, step-records, steps-other}
+use Rattle.ledger.specs.Ledger.{oneStepping, perform}
+use Rattle.ledger.proofs.Tidiness.{tidy-kept}
 use Rattle.lines.specs.declared.store.Store.{Store}
 use Rattle.lines.specs.declared.places.FoundRow.{FoundRow}
 use Rattle.lines.specs.declared.keys.Looked.{Looked}
 use Rattle.lines.specs.View.{boxOf}
 use Rattle.lines.specs.Made.{Made}
-use Rattle.lines.proofs.MadeLaws.{made-room}
+use Rattle.lines.proofs.MadeLaws.{room-fits}
 use Rattle.areas.specs.Packs.{Placed}
 use Rattle.calls.specs.Walks.{noLook, noFound, LookedAll, RowsFound}
-use Rattle.calls.proofs.SettledLaws.{then-refused, settled-same, settled-new}
+use Rattle.calls.proofs.SettledLaws.{then-refused, settled, moved-same, moved-new}
 use Rattle.stepchecks.specs.Verdicts.{JudgeAsks, laterDone, Fresh, Decided}
 use Rattle.stepchecks.specs.declared.verdict.Room.{Room}
 use Rattle.stepchecks.specs.declared.verdict.Verdict.{Verdict}
 use Rattle.stepchecks.specs.declared.verdict.Verdict.the-variants.{Stays, Applies}
 use Rattle.onesteps.specs.Writes.{SpotAt, RowAt}
 use Rattle.onesteps.specs.Applies.{ApplyAsks, Shows}
-use Rattle.onesteps.specs.Counts.{Counts, StepAsks, laterCounted}
+use Rattle.onesteps.specs.Counts.{Counting, Counts, StepAsks, laterCounted}
 use Rattle.onesteps.specs.declared.batch.Stepped.{Stepped}
 use Rattle.onesteps.proofs.SpotLaws.{new-checks, spots-are, rows-are}
 
 -- nothing has changed
-counts-same : {st : Store} {area : Bytes} {d : Counted} {a : Answer} {n : ℕ} → Made st area → d ≡ record { done = record { answer = a; box = boxOf st area }; count = n } → Counts st area d (record { store = st; answer = a; count = n }) area
-counts-same m e = record { settled = settled-same m (ap (λ (x : Counted). x .done) e); count-is = sym (ap (λ (x : Counted). x .count) e) }
+counting-same : {st : Store} {area : Bytes} {d : Counted} {a : Answer} {n : ℕ} → Made st area → d ≡ record { done = record { answer = a; box = boxOf st area }; count = n } → Counting st area d (record { store = st; answer = a; count = n }) area
+counting-same m e = record { moved = moved-same m (ap (λ (x : Counted). x .done) e); count-is = sym (ap (λ (x : Counted). x .count) e) }
+
+-- the definition leaves a tidy box
+counts : {st : Store} {area : Bytes} (made : Made st area) (h : Ending) (s : Bytes) {t : Stepped} {area′ : Bytes} → Counting st area (oneStep h s (boxOf st area)) t area′ → Counts st area (oneStep h s (boxOf st area)) t area′
+unfolding perform
+counts {st} {area} made h s k = record { settled = settled (tidy-kept (oneStepping h s) (boxOf st area) (made .tidy)) (k .moved); count-is = k .count-is }
 
 -- ---- "6; 3; each entry in turn 1, 2"
 
@@ -63,7 +70,7 @@ out-counted (Held o) b d n f = refl
 module _ {st : Store} {area : Bytes} (made : Made st area) (h : Ending) {s : Bytes} {r : Entries} (d : Decoded (mutationOf s) s (mutations s) r) where
   pub not-form : not (r .ok) ≡ true → Counts st area (oneStep h s (boxOf st area)) (record { store = st; answer = No 6; count = 0 }) area
   unfolding oneStep ofCounted
-  not-form n = counts-same made (ap (λ (o : Option (List Mutation)). ofCounted o (stepAll h) (boxOf st area)) (decoded-bad d n))
+  not-form n = counts made h s (counting-same made (ap (λ (o : Option (List Mutation)). ofCounted o (stepAll h) (boxOf st area)) (decoded-bad d n)))
 
   module _ (good : not (r .ok) ≡ false) where
     abbrev b : box.Box
@@ -82,7 +89,7 @@ module _ {st : Store} {area : Bytes} (made : Made st area) (h : Ending) {s : Byt
         ∙ ap (λ (x : Answer). record { done = thenApplied x b later; count = countIf (thenApplied x b later .answer) (length ms) }) e
 
     one-out : {v : Answer} → stepArguments h ms b ≡ v → (v ≡ Accepted → ⊥) → Counts st area (oneStep h s b) (record { store = st; answer = v; count = 0 }) area
-    one-out {v} e n = counts-same made (one-is e ∙ out-counted v b later (length ms) n)
+    one-out {v} e n = counts made h s (counting-same made (one-is e ∙ out-counted v b later (length ms) n))
 
     module _ {a : Answer} (e : a ≡ endingStep h) where
       pub head-out : (a ≡ Accepted → ⊥) → Counts st area (oneStep h s (boxOf st area)) (record { store = st; answer = a; count = 0 }) area
@@ -97,9 +104,9 @@ module _ {st : Store} {area : Bytes} (made : Made st area) (h : Ending) {s : Byt
         pub batch-asks : v ≡ Accepted → StepAsks st area s (r .count) (r .list)
         batch-asks q = record { all = record { made = made; form = mutations-in-form d good }; arguments = sym f ∙ q }
 
-        pub batch-all : v ≡ Accepted → {t : Stepped} {area′ : Bytes} → Counts st area (laterCounted h (shown (mutationOf s) (r .count) (r .list)) (boxOf st area)) t area′ → Counts st area (oneStep h s (boxOf st area)) t area′
+        pub batch-all : v ≡ Accepted → {t : Stepped} {area′ : Bytes} → Counting st area (laterCounted h (shown (mutationOf s) (r .count) (r .list)) (boxOf st area)) t area′ → Counts st area (oneStep h s (boxOf st area)) t area′
         unfolding stepArguments laterDone
-        batch-all q {t} {area′} k = subst (λ (x : Counted). Counts st area x t area′) (sym (one-is (sym (call-on (need (noneOther h b ms) 9) a (endingStep h) _ e p (call-on (need (noneOther h b ms) 9) v (argumentsStep ms) _ f q refl))))) k
+        batch-all q {t} {area′} k = counts made h s (subst (λ (x : Counted). Counting st area x t area′) (sym (one-is (sym (call-on (need (noneOther h b ms) 9) a (endingStep h) _ e p (call-on (need (noneOther h b ms) 9) v (argumentsStep ms) _ f q refl))))) k)
 
 -- ---- the box that a batch leaves is another one: the first entry's key has one record more
 
@@ -135,10 +142,10 @@ module _ {st : Store} {area s : Bytes} {n : ℕ} {es : List Entry} (a : StepAsks
   count-is = shown-length (a .all .form .listed) (mutationOf s)
 
   module _ {v : Verdict} (d : Decided h (boxOf st area) (shown (mutationOf s) n es) v) where
-    pub all-old : {x : Answer} → v ≡ Stays x → {c : ℕ} → c ≡ countIf x n → Counts st area (laterCounted h (shown (mutationOf s) n es) (boxOf st area)) (record { store = st; answer = x; count = c }) area
+    pub all-old : {x : Answer} → v ≡ Stays x → {c : ℕ} → c ≡ countIf x n → Counting st area (laterCounted h (shown (mutationOf s) n es) (boxOf st area)) (record { store = st; answer = x; count = c }) area
     all-old {x} e g =
         let q : laterDone h entries was ≡ record { answer = x; box = was } = subst (Decided h was entries) e d in
-        counts-same (a .all .made)
+        counting-same (a .all .made)
         (ap (λ (y : Done). record { done = y; count = countIf (y .answer) (length entries) }) q
         ∙ ap (λ (i : ℕ). record { done = record { answer = x; box = was }; count = i }) (ap (countIf x) count-is ∙ sym g))
 
@@ -163,13 +170,13 @@ module _ {st : Store} {area s : Bytes} {n : ℕ} {es : List Entry} (a : StepAsks
         }
 
         pub all-new : {t : Store} {area″ : Bytes} → Shows (applySteps h (shown (mutationOf s) n es) (boxOf st′ area′)) t area″
-            → Counts st area (laterCounted h (shown (mutationOf s) n es) (boxOf st area)) (record { store = t; answer = Accepted; count = n }) area″
+            → Counting st area (laterCounted h (shown (mutationOf s) n es) (boxOf st area)) (record { store = t; answer = Accepted; count = n }) area″
         unfolding countIf
         all-new {t} {area″} g =
             let is : boxOf t area″ ≡ applySteps h entries was = g .shown ∙ ap (applySteps h entries) (p .shown) in
             record {
-              settled =
-                  settled-new (made-room (g .built) is (step-new h entries was (fresh .passes) .2)) (fresh .done-is ∙ ap (λ (x : box.Box). record { answer = Accepted; box = x }) (sym is))
+              moved =
+                  moved-new (g .built) (room-fits (g .built) is (step-new h entries was (fresh .passes) .2)) (fresh .done-is ∙ ap (λ (x : box.Box). record { answer = Accepted; box = x }) (sym is))
                   (λ q. steps-differ h entries was (fresh .some) (mutations-by-keys s n es ∙ a .all .form .ascends) (new-checks h was entries (fresh .passes)) (a .all .made .built .kept .sorted) (sym is ∙ q));
               count-is = sym (ap (λ (x : Done). countIf (x .answer) (length entries)) (fresh .done-is) ∙ count-is);
             }

@@ -14,7 +14,7 @@ use Rattle.rules.specs.Box as box
 use Rattle.rules.specs.Commit.{Ending}
 use Rattle.rules.specs.OneStep.{Counted, countIf, argumentsStep}
 use Rattle.lines.specs.declared.store.Store.{Store}
-use Rattle.calls.specs.Settled.{Settled}
+use Rattle.calls.specs.Settled.{Moved, Settled}
 use Rattle.calls.specs.Walks.{AllAsks}
 use Rattle.stepchecks.specs.Verdicts.{laterDone}
 use Rattle.onesteps.specs.declared.batch.Stepped.{Stepped}
@@ -22,6 +22,11 @@ use Rattle.onesteps.specs.declared.batch.Stepped.{Stepped}
 -- `d` is the definition's answer, the box after it, and its count
 pub record Counts (st : Store) (area : Bytes) (d : Counted) (r : Stepped) (area′ : Bytes) : Type 0 where
   pub settled : Settled st area (d .done) (record { store = r .store; answer = r .answer }) area′
+  pub count-is : r .count ≡ d .count
+
+-- what the steps leave, and the count
+pub record Counting (st : Store) (area : Bytes) (d : Counted) (r : Stepped) (area′ : Bytes) : Type 0 where
+  pub moved : Moved st area (d .done) (record { store = r .store; answer = r .answer }) area′
   pub count-is : r .count ≡ d .count
 
 -- a batch in form whose arguments have passed

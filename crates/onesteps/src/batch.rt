@@ -6,7 +6,7 @@ ghost use Rattle.rules.specs.OneStep.{countIf, oneStep};
 ghost use Rattle.lines.specs.View.{boxOf};
 ghost use Rattle.lines.specs.Made.{Made};
 ghost use Rattle.calls.specs.Walks.{endingOf};
-ghost use Rattle.onesteps.specs.Counts.{StepAsks, laterCounted, Counts};
+ghost use Rattle.onesteps.specs.Counts.{StepAsks, laterCounted, Counting, Counts};
 use crate::writes::apply_all;
 use calls::Terms;
 use forms::Entry;
@@ -43,7 +43,7 @@ fn step_all(
     list: [Entry; 32],
 ) -> Stepped
     requires { ⌜ StepAsks store (now area) (now batch) n list ⌝ }
-    ensures { λ r. ⌜ Counts store (now (area .entry)) (laterCounted (endingOf terms) (shown (mutationOf (now (batch .entry))) n list) (boxOf store (now (area .entry)))) r (now (area .exit)) ⌝ }
+    ensures { λ r. ⌜ Counting store (now (area .entry)) (laterCounted (endingOf terms) (shown (mutationOf (now (batch .entry))) n list) (boxOf store (now (area .entry)))) r (now (area .exit)) ⌝ }
 {
     let founds = surveys::look_all(store, area, batch, list, n, terms.start, terms.commit);
     let stored = surveys::find_rows(store, area, batch, list, n, terms.start);

@@ -20,13 +20,15 @@ use Rattle.rules.specs.Calls.{Done, settle}
 use Rattle.rules.specs.Prewrite.{Head, headStep, prewriteEntries, prewriteRoom, prewriteSteps, applyPrewrites, prewriteAll, prewriteBatch}
 use Rattle.laws.proofs.StepLaws.{passed}
 use Rattle.laws.proofs.ChainLaws.{denies}
+use Rattle.ledger.specs.Ledger.{prewritingBatch, perform}
+use Rattle.ledger.proofs.Tidiness.{tidy-kept}
 use Rattle.lines.specs.declared.store.Store.{Store}
 use Rattle.lines.specs.View.{boxOf}
 use Rattle.lines.specs.Made.{Made}
 use Rattle.calls.specs.declared.changed.Changed.{Changed}
-use Rattle.calls.specs.Settled.{Settled}
+use Rattle.calls.specs.Settled.{Moved, Settled}
 use Rattle.calls.specs.Walks.{AllAsks}
-use Rattle.calls.proofs.SettledLaws.{settled-same}
+use Rattle.calls.proofs.SettledLaws.{settled, settled-same}
 use Rattle.calls.proofs.AnswerLaws.{head-out, head-on, bad-batch, empty-batch, full-batch}
 use Rattle.prewrites.specs.Applies.{allDone}
 
@@ -62,6 +64,6 @@ module _ {st : Store} {area : Bytes} (made : Made st area) (h : Head) {s : Bytes
         let ok : r .ok ≡ true = search passed in
         (record { made = made; form = mutations-in-form d (denies _ ok) }, search passed)
 
-    pub batch-done : {t : Changed} {area′ : Bytes} → Settled st area (allDone h (shown (mutationOf s) (r .count) (r .list)) (boxOf st area)) t area′ → Settled st area (prewriteBatch h s (boxOf st area)) t area′
-    unfolding allDone
-    batch-done {t} {area′} v = subst (λ (x : Done). Settled st area x t area′) (sym (batch-is ∙ head-on a rest (applyPrewrites h ms b) b p)) v
+    pub batch-done : {t : Changed} {area′ : Bytes} → Moved st area (allDone h (shown (mutationOf s) (r .count) (r .list)) (boxOf st area)) t area′ → Settled st area (prewriteBatch h s (boxOf st area)) t area′
+    unfolding allDone perform
+    batch-done {t} {area′} v = settled (tidy-kept (prewritingBatch h s) b (made .tidy)) (subst (λ (x : Done). Moved st area x t area′) (sym (batch-is ∙ head-on a rest (applyPrewrites h ms b) b p)) v)

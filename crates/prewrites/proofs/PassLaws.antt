@@ -35,11 +35,11 @@ use Rattle.lines.specs.declared.keys.Looked.{Looked}
 use Rattle.lines.specs.declared.places.FoundRow.{FoundRow}
 use Rattle.lines.specs.View.{boxOf}
 use Rattle.lines.specs.Made.{Built}
-use Rattle.calls.specs.Settled.{isAccepted, Settled}
+use Rattle.calls.specs.Settled.{isAccepted, Moved}
 use Rattle.calls.specs.Walks.{LookedAll, RowsFound, PassAsks, AllAsks}
 use Rattle.calls.specs.Weights.{LeftAsks, AllChecked}
 use Rattle.calls.specs.declared.weights.Weight.{Weight}
-use Rattle.calls.proofs.SettledLaws.{is-accepted, is-refusal, then-refused, settled-same, settled-new}
+use Rattle.calls.proofs.SettledLaws.{is-accepted, is-refusal, then-refused, moved-same, moved-new}
 use Rattle.prewrites.specs.declared.passes.Verdict.{Verdict}
 use Rattle.prewrites.specs.Checks.{stepsOf, leftBy, Judged, AllJudged}
 use Rattle.prewrites.specs.Applies.{allDone}
@@ -146,8 +146,8 @@ module _ {st : Store} {area s : Bytes} {n : ℕ} {es : List Entry} (a : AllAsks 
     done-is = ap (λ (x : Answer). settle x (applyPrewrites h ms b) b) (ap (λ (l : Load). prewriteEntries h b ms ▸ need (fits l) 11) (sym left-is) ∙ sym (j .answer-is))
 
     -- a refusal, or a replay
-    pub pass-stays : not (v .moves) ≡ true → Settled st area (allDone h (shown (mutationOf s) n es) (boxOf st area)) (record { store = st; answer = v .answer }) area
-    pass-stays x = settled-same (a .made) (done-is ∙ go (isAccepted (v .answer)) refl)
+    pub pass-stays : not (v .moves) ≡ true → Moved st area (allDone h (shown (mutationOf s) n es) (boxOf st area)) (record { store = st; answer = v .answer }) area
+    pass-stays x = moved-same (a .made) (done-is ∙ go (isAccepted (v .answer)) refl)
       where
         go : (t : Bool) → isAccepted (v .answer) ≡ t → settle (v .answer) (applyPrewrites h ms b) b ≡ record { answer = v .answer; box = b }
         go false e = settle-old (v .answer) (applyPrewrites h ms b) b (is-refusal (v .answer) (sym e) refl)
@@ -181,9 +181,9 @@ module _ {st : Store} {area s : Bytes} {n : ℕ} {es : List Entry} (a : AllAsks 
 
       -- the box is another one
       pub pass-new : {t : Store} {area′ : Bytes} → (Built t area′) × (boxOf t area′ ≡ applyPrewrites h (shown (mutationOf s) n es) (boxOf st area))
-          → Settled st area (allDone h (shown (mutationOf s) n es) (boxOf st area)) (record { store = t; answer = Accepted }) area′
+          → Moved st area (allDone h (shown (mutationOf s) n es) (boxOf st area)) (record { store = t; answer = Accepted }) area′
       pass-new {t} {area′} q =
-          settled-new (record { built = q .0; fit = subst Fits (load-is ∙ left-is ∙ sym (q .0 .kept .load-is ∙ ap loadOf (q .1))) fit })
+          moved-new (q .0) (subst Fits (load-is ∙ left-is ∙ sym (q .0 .kept .load-is ∙ ap loadOf (q .1))) fit)
           (done-is ∙ settle-new (v .answer) (applyPrewrites h ms b) b passes ∙ ap (λ (c : Box). record { answer = Accepted; box = c }) (sym (q .1))) same
         where
           same : boxOf t area′ ≡ b → ⊥

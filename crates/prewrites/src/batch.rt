@@ -7,7 +7,7 @@ ghost use Rattle.forms.specs.Places.{mutationOf};
 ghost use Rattle.rules.specs.Prewrite.{prewriteBatch};
 ghost use Rattle.lines.specs.View.{boxOf};
 ghost use Rattle.lines.specs.Made.{Made};
-ghost use Rattle.calls.specs.Settled.{Settled};
+ghost use Rattle.calls.specs.Settled.{Moved, Settled};
 ghost use Rattle.calls.specs.Walks.{AllAsks};
 ghost use Rattle.prewrites.specs.Checks.{headOf};
 ghost use Rattle.prewrites.specs.Applies.{allDone};
@@ -32,7 +32,7 @@ fn prewrite_all(
     list: [Entry; 32],
 ) -> Changed
     requires { ⌜ (AllAsks store (now area) (now batch) n list) × (keyForm (now primary) ≡ true) ⌝ }
-    ensures { λ r. ⌜ Settled store (now (area .entry)) (allDone (headOf terms (now (primary .entry))) (shown (mutationOf (now (batch .entry))) n list) (boxOf store (now (area .entry)))) r (now (area .exit)) ⌝ }
+    ensures { λ r. ⌜ Moved store (now (area .entry)) (allDone (headOf terms (now (primary .entry))) (shown (mutationOf (now (batch .entry))) n list) (boxOf store (now (area .entry)))) r (now (area .exit)) ⌝ }
 {
     let founds = surveys::look_all(store, area, batch, list, n, terms.start, 0);
     let rows = surveys::find_rows(store, area, batch, list, n, terms.start);

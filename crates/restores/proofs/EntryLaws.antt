@@ -4,13 +4,9 @@ use Prim.Native.Nat.{ℕ, _+_, _≤_, _<_}
 use native.Mathlib.Omega.{arith}
 use mathlib.Core.Path.{_≡_, refl, sym, ap, ap₂, _∙_, subst}
 use mathlib.Core.Bool.{Bool, true, false, true≢false}
-use mathlib.Core.List.{[]}
-use mathlib.Core.Option.{Option, none, some}
-use lib.ListN.{length, drop}
+use lib.ListN.{length}
 use lib.Dec.{ltb}
 use Rattle.forms.specs.Bytes.{Bytes, bytesAt}
-use Rattle.forms.specs.Readers.{Read, Reader, readOn, _>>=_, just, piece}
-use Rattle.forms.specs.Numbers.{numberOf}
 use Rattle.rules.specs.declared.records.Kind.{Kind}
 use Rattle.rules.specs.Box as box
 use Rattle.lines.specs.declared.store.Line.{Line}
@@ -19,13 +15,14 @@ use Rattle.lines.specs.Made.{LineBelow}
 use Rattle.areas.specs.Areas.{Appended}
 use Rattle.areas.specs.Packs.{sizeOf}
 use Rattle.areas.proofs.AreaLaws.{bytes-long, bytes-same, take-lower}
-use Rattle.images.specs.Entries.{Raw, entryFrom, tailFrom, rawOr, rawAt, EntryAt}
+use Rattle.images.specs.Entries.{Raw, rawAt, EntryAt}
 use Rattle.images.specs.declared.entries.Section.{Section}
-use Rattle.images.specs.declared.entries.Section.the-variants.{Default, Write}
+use Rattle.images.specs.declared.entries.Section.the-variants.{Default}
 use Rattle.images.specs.declared.entries.Entry.{Entry}
 use Rattle.judging.specs.Good.{kindOf, defaultOf, keyLockOf, keyRecordOf}
 use Rattle.judging.specs.Sections.{rawBytes, rowAt, lineIf, lineAt}
-use Rattle.restores.specs.Fills.{Brings, Brought, sectionFor, lineFor, Way, rowWay, lineWay, Asks, Comes}
+use Rattle.verdicts.proofs.LoadLaws.{no-piece}
+use Rattle.restores.specs.Fills.{Spare, Brought, sectionFor, lineFor, Way, rowWay, lineWay, sizeIf, Comes}
 
 -- ---- its bytes
 
@@ -39,7 +36,7 @@ module _ {section : Section} {s : Bytes} {p : ℕ} {e : Entry} (v : EntryAt sect
   entry-size : e .len + e .plen ≡ rawBytes (rawAt section s p)
   entry-size = omega (arith, key-long, piece-long, ap rawBytes (v .raw))
 
-  module _ {area : Bytes} {top : ℕ} (b : Brings section s p area top) where
+  module _ {area : Bytes} {top : ℕ} (b : Spare (rawBytes (rawAt section s p)) area top) where
     pub bring-room : top + e .len + e .plen < 65536
     bring-room = omega (arith, b .room, entry-size)
 
@@ -61,51 +58,44 @@ module _ {section : Section} {s : Bytes} {p : ℕ} {e : Entry} (v : EntryAt sect
 
 -- ---- the element that shows it
 
-module _ {A B : Type 0} {way : Way A B} {x : B} {here : Bool} {area : Bytes} {top : ℕ} (a : Asks way x here area top) (h : here ≡ true) {section : Section} {s : Bytes} {p : ℕ} (z : way .size x ≡ rawBytes (rawAt section s p)) where
-  asked-brings : Brings section s p area top
-  asked-brings = record { long = a .long; room = omega (arith, a .room h) }
+size-if : {here b : Bool} (n : ℕ) → here ≡ b → sizeIf here n ≡ sizeIf b n
+size-if n h = ap (λ (b : Bool). sizeIf b n) h
 
-  asked-comes : {e : Entry} {r : A} {area′ : Bytes} → Brought section s p area top e area′ → way .show area′ r ≡ x → way .Below (top + e .len + e .plen) r → Comes way x here area top r (top + e .len + e .plen) area′
-  asked-comes b f g = record {
-    above = b .above;
-    stands = λ _. record { shows = f; below = g; end-is = omega (arith, z, entry-size (b .entry)) };
-    none = λ q. absurd (true≢false (sym h ∙ q));
-  }
+pub spare-here : {here : Bool} {n m : ℕ} {area : Bytes} {top : ℕ} → Spare (sizeIf here n) area top → here ≡ true → n ≡ m → Spare m area top
+spare-here {n = n} {area = area} {top = top} a h z = subst (λ (x : ℕ). Spare x area top) (size-if n h ∙ z) a
+
+here-comes : {A B : Type 0} {way : Way A B} {x : B} {here : Bool} {area : Bytes} {top : ℕ} {section : Section} {s : Bytes} {p : ℕ} {e : Entry} {r : A} {area′ : Bytes}
+    → here ≡ true → way .size x ≡ rawBytes (rawAt section s p) → Brought section s p area top e area′ → way .show area′ r ≡ x → way .Below (top + e .len + e .plen) r → Comes way x here area top r (top + e .len + e .plen) area′
+here-comes {way = way} {x = x} h z b f g = record {
+  above = b .above;
+  shows = λ _. f;
+  below = λ _. g;
+  none = λ q. absurd (true≢false (sym h ∙ q));
+  end-is = omega (arith, z, entry-size (b .entry), size-if (way .size x) h);
+}
 
 pub none-comes : {A B : Type 0} {way : Way A B} {x : B} {here : Bool} {area : Bytes} {top : ℕ} {r : A} → here ≡ false → r ≡ way .empty → Comes way x here area top r top area
-none-comes h e = record { above = record { long = refl; kept = refl }; stands = λ q. absurd (true≢false (sym q ∙ h)); none = λ _. (e, refl) }
+none-comes {way = way} {x = x} h e = record {
+  above = record { long = refl; kept = refl };
+  shows = λ q. absurd (true≢false (sym q ∙ h));
+  below = λ q. absurd (true≢false (sym q ∙ h));
+  none = λ _. e;
+  end-is = omega (arith, size-if (way .size x) h);
+}
 
 -- ---- a default
 
-module _ {s : Bytes} {p : ℕ} {here : Bool} {area : Bytes} {top : ℕ} (a : Asks rowWay (rowAt s p) here area top) (h : here ≡ true) where
-  pub row-brings : Brings Default s p area top
-  row-brings = asked-brings a h refl
-
-  pub row-comes : {e : Entry} {area′ : Bytes} → Brought Default s p area top e area′
-      → Comes rowWay (rowAt s p) here area top (record { at = top; len = e .len; used = true; start = e .one; rowat = top + e .len; rowlen = e .plen }) (top + e .len + e .plen) area′
-  row-comes {e} b =
-      asked-comes a h refl b (ap₂ (λ (x y : Bytes). record { key = x; start = e .one; row = y }) (b .key-is) (b .piece-is) ∙ ap defaultOf (b .entry .raw))
-      (record { key-below = omega arith; row-below = omega arith; in-use = refl })
+pub row-comes : {s : Bytes} {p : ℕ} {here : Bool} {area : Bytes} {top : ℕ} {e : Entry} {area′ : Bytes} → here ≡ true → Brought Default s p area top e area′
+    → Comes rowWay (rowAt s p) here area top (record { at = top; len = e .len; used = true; start = e .one; rowat = top + e .len; rowlen = e .plen }) (top + e .len + e .plen) area′
+row-comes {e = e} h b =
+    here-comes h refl b (ap₂ (λ (x y : Bytes). record { key = x; start = e .one; row = y }) (b .key-is) (b .piece-is) ∙ ap defaultOf (b .entry .raw))
+    (record { key-below = omega arith; row-below = omega arith; in-use = refl })
 
 -- ---- a line
 
-on-read : {A B : Type 0} (P : Option (Read B) → Type 0) → P none → (o : Option (Read A)) (f : A → Reader B) → ((x : A) (u : Bytes) → P (f x u)) → P (readOn o f)
-unfolding readOn
-on-read P z none f h = z
-on-read P z (some q) f h = h (q .got) (q .rest)
-
--- a write has no piece
-no-piece : (s : Bytes) → rawOr (entryFrom Write s) .piece ≡ []
-unfolding entryFrom _>>=_ just readOn
-no-piece s = on-read P refl (piece s) _ (λ k u. on-read P refl (numberOf 8 u) _ (λ n v. on-read P refl (tailFrom v) _ (λ t w. refl)))
-  where
-    P : Option (Read Raw) → Type 0
-    P o = rawOr o .piece ≡ []
-
 line-size : (b : Bool) (s : Bytes) (p : ℕ) → sizeOf (lineIf b s p) ≡ rawBytes (rawAt (sectionFor b) s p)
-unfolding rawAt
 line-size true s p = refl
-line-size false s p = omega (arith, ap length (no-piece (drop p s)))
+line-size false s p = omega (arith, ap length (no-piece s p))
 
 line-shows : (b : Bool) {s : Bytes} {p : ℕ} {area area′ : Bytes} {top : ℕ} {e : Entry} → Brought (sectionFor b) s p area top e area′
     → lineOf area′ (record { at = top; len = e .len; used = true; line = lineFor b e (kindOf (e .kind)) (top + e .len) (e .plen) }) ≡ lineIf b s p
@@ -116,23 +106,17 @@ line-shows false {e = e} b =
     ap (λ (x : Bytes). record { key = x; line = box.Finished (record { stamp = e .one; start = e .two; commit = e .three; kind = kindOf (e .kind) }) }) (b .key-is)
     ∙ ap (λ (x : Raw). record { key = x .key; line = box.Finished (keyRecordOf x .write) }) (b .entry .raw)
 
-pub line-as : {b lock : Bool} (e : Entry) (kind : Kind) (at len : ℕ) → lock ≡ b → lineFor b e kind at len ≡ lineFor lock e kind at len
-line-as e kind at len h = ap (λ (x : Bool). lineFor x e kind at len) (sym h)
-
 line-below : (b : Bool) (e : Entry) (kind : Kind) (at len : ℕ) → LineBelow (at + len) (lineFor b e kind at len)
 line-below true e kind at len = omega arith
 line-below false e kind at len = tt
 
-module _ (wat : ℕ) (s : Bytes) (p : ℕ) {here : Bool} {area : Bytes} {top : ℕ} {section : Section} (a : Asks lineWay (lineAt s wat p) here area top) (h : here ≡ true) (q : section ≡ sectionFor (ltb p wat)) where
-  line-is : sizeOf (lineAt s wat p) ≡ rawBytes (rawAt section s p)
+module _ (wat : ℕ) (s : Bytes) (p : ℕ) {section : Section} (q : section ≡ sectionFor (ltb p wat)) where
+  pub line-is : sizeOf (lineAt s wat p) ≡ rawBytes (rawAt section s p)
   line-is = line-size (ltb p wat) s p ∙ ap (λ (x : Section). rawBytes (rawAt x s p)) (sym q)
 
-  pub line-brings : Brings section s p area top
-  line-brings = asked-brings a h line-is
-
-  pub line-comes : {e : Entry} {area′ : Bytes} {kind : Kind} {l : Line} → Brought section s p area top e area′ → kind ≡ kindOf (e .kind) → l ≡ lineFor (ltb p wat) e kind (top + e .len) (e .plen)
-      → Comes lineWay (lineAt s wat p) here area top (record { at = top; len = e .len; used = true; line = l }) (top + e .len + e .plen) area′
-  line-comes {e} {area′} {kind} {l} b g c =
-      let c′ : lineFor (ltb p wat) e (kindOf (e .kind)) (top + e .len) (e .plen) ≡ l = sym (c ∙ ap (λ (x : Kind). lineFor (ltb p wat) e x (top + e .len) (e .plen)) g) in
-      subst (λ (x : Line). Comes lineWay (lineAt s wat p) here area top (record { at = top; len = e .len; used = true; line = x }) (top + e .len + e .plen) area′) c′
-      (asked-comes a h line-is b (line-shows (ltb p wat) (subst (λ (x : Section). Brought x s p area top e area′) q b)) (record { key-below = omega arith; line-below = line-below (ltb p wat) e _ (top + e .len) (e .plen); in-use = refl }))
+  pub line-comes : {here : Bool} {area : Bytes} {top : ℕ} {e : Entry} {area′ : Bytes} {kind : Kind} {l : Line} → here ≡ true → Brought section s p area top e area′ → kind ≡ kindOf (e .kind)
+      → l ≡ lineFor (ltb p wat) e kind (top + e .len) (e .plen) → Comes lineWay (lineAt s wat p) here area top (record { at = top; len = e .len; used = true; line = l }) (top + e .len + e .plen) area′
+  line-comes {here} {area} {top} {e} {area′} h b g c =
+      subst (λ (x : Line). Comes lineWay (lineAt s wat p) here area top (record { at = top; len = e .len; used = true; line = x }) (top + e .len + e .plen) area′)
+      (sym (c ∙ ap (λ (x : Kind). lineFor (ltb p wat) e x (top + e .len) (e .plen)) g))
+      (here-comes h line-is b (line-shows (ltb p wat) (subst (λ (x : Section). Brought x s p area top e area′) q b)) (record { key-below = omega arith; line-below = line-below (ltb p wat) e _ (top + e .len) (e .plen); in-use = refl }))

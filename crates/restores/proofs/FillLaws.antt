@@ -16,7 +16,7 @@ use Rattle.forms.specs.Bytes.{Bytes}
 use Rattle.rules.specs.Room.{sumOf}
 use Rattle.areas.specs.Packs.{Above}
 use Rattle.areas.proofs.PackLaws.{Framed}
-use Rattle.restores.specs.Fills.{Way, Asks, Comes}
+use Rattle.restores.specs.Fills.{Way, sizeIf, Comes}
 
 -- ---- the first k elements, and empty ones after them
 
@@ -26,9 +26,7 @@ module _ {A : Type 0} (empty : A) where
 
   module _ (k : ℕ) (t : List A) (long : length t ≡ 1024) (h : k < 1024) where
     one-less : replicate (1024 - k) empty ≡ empty ∷ replicate (1024 - (k + 1)) empty
-    one-less =
-        let e : 1024 - k ≡ suc (1024 - (k + 1)) = omega arith in
-        ap (λ (n : ℕ). replicate n empty) e
+    one-less = let e : 1024 - k ≡ suc (1024 - (k + 1)) = omega arith in ap (λ (n : ℕ). replicate n empty) e
 
     blank-next : (x : A) → blank (k + 1) (set t k x) ≡ take k t ++ x ∷ replicate (1024 - (k + 1)) empty
     blank-next x =
@@ -61,16 +59,9 @@ pub record Seen {A B : Type 0} (way : Way A B) (top : ℕ) (area : Bytes) (n : �
   pub shows : shown (way .show area) n t ≡ all
 
 module _ {A B : Type 0} {way : Way A B} {top n : ℕ} {area : Bytes} {t : List A} {all : List B} (v : Seen way top area n t all) where
-  pub seen-as : {m : ℕ} {u : List A} {more : List B} → n ≡ m → t ≡ u → all ≡ more → Seen way top area m u more
+  seen-as : {m : ℕ} {u : List A} {more : List B} → n ≡ m → t ≡ u → all ≡ more → Seen way top area m u more
   seen-as {m} {u} e f g =
       subst (λ (x : List B). Seen way top area m u x) g (subst (λ (x : List A). Seen way top area m x all) f (subst (λ (x : ℕ). Seen way top area x t all) e v))
-
-  -- other bytes come
-  seen-kept : Framed (way .show) (way .Below) (way .size) (way .empty) → {end : ℕ} {area′ : Bytes} → Above area top area′ → top ≤ end → Seen way end area′ n t all
-  seen-kept f {end} {area′} ab up = record {
-    table = table-wider (v .table) (way .Below end) (f .wider top end up);
-    shows = shown-same (way .show area′) (way .show area) (way .Below top) (f .same area′ area top (ab .kept)) n t (v .table .holds) ∙ v .shows;
-  }
 
   seen-more : n < 1024 → {x : A} {y : B} → way .show area x ≡ y → way .Below top x → Seen way top area (n + 1) (set t n x) (all ++ (y ∷ []))
   seen-more l {x} e p = record {
@@ -97,8 +88,16 @@ half-start way old all top area h = record {
 }
 
 module _ {A B : Type 0} {way : Way A B} {old : List A} {all : List B} {k top : ℕ} {area : Bytes} {t : List A} (h : Half way old all k top area t) where
+  -- other bytes come
   pub half-kept : Framed (way .show) (way .Below) (way .size) (way .empty) → {end : ℕ} {area′ : Bytes} → Above area top area′ → top ≤ end → Half way old all k end area′ t
-  half-kept f ab up = record { low = h .low; long = h .long; seen = seen-kept (h .seen) f ab up; rest = h .rest }
+  half-kept f {end} {area′} ab up =
+      let v = h .seen in
+      record {
+        low = h .low;
+        long = h .long;
+        seen = record { table = table-wider (v .table) (way .Below end) (f .wider top end up); shows = shown-same (way .show area′) (way .show area) (way .Below top) (f .same area′ area top (ab .kept)) _ _ (v .table .holds) ∙ v .shows };
+        rest = h .rest;
+      }
 
   module _ (l : k < 1024) where
     half-next : (x : A) → Seen way top area (min (k + 1) (length all)) (blank (way .empty) (k + 1) (set t k x)) (take (k + 1) all) → Half way old all (k + 1) top area (set t k x)
@@ -118,15 +117,7 @@ module _ {A B : Type 0} {way : Way A B} {old : List A} {all : List B} {k top : �
         (seen-as (seen-more (seen-as (h .seen) (omega arith) refl refl) l e p) (omega arith) (sym (blank-put (way .empty) k t (h .long) l x))
         (sym (take-suc all k d g) ∙ ap (λ (n : ℕ). take n all) (sym (add-one k))))
 
-  pub half-end : {P : A → Type 0} {m : ℕ} → Table P (way .empty) 1024 m old → m ≤ k → length all ≤ k → Seen way top area (length all) t all
-  half-end o q g =
-      seen-as (h .seen) (omega arith) (ap (λ (r : List A). take k t ++ r) (sym (h .rest ∙ rest-empty (way .empty) o q (h .low))) ∙ take-append-drop k t) (take-all k all g)
-
 -- ---- one more of the entries that a list of places tells
-
-pub comes-up : {A B : Type 0} {way : Way A B} {x : B} (t : Bool) {area area′ : Bytes} {top end : ℕ} {r : A} → Comes way x t area top r end area′ → top ≤ end
-comes-up true c = omega (arith, c .stands refl .end-is)
-comes-up false c = omega (arith, c .none refl .1)
 
 -- the entries at the first n places of a list, and that it has so many
 abbrev pub entries : {B : Type 0} → (ℕ → B) → List ℕ → ℕ → List B
@@ -136,43 +127,36 @@ pub record Told {B : Type 0} (at : ℕ → B) (places : List ℕ) (n : ℕ) : Ty
   pub few : n ≤ length places
 
 module _ {B : Type 0} {at : ℕ → B} {places : List ℕ} {n : ℕ} (w : Told at places n) where
-  pub told-long : length (entries at places n) ≡ n
+  told-long : length (entries at places n) ≡ n
   told-long = length-map (take n places) at ∙ length-take-le n places (w .few)
 
   told-at : {k : ℕ} → k < n → getD (entries at places n) k (at 0) ≡ at (getD places k 0)
   told-at {k} l = List·getD-map at (take n places) k 0 ∙ ap at (getD-take n places k 0 l)
 
-  -- the bytes of those from k on
-  told-next : (size : B → ℕ) {k : ℕ} → k < n → sumOf size (drop k (entries at places n)) ≡ size (at (getD places k 0)) + sumOf size (drop (k + 1) (entries at places n))
-  unfolding sumOf
-  told-next size {k} l =
-      let g : k < length (entries at places n) = omega (arith, told-long) in
-      ap (sumOf size) (drop-cons (entries at places n) k (at 0) g) ∙ ap₂ (λ (x : B) (m : ℕ). size x + sumOf size (drop m (entries at places n))) (told-at l) (sym (add-one k))
-
   pub told-past : (size : B → ℕ) (k : ℕ) → n ≤ k → sumOf size (drop k (entries at places n)) ≡ 0
   unfolding sumOf
-  told-past size k l =
-      let m : length (entries at places n) ≤ k = omega (arith, told-long) in
-      ap (sumOf size) (drop-of-length-le (entries at places n) m)
+  told-past size k l = let m : length (entries at places n) ≤ k = omega (arith, told-long) in ap (sumOf size) (drop-of-length-le (entries at places n) m)
 
-  module _ {A : Type 0} {way : Way A B} (k : ℕ) {top : ℕ} {area : Bytes} where
-    -- there is room for the next, where there is for all that are left
-    pub told-asks : length area ≡ 65536 → top + sumOf (way .size) (drop k (entries at places n)) < 65536 → Asks way (at (getD places k 0)) (ltb k n) area top
-    told-asks h g = record { long = h; room = λ l. omega (arith, told-next (way .size) (ltb-true k n l)) }
+  -- the bytes of those from k on are the next one's and the others'
+  pub told-next : (size : B → ℕ) (k : ℕ) (t : Bool) → ltb k n ≡ t → sumOf size (drop k (entries at places n)) ≡ sizeIf t (size (at (getD places k 0))) + sumOf size (drop (k + 1) (entries at places n))
+  unfolding sumOf
+  told-next size k true e =
+      let l : k < n = ltb-true k n e in
+      let g : k < length (entries at places n) = omega (arith, told-long) in
+      ap (sumOf size) (drop-cons (entries at places n) k (at 0) g) ∙ ap₂ (λ (x : B) (m : ℕ). size x + sumOf size (drop m (entries at places n))) (told-at l) (sym (add-one k))
+  told-next size k false e =
+      let l : n ≤ k = ltb-false k n e in
+      omega (arith, told-past size k l, told-past size (k + 1) (omega arith))
 
-    module _ {end : ℕ} {area′ : Bytes} {r : A} where
-      -- it takes its bytes from those that are left
-      pub comes-left : (t : Bool) → ltb k n ≡ t → Comes way (at (getD places k 0)) t area top r end area′ → end + sumOf (way .size) (drop (k + 1) (entries at places n)) ≡ top + sumOf (way .size) (drop k (entries at places n))
-      comes-left true e c = omega (arith, c .stands refl .end-is, told-next (way .size) (ltb-true k n e))
-      comes-left false e c =
-          let l : n ≤ k = ltb-false k n e in
-          omega (arith, c .none refl .1, told-past (way .size) k l, told-past (way .size) (k + 1) (omega arith))
+  module _ {A : Type 0} {way : Way A B} {old t : List A} {k top : ℕ} {area : Bytes} (h : Half way old (entries at places n) k top area t) where
+    pub half-comes : Framed (way .show) (way .Below) (way .size) (way .empty) → k < 1024 → {r : A} {end : ℕ} {area′ : Bytes} (b : Bool) → ltb k n ≡ b → Comes way (at (getD places k 0)) b area top r end area′
+        → Half way old (entries at places n) (k + 1) end area′ (set t k r)
+    half-comes f g true e c = half-more (half-kept h f (c .above) (omega (arith, c .end-is))) g (omega (arith, told-long, ltb-true k n e)) (at 0) (c .shows refl ∙ sym (told-at (ltb-true k n e))) (c .below refl)
+    half-comes f g {end = end} {area′ = area′} false e c =
+        subst (λ (x : A). Half way old (entries at places n) (k + 1) end area′ (set t k x)) (sym (c .none refl)) (half-past (half-kept h f (c .above) (omega (arith, c .end-is))) g (omega (arith, told-long, ltb-false k n e)))
 
-      pub half-comes : (t : Bool) → ltb k n ≡ t → Comes way (at (getD places k 0)) t area top r end area′ → Framed (way .show) (way .Below) (way .size) (way .empty)
-          → {old u : List A} → Half way old (entries at places n) k top area u → k < 1024 → Half way old (entries at places n) (k + 1) end area′ (set u k r)
-      half-comes true e c f h g =
-          let l : k < n = ltb-true k n e in
-          half-more (half-kept h f (c .above) (comes-up true c)) g (omega (arith, told-long)) (at 0) (c .stands refl .shows ∙ sym (told-at l)) (c .stands refl .below)
-      half-comes false e c f {old} {u} h g =
-          let l : n ≤ k = ltb-false k n e in
-          subst (λ (x : A). Half way old (entries at places n) (k + 1) end area′ (set u k x)) (sym (c .none refl .0)) (half-past (half-kept h f (c .above) (comes-up false c)) g (omega (arith, told-long)))
+    -- all are there
+    pub half-end : {P : A → Type 0} {m : ℕ} → Table P (way .empty) 1024 m old → m ≤ k → n ≤ k → Seen way top area n t (entries at places n)
+    half-end o q g =
+        seen-as (h .seen) (omega (arith, told-long)) (ap (λ (r : List A). take k t ++ r) (sym (h .rest ∙ rest-empty (way .empty) o q (h .low))) ∙ take-append-drop k t)
+        (take-all k (entries at places n) (omega (arith, told-long)))

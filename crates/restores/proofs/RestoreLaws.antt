@@ -11,7 +11,6 @@ use lib.Dec.{ltb}
 use Rattle.seqs.proofs.Tests.{and-left, and-right}
 use Rattle.forms.specs.Bytes.{Bytes}
 use Rattle.forms.specs.Key.{Key, keyForm}
-use Rattle.rules.specs.declared.answers.Answer.{Answer}
 use Rattle.rules.specs.declared.answers.Answer.the-variants.{Accepted}
 use Rattle.rules.specs.declared.room.Load.{Load}
 use Rattle.rules.specs.Box as box
@@ -28,17 +27,20 @@ use Rattle.lines.specs.declared.store.Slot.{Slot}
 use Rattle.lines.specs.declared.store.Held.{Held}
 use Rattle.lines.specs.declared.store.Store.{Store}
 use Rattle.lines.specs.View as view
+use Rattle.ledger.specs.Tidy.{Tidy}
+use Rattle.ledger.proofs.Restored.{restore-tidy}
 use Rattle.lines.specs.Made.{Kept, Made}
 use Rattle.areas.specs.Packs.{sizeOf, rowSize}
 use Rattle.areas.proofs.AreaLaws.{slot-same, held-same, slot-wider, held-wider}
+use Rattle.areas.proofs.PackLaws.{Framed}
 use Rattle.calls.specs.Settled.{isAccepted}
 use Rattle.calls.proofs.SettledLaws.{is-accepted, is-refusal, untouched}
 use Rattle.judging.specs.Sections.{rowAt, lineAt, Placed}
 use Rattle.verdicts.specs.declared.outcome.Verdict.{Verdict}
 use Rattle.verdicts.specs.Verdicts.{Decided}
-use Rattle.restores.specs.Fills.{rowWay, lineWay, Asks, Comes}
+use Rattle.restores.specs.Fills.{Spare, rowWay, lineWay, sizeIf, Comes}
 use Rattle.restores.specs.Replaced.{Replaced}
-use Rattle.restores.proofs.FillLaws.{Seen, seen-as, Half, half-start, half-kept, half-end, entries, Told, told-long, told-past, told-asks, comes-left, comes-up, half-comes}
+use Rattle.restores.proofs.FillLaws.{Seen, Half, half-start, half-kept, half-comes, half-end, entries, Told, told-past, told-next}
 
 -- ---- the image's keys are in form
 
@@ -90,6 +92,12 @@ module _ {s : Bytes} {load : Load} {wat : ℕ} {rows places : List ℕ} (p : Pla
 
 -- ---- the loop
 
+row-framed : Framed (rowWay .show) (rowWay .Below) (rowWay .size) (rowWay .empty)
+row-framed = record { same = held-same; wider = held-wider }
+
+line-framed : Framed (lineWay .show) (lineWay .Below) (lineWay .size) (lineWay .empty)
+line-framed = record { same = slot-same; wider = slot-wider }
+
 -- the first k places of both tables are filled, and the bytes so far are those of their entries
 pub record Filling (s : Bytes) (load : Load) (wat : ℕ) (rows places : List ℕ) (old : Store) (end k top : ℕ) (area : Bytes) (st : Store) : Type 0 where
   pub placed : Placed s load wat rows places
@@ -117,15 +125,16 @@ filling-start {v = v} {old = old} {area = area} d e h m q =
     }
 
 module _ {s : Bytes} {load : Load} {wat : ℕ} {rows places : List ℕ} {old st : Store} {end k top : ℕ} {area : Bytes} (f : Filling s load wat rows places old end k top area st) where
-  pub row-asks : Asks rowWay (rowAt s (getD rows k 0)) (ltb k (load .defaults)) area top
-  row-asks = told-asks (rows-told (f .placed)) k (f .long) (omega (arith, f .left, f .placed .fit .bytes))
+  left-next : top + sizeIf (ltb k (load .defaults)) (rowSize (rowAt s (getD rows k 0))) + sizeIf (ltb k (load .lines)) (sizeOf (lineAt s wat (getD places k 0)))
+      + sumOf rowSize (drop (k + 1) (entries (rowAt s) rows (load .defaults))) + sumOf sizeOf (drop (k + 1) (entries (lineAt s wat) places (load .lines))) ≡ load .bytes
+  left-next = omega (arith, f .left, told-next (rows-told (f .placed)) rowSize k (ltb k (load .defaults)) refl, told-next (lines-told (f .placed)) sizeOf k (ltb k (load .lines)) refl)
+
+  pub row-asks : Spare (sizeIf (ltb k (load .defaults)) (rowSize (rowAt s (getD rows k 0)))) area top
+  row-asks = record { long = f .long; room = omega (arith, left-next, f .placed .fit .bytes) }
 
   module _ {h : Held} {mid : ℕ} {area₁ : Bytes} (c : Comes rowWay (rowAt s (getD rows k 0)) (ltb k (load .defaults)) area top h mid area₁) where
-    mid-left : mid + sumOf rowSize (drop (k + 1) (entries (rowAt s) rows (load .defaults))) + sumOf sizeOf (drop k (entries (lineAt s wat) places (load .lines))) ≡ load .bytes
-    mid-left = omega (arith, f .left, comes-left (rows-told (f .placed)) k (ltb k (load .defaults)) refl c)
-
-    pub line-asks : Asks lineWay (lineAt s wat (getD places k 0)) (ltb k (load .lines)) area₁ mid
-    line-asks = told-asks (lines-told (f .placed)) k (c .above .long ∙ f .long) (omega (arith, mid-left, f .placed .fit .bytes))
+    pub line-asks : Spare (sizeIf (ltb k (load .lines)) (sizeOf (lineAt s wat (getD places k 0)))) area₁ mid
+    line-asks = record { long = c .above .long ∙ f .long; room = omega (arith, left-next, c .end-is, f .placed .fit .bytes) }
 
     pub filling-more : {l : Slot} {on : ℕ} {area₂ : Bytes} → Comes lineWay (lineAt s wat (getD places k 0)) (ltb k (load .lines)) area₁ mid l on area₂ → k < end
         → Filling s load wat rows places old end (k + 1) on area₂ (record { lines = set (st .lines) k l; defaults = set (st .defaults) k h; load = st .load; top = st .top })
@@ -134,40 +143,27 @@ module _ {s : Bytes} {load : Load} {wat : ℕ} {rows places : List ℕ} {old st 
         record {
           placed = f .placed;
           few = f .few;
-          defaults =
-              half-kept (half-comes (rows-told (f .placed)) k (ltb k (load .defaults)) refl c (record { same = held-same; wider = held-wider }) (f .defaults) low)
-              (record { same = held-same; wider = held-wider }) (d .above) (comes-up (ltb k (load .lines)) d);
-          lines =
-              half-comes (lines-told (f .placed)) k (ltb k (load .lines)) refl d (record { same = slot-same; wider = slot-wider })
-              (half-kept (f .lines) (record { same = slot-same; wider = slot-wider }) (c .above) (comes-up (ltb k (load .defaults)) c)) low;
+          defaults = half-kept (half-comes (rows-told (f .placed)) (f .defaults) row-framed low (ltb k (load .defaults)) refl c) row-framed (d .above) (omega (arith, d .end-is));
+          lines = half-comes (lines-told (f .placed)) (half-kept (f .lines) line-framed (c .above) (omega (arith, c .end-is))) line-framed low (ltb k (load .lines)) refl d;
           long = d .above .long ∙ c .above .long ∙ f .long;
-          left = omega (arith, mid-left, comes-left (lines-told (f .placed)) k (ltb k (load .lines)) refl d);
+          left = omega (arith, left-next, c .end-is, d .end-is);
         }
-
-  -- ---- its end
 
   module _ {area₀ : Bytes} (m : Made old area₀) (e : EndOf load (old .load) end) (g : end ≤ k) where
     rows-seen : Seen rowWay top area (load .defaults) (st .defaults) (entries (rowAt s) rows (load .defaults))
-    rows-seen =
-        let n = told-long (rows-told (f .placed)) in
-        seen-as (half-end (f .defaults) (m .built .defaults) (omega arith) (omega (arith, n))) n refl refl
+    rows-seen = half-end (rows-told (f .placed)) (f .defaults) (m .built .defaults) (omega arith) (omega arith)
 
     lines-seen : Seen lineWay top area (load .lines) (st .lines) (entries (lineAt s wat) places (load .lines))
-    lines-seen =
-        let n = told-long (lines-told (f .placed)) in
-        seen-as (half-end (f .lines) (m .built .lines) (omega arith) (omega (arith, n))) n refl refl
+    lines-seen = half-end (lines-told (f .placed)) (f .lines) (m .built .lines) (omega arith) (omega arith)
 
     top-is : top ≡ load .bytes
     top-is = omega (arith, f .left, told-past (rows-told (f .placed)) rowSize k (omega arith), told-past (lines-told (f .placed)) sizeOf k (omega arith))
 
-    abbrev filled : Store
-    filled = record { lines = st .lines; defaults = st .defaults; load = load; top = top }
-
-    filled-shows : view.boxOf filled area ≡ boxAt s load wat rows places
+    filled-shows : view.boxOf (record { lines = st .lines; defaults = st .defaults; load = load; top = top }) area ≡ boxAt s load wat rows places
     filled-shows = ap₂ (λ (es : List box.KeyLine) (ds : List box.Default). record { lines = es; defaults = ds }) (lines-seen .shows) (rows-seen .shows)
 
-    filled-made : Made filled area
-    filled-made = record {
+    filled-made : Tidy (view.boxOf (record { lines = st .lines; defaults = st .defaults; load = load; top = top }) area) → Made (record { lines = st .lines; defaults = st .defaults; load = load; top = top }) area
+    filled-made t = record {
       built = record {
         area-long = f .long;
         top-in = omega (arith, top-is, f .placed .fit .bytes);
@@ -177,40 +173,39 @@ module _ {s : Bytes} {load : Load} {wat : ℕ} {rows places : List ℕ} {old st 
         kept = subst (λ (b : box.Box). Kept b load) (sym filled-shows) (told-kept (f .placed));
       };
       fit = f .placed .fit;
+      tidy = t;
     }
 
 -- ---- the call
 
-restore-leaves : (s : Bytes) (b : box.Box) → Leaves b (restore s b)
-unfolding restore restoreTo
-restore-leaves s b = go (image s)
-  where
-    go : (o : Option Image) → Leaves b (restoreTo o b)
-    go none n = refl
-    go (some i) n = settle-leaves (restoreSteps i) (boxOf i) b n
+refusal-leaves : (o : Option Image) (b : box.Box) → Leaves b (restoreTo o b)
+unfolding restoreTo
+refusal-leaves none b n = refl
+refusal-leaves (some i) b n = settle-leaves (restoreSteps i) (boxOf i) b n
 
-restore-takes : (s : Bytes) (b : box.Box) (i : Image) → image s ≡ some i → restore s b .answer ≡ Accepted → restore s b .box ≡ boxOf i
-unfolding restore restoreTo
-restore-takes s b i e a =
-    let q : restore s b ≡ restoreTo (some i) b = ap (λ (o : Option Image). restoreTo o b) e in
-    let t : restoreSteps i ≡ Accepted = sym (settle-answer (restoreSteps i) (boxOf i) b) ∙ sym (ap (λ (d : Done). d .answer) q) ∙ a in
-    ap (λ (d : Done). d .box) (q ∙ settle-new (restoreSteps i) (boxOf i) b t)
+accepted-takes : (i : Image) (b : box.Box) → restoreTo (some i) b .answer ≡ Accepted → restoreTo (some i) b .box ≡ boxOf i
+unfolding restoreTo
+accepted-takes i b a = ap (λ (d : Done). d .box) (settle-new (restoreSteps i) (boxOf i) b (sym (settle-answer (restoreSteps i) (boxOf i) b) ∙ a))
 
 module _ {s : Bytes} {v : Verdict} {rows places : List ℕ} {st : Store} {area : Bytes} {t : Bool} (d : Decided s v rows places) (e : t ≡ isAccepted (v .answer)) (m : Made st area) where
   pub restore-refused : t ≡ false → Replaced st area (restore s (view.boxOf st area)) (record { store = st; answer = v .answer }) area
+  unfolding restore
   restore-refused h =
       let n = is-refusal (v .answer) e (ap not h) in
       let q = d .answer-is (view.boxOf st area) in
-      record { answer-is = q; made = m; shown = sym (restore-leaves s (view.boxOf st area) (λ a. n (q ∙ a))); refused = λ _. untouched }
+      record { answer-is = q; made = m; shown = sym (refusal-leaves (image s) (view.boxOf st area) (λ a. n (q ∙ a))); refused = λ _. untouched }
 
   pub restore-done : t ≡ true → {end k top : ℕ} {area′ : Bytes} {r : Store} → Filling s (v .load) (v .wat) rows places st end k top area′ r → EndOf (v .load) (st .load) end → end ≤ k
       → Replaced st area (restore s (view.boxOf st area)) (record { store = record { lines = r .lines; defaults = r .defaults; load = v .load; top = top }; answer = v .answer }) area′
+  unfolding restore
   restore-done h f l g =
       let a = is-accepted (v .answer) e (ap not h) in
       let q = d .answer-is (view.boxOf st area) in
+      let i : restore s (view.boxOf st area) ≡ restoreTo (some (f .placed .img)) (view.boxOf st area) = ap (λ (o : Option Image). restoreTo o (view.boxOf st area)) (f .placed .is) in
+      let x = filled-shows f m l g ∙ told-is (f .placed) ∙ sym (ap (λ (x : Done). x .box) i ∙ accepted-takes (f .placed .img) (view.boxOf st area) (sym (ap (λ (x : Done). x .answer) i) ∙ sym q ∙ a)) in
       record {
         answer-is = q;
-        made = filled-made f m l g;
-        shown = filled-shows f m l g ∙ told-is (f .placed) ∙ sym (restore-takes s (view.boxOf st area) (f .placed .img) (f .placed .is) (sym q ∙ a));
+        made = filled-made f m l g (subst Tidy (sym x) (restore-tidy s (view.boxOf st area) (m .tidy)));
+        shown = x;
         refused = λ n. absurd (n a);
       }

@@ -14,17 +14,17 @@ use Rattle.lines.specs.declared.store.Held.{Held}
 use Rattle.lines.specs.View.{lineOf, defaultOf, noSlot, noHeld}
 use Rattle.lines.specs.Made.{SlotBelow, HeldBelow}
 use Rattle.areas.specs.Packs.{Above, sizeOf, rowSize}
-use Rattle.images.specs.Entries.{rawAt, EntryAt}
+use Rattle.images.specs.Entries.{EntryAt}
 use Rattle.images.specs.declared.entries.Section.{Section}
 use Rattle.images.specs.declared.entries.Section.the-variants.{Lock, Write}
 use Rattle.images.specs.declared.entries.Entry.{Entry}
-use Rattle.judging.specs.Sections.{rawBytes}
 
 -- ---- the bytes of an entry
 
-pub record Brings (section : Section) (s : Bytes) (p : ℕ) (area : Bytes) (top : ℕ) : Type 0 where
+-- n bytes are free from `top` on
+pub record Spare (n : ℕ) (area : Bytes) (top : ℕ) : Type 0 where
   pub long : length area ≡ 65536
-  pub room : top + rawBytes (rawAt section s p) < 65536
+  pub room : top + n < 65536
 
 -- the key of the entry at p stands at the top, and its piece after it
 pub record Brought (section : Section) (s : Bytes) (p : ℕ) (area : Bytes) (top : ℕ) (e : Entry) (area′ : Bytes) : Type 0 where
@@ -33,8 +33,6 @@ pub record Brought (section : Section) (s : Bytes) (p : ℕ) (area : Bytes) (top
   pub above : Above area top area′
   pub key-is : bytesAt area′ top (e .len) ≡ bytesAt s (e .at) (e .len)
   pub piece-is : bytesAt area′ (top + e .len) (e .plen) ≡ bytesAt s (e .pat) (e .plen)
-
--- ---- the numbers of a line
 
 abbrev pub sectionFor : Bool → Section
 sectionFor true = Lock
@@ -59,19 +57,14 @@ rowWay = record { show = defaultOf; Below = HeldBelow; size = rowSize; empty = n
 abbrev pub lineWay : Way Slot box.KeyLine
 lineWay = record { show = lineOf; Below = SlotBelow; size = sizeOf; empty = noSlot }
 
--- the entry x that comes, if one comes, has room
-pub record Asks {A B : Type 0} (way : Way A B) (x : B) (here : Bool) (area : Bytes) (top : ℕ) : Type 0 where
-  pub long : length area ≡ 65536
-  pub room : here ≡ true → top + way .size x < 65536
+abbrev pub sizeIf : Bool → ℕ → ℕ
+sizeIf true n = n
+sizeIf false n = 0
 
--- an element shows x, whose bytes lie from `top` to `end`
-pub record Stood {A B : Type 0} (way : Way A B) (x : B) (top : ℕ) (r : A) (end : ℕ) (area : Bytes) : Type 0 where
-  pub shows : way .show area r ≡ x
-  pub below : way .Below end r
-  pub end-is : end ≡ top + way .size x
-
--- the element that x gives, or the empty one
+-- the element that x gives, its bytes from `top` to `end`, or the empty one
 pub record Comes {A B : Type 0} (way : Way A B) (x : B) (here : Bool) (area : Bytes) (top : ℕ) (r : A) (end : ℕ) (area′ : Bytes) : Type 0 where
   pub above : Above area top area′
-  pub stands : here ≡ true → Stood way x top r end area′
-  pub none : here ≡ false → (r ≡ way .empty) × (end ≡ top)
+  pub shows : here ≡ true → way .show area′ r ≡ x
+  pub below : here ≡ true → way .Below end r
+  pub none : here ≡ false → r ≡ way .empty
+  pub end-is : end ≡ top + sizeIf here (way .size x)

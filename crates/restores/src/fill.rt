@@ -1,7 +1,9 @@
 // An entry of the image comes into the store: its bytes to the top of the area, and its numbers into the place of a table.
 ghost use mathlib.Core.Path.{_≡_};
-ghost use Rattle.judging.specs.Sections.{rowAt, lineAt};
-ghost use Rattle.restores.specs.Fills.{Brings, Brought, sectionFor, lineFor, Asks, Comes, rowWay, lineWay};
+ghost use Rattle.areas.specs.Packs.{sizeOf, rowSize};
+ghost use Rattle.images.specs.Entries.{rawAt};
+ghost use Rattle.judging.specs.Sections.{rawBytes, rowAt, lineAt};
+ghost use Rattle.restores.specs.Fills.{Spare, Brought, sectionFor, lineFor, rowWay, lineWay, sizeIf, Comes};
 use areas::append;
 use areas::packing::PackedHeld;
 use areas::packing::PackedSlot;
@@ -20,7 +22,7 @@ use rules::Record;
 
 // The bytes of an entry: its key, and after it its row or its primary.
 fn bring(area: &mut [u8], image: &[u8], section: Section, place: usize, top: usize) -> Entry
-    requires { ⌜ Brings section (now image) place (now area) top ⌝ }
+    requires { ⌜ Spare (rawBytes (rawAt section (now image) place)) (now area) top ⌝ }
     ensures { λ e. ⌜ Brought section (now (image .entry)) place (now (area .entry)) top e (now (area .exit)) ⌝ }
 {
     let e = entry_at(image, place, section);
@@ -36,7 +38,7 @@ fn bring(area: &mut [u8], image: &[u8], section: Section, place: usize, top: usi
 
 // The default at a place of the image, if it is `here`, and the first byte past its stretches; else the empty one.
 pub fn put_row(area: &mut [u8], image: &[u8], here: bool, place: u32, top: usize) -> PackedHeld
-    requires { ⌜ Asks rowWay (rowAt (now image) place) here (now area) top ⌝ }
+    requires { ⌜ Spare (sizeIf here (rowSize (rowAt (now image) place))) (now area) top ⌝ }
     ensures { λ r. ⌜ Comes rowWay (rowAt (now (image .entry)) place) here (now (area .entry)) top (r .held) (r .top) (now (area .exit)) ⌝ }
 {
     if here {
@@ -101,7 +103,7 @@ pub fn put_line(
     place: u32,
     top: usize,
 ) -> PackedSlot
-    requires { ⌜ Asks lineWay (lineAt (now image) writes place) here (now area) top ⌝ }
+    requires { ⌜ Spare (sizeIf here (sizeOf (lineAt (now image) writes place))) (now area) top ⌝ }
     ensures { λ r. ⌜ Comes lineWay (lineAt (now (image .entry)) writes place) here (now (area .entry)) top (r .slot) (r .top) (now (area .exit)) ⌝ }
 {
     if here {

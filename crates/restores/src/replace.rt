@@ -10,7 +10,6 @@ use crate::fill::put_row;
 use calls::Changed;
 use calls::accepted;
 use lines::Store;
-use rules::Load;
 use verdicts::verdict;
 
 fn larger(a: usize, b: usize) -> usize
@@ -20,15 +19,6 @@ fn larger(a: usize, b: usize) -> usize
         return b;
     }
     a
-}
-
-// How many places of the tables are in use, by one of two loads at least.
-fn places_of(a: Load, b: Load) -> usize
-    ensures { λ r. ⌜ r ≡ max (max (a .lines) (a .defaults)) (max (b .lines) (b .defaults)) ⌝ }
-{
-    let x = larger(a.lines, a.defaults);
-    let y = larger(b.lines, b.defaults);
-    larger(x, y)
 }
 
 // "form, table number not zero, then each entry ..": the whole image is judged before anything is written. Then both tables are filled where
@@ -44,7 +34,9 @@ pub fn restore(mut store: Store, area: &mut [u8], image: &[u8]) -> Changed
     if accepted(answer) {
         let load = v.load;
         let old = store.load;
-        let end = places_of(load, old);
+        let new = larger(load.lines, load.defaults);
+        let former = larger(old.lines, old.defaults);
+        let end = larger(new, former);
         let mut top: usize = 0;
         let mut k: usize = 0;
         while k < end {

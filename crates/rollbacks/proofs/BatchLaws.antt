@@ -16,13 +16,15 @@ use Rattle.rules.specs.declared.answers.Answer.the-variants.{Accepted, No}
 use Rattle.rules.specs.Answers.{_▸_}
 use Rattle.rules.specs.Calls.{Done, settle, zeroStep}
 use Rattle.rules.specs.Rollback.{rollbackKeys, rollbackRoom, rollbackSteps, applyRollbacks, rollbackAll, rollbackBatch}
+use Rattle.ledger.specs.Ledger.{rollingBackBatch, perform}
+use Rattle.ledger.proofs.Tidiness.{tidy-kept}
 use Rattle.lines.specs.declared.store.Store.{Store}
 use Rattle.lines.specs.View.{boxOf}
 use Rattle.lines.specs.Made.{Made}
 use Rattle.calls.specs.declared.changed.Changed.{Changed}
-use Rattle.calls.specs.Settled.{Settled}
+use Rattle.calls.specs.Settled.{Moved, Settled}
 use Rattle.calls.specs.Walks.{AllAsks}
-use Rattle.calls.proofs.SettledLaws.{settled-same}
+use Rattle.calls.proofs.SettledLaws.{settled, settled-same}
 use Rattle.calls.proofs.AnswerLaws.{head-out, head-on, bad-batch, empty-batch, full-batch}
 use Rattle.rollbacks.specs.Checks.{allDone}
 
@@ -57,6 +59,6 @@ module _ {st : Store} {area : Bytes} (made : Made st area) (txn start : ℕ) {s 
       pub batch-head : (a ≡ Accepted → ⊥) → Settled st area (rollbackBatch txn start s (boxOf st area)) (record { store = st; answer = a }) area
       batch-head f = settled-same made (batch-is ∙ head-out a rest (applyRollbacks start names (boxOf st area)) (boxOf st area) f)
 
-      pub batch-all : a ≡ Accepted → {t : Changed} {area′ : Bytes} → Settled st area (allDone txn start (shown (keyAt s) (r .count) (r .list)) (boxOf st area)) t area′ → Settled st area (rollbackBatch txn start s (boxOf st area)) t area′
-      unfolding allDone
-      batch-all p {t} {area′} v = subst (λ (d : Done). Settled st area d t area′) (sym (batch-is ∙ head-on a rest (applyRollbacks start names (boxOf st area)) (boxOf st area) p)) v
+      pub batch-all : a ≡ Accepted → {t : Changed} {area′ : Bytes} → Moved st area (allDone txn start (shown (keyAt s) (r .count) (r .list)) (boxOf st area)) t area′ → Settled st area (rollbackBatch txn start s (boxOf st area)) t area′
+      unfolding allDone perform
+      batch-all p {t} {area′} v = settled (tidy-kept (rollingBackBatch txn start s) (boxOf st area) (made .tidy)) (subst (λ (d : Done). Moved st area d t area′) (sym (batch-is ∙ head-on a rest (applyRollbacks start names (boxOf st area)) (boxOf st area) p)) v)

@@ -28,11 +28,11 @@ use Rattle.lines.specs.declared.store.Store.{Store}
 use Rattle.lines.specs.declared.keys.Looked.{Looked}
 use Rattle.lines.specs.declared.places.FoundRow.{FoundRow}
 use Rattle.lines.specs.View.{boxOf}
-use Rattle.calls.specs.Settled.{Settled}
+use Rattle.calls.specs.Settled.{Moved}
 use Rattle.calls.specs.Walks.{LookedAll, RowsFound, Surveyed, PassAsks, AllAsks}
 use Rattle.calls.specs.Weights.{LeftAsks, AllChecked}
 use Rattle.calls.specs.declared.weights.Seen.{Seen}
-use Rattle.calls.proofs.SettledLaws.{then-refused, settled-same, settled-new}
+use Rattle.calls.proofs.SettledLaws.{then-refused, moved-same, moved-new}
 use Rattle.rollbacks.specs.Checks.{rollSteps, KeysSeen, allDone}
 use Rattle.rollbacks.specs.Plans.{ApplyAsks, AllApplied}
 use Rattle.rollbacks.proofs.GrowLaws.{rolled-already, rolled-new}
@@ -60,10 +60,10 @@ module _ {st : Store} {area s : Bytes} {n : ℕ} {es : List Entry} (a : AllAsks 
     answer-is : seen .answer ≡ rollbackKeys txn start b ks
     answer-is = checked .answer-is ∙ sym (rollbackKeys-all txn start b ks)
 
-    pub all-refused : (seen .answer ≡ Accepted → ⊥) → Settled st area (allDone txn start (shown (keyAt s) n es) (boxOf st area)) (record { store = st; answer = seen .answer }) area
+    pub all-refused : (seen .answer ≡ Accepted → ⊥) → Moved st area (allDone txn start (shown (keyAt s) n es) (boxOf st area)) (record { store = st; answer = seen .answer }) area
     unfolding allDone
     all-refused n =
-        settled-same (a .made)
+        moved-same (a .made)
         (ap (λ (x : Answer). settle x new b) (sym (then-refused (seen .answer) (rollbackRoom start ks b) n ∙ ap (λ (x : Answer). x ▸ rollbackRoom start ks b) answer-is)) ∙ settle-old (seen .answer) new b n)
 
     module _ (p : seen .answer ≡ Accepted) where
@@ -95,9 +95,9 @@ module _ {st : Store} {area s : Bytes} {n : ℕ} {es : List Entry} (a : AllAsks 
         done-is = ap (λ (x : Answer). settle (x ▸ rollbackRoom start ks b) new b) passed ∙ ap (λ (x : Bool). settle (need x 11) new b) (sym (g ∙ ap fits left-is))
 
         -- "Then 11"
-        pub all-full : not fit ≡ true → Settled st area (allDone txn start (shown (keyAt s) n es) (boxOf st area)) (record { store = st; answer = No 11 }) area
+        pub all-full : not fit ≡ true → Moved st area (allDone txn start (shown (keyAt s) n es) (boxOf st area)) (record { store = st; answer = No 11 }) area
         unfolding need settle
-        all-full n = settled-same (a .made) (done-is ∙ ap (λ (x : Bool). settle (need x 11) new b) (not-true fit n))
+        all-full n = moved-same (a .made) (done-is ∙ ap (λ (x : Bool). settle (need x 11) new b) (not-true fit n))
 
         module _ (ok : not fit ≡ false) where
           accepted-is : allDone txn start ks b ≡ record { answer = Accepted; box = new }
@@ -105,8 +105,8 @@ module _ {st : Store} {area s : Bytes} {n : ℕ} {es : List Entry} (a : AllAsks 
           accepted-is = done-is ∙ ap (λ (x : Bool). settle (need x 11) new b) (not-false fit ok)
 
           -- "accepted and unchanged", at every key
-          pub all-replay : seen .weight .added .lines ≡ 0 → Settled st area (allDone txn start (shown (keyAt s) n es) (boxOf st area)) (record { store = st; answer = Accepted }) area
-          all-replay z = settled-same (a .made) (accepted-is ∙ ap (λ (x : Box). record { answer = Accepted; box = x }) (rolled-already start ks b (sym (load-fields added-is .lines) ∙ z)))
+          pub all-replay : seen .weight .added .lines ≡ 0 → Moved st area (allDone txn start (shown (keyAt s) n es) (boxOf st area)) (record { store = st; answer = Accepted }) area
+          all-replay z = moved-same (a .made) (accepted-is ∙ ap (λ (x : Box). record { answer = Accepted; box = x }) (rolled-already start ks b (sym (load-fields added-is .lines) ∙ z)))
 
           fit-left : Fits left
           fit-left = fits-out left (sym g ∙ not-false fit ok)
@@ -116,8 +116,8 @@ module _ {st : Store} {area s : Bytes} {n : ℕ} {es : List Entry} (a : AllAsks 
 
           -- the box is another one
           pub all-new : (seen .weight .added .lines ≡ 0 → ⊥) → {u : Store} {area′ : Bytes} → AllApplied st area start (shown (keyAt s) n es) u area′
-              → Settled st area (allDone txn start (shown (keyAt s) n es) (boxOf st area)) (record { store = u; answer = Accepted }) area′
+              → Moved st area (allDone txn start (shown (keyAt s) n es) (boxOf st area)) (record { store = u; answer = Accepted }) area′
           all-new n {u} {area′} w =
-              settled-new (record { built = w .built; fit = subst Fits (left-is ∙ sym (w .built .kept .load-is ∙ ap loadOf (w .shown))) fit-left })
+              moved-new (w .built) (subst Fits (left-is ∙ sym (w .built .kept .load-is ∙ ap loadOf (w .shown))) fit-left)
               (accepted-is ∙ ap (λ (x : Box). record { answer = Accepted; box = x }) (sym (w .shown)))
               (λ q. n (load-fields added-is .lines ∙ rolled-new start ks b (a .form .ascends) (a .made .built .kept .sorted) (ap loadOf (sym (w .shown) ∙ q))))

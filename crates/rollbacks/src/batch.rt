@@ -4,7 +4,7 @@ ghost use Rattle.forms.specs.Places.{keyAt};
 ghost use Rattle.rules.specs.Rollback.{rollbackBatch};
 ghost use Rattle.lines.specs.View.{boxOf};
 ghost use Rattle.lines.specs.Made.{Made};
-ghost use Rattle.calls.specs.Settled.{Settled};
+ghost use Rattle.calls.specs.Settled.{Moved, Settled};
 ghost use Rattle.calls.specs.Walks.{AllAsks};
 ghost use Rattle.rollbacks.specs.Checks.{allDone};
 ghost use Rattle.rollbacks.specs.Plans.{ApplyAsks, AllApplied};
@@ -53,7 +53,7 @@ fn rollback_all(
     list: [Entry; 32],
 ) -> Changed
     requires { ⌜ AllAsks store (now area) (now batch) n list ⌝ }
-    ensures { λ r. ⌜ Settled store (now (area .entry)) (allDone txn start (shown (keyAt (now (batch .entry))) n list) (boxOf store (now (area .entry)))) r (now (area .exit)) ⌝ }
+    ensures { λ r. ⌜ Moved store (now (area .entry)) (allDone txn start (shown (keyAt (now (batch .entry))) n list) (boxOf store (now (area .entry)))) r (now (area .exit)) ⌝ }
 {
     let founds = surveys::look_all(store, area, batch, list, n, start, start);
     let rows = surveys::find_rows(store, area, batch, list, n, start);

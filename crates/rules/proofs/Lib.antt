@@ -3,3 +3,4 @@ pub mod SoundLaws
 pub mod RoomLaws
 pub mod Worked
 pub mod ShownRows
+pub mod SickImages

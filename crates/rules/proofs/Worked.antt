@@ -34,15 +34,15 @@ use Rattle.rules.specs.OneStep.{Counted, argumentsStep, appliedIf, appli
 -- ---- a row of the table, and the rows that differ
 
 pub record Case : Type 0 where
-  name : String
-  got : List ℕ
-  wanted : List ℕ
+  pub name : String
+  pub got : List ℕ
+  pub wanted : List ℕ
 
-nameUnless : Bool → String → List String → List String
+unfoldable pub nameUnless : Bool → String → List String → List String
 nameUnless true n ns = ns
 nameUnless false n ns = n ∷ ns
 
-pub differing : List Case → List String
+unfoldable pub differing : List Case → List String
 differing [] = []
 differing (c ∷ cs) = nameUnless (eqBytes (c .got) (c .wanted)) (c .name) (differing cs)
 
@@ -84,13 +84,13 @@ flat b = length (b .lines) ∷ flatLines (b .lines) ++ flatDefaults (b .defaults
 
 -- ---- the calls of the table
 
-keyA : Key
+unfoldable pub keyA : Key
 keyA = 0 ∷ 0 ∷ 0 ∷ 1 ∷ 0x61 ∷ []
 
 keyB : Key
 keyB = 0 ∷ 0 ∷ 0 ∷ 1 ∷ 0x62 ∷ []
 
-row : Row
+unfoldable pub row : Row
 row = 0 ∷ 0 ∷ []
 
 put : Key → Mutation

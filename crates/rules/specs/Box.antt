@@ -62,6 +62,16 @@ eqKind Rollback Put = false
 eqKind Rollback Delete = false
 eqKind Rollback Rollback = true
 
+-- a line's start, a standing lock's or a finished record's
+abbrev pub startOf : Line → ℕ
+startOf (Standing l) = l .start
+startOf (Finished w) = w .start
+
+-- a line's kind
+abbrev pub kindIn : Line → Kind
+kindIn (Standing l) = l .kind
+kindIn (Finished w) = w .kind
+
 -- ---- what stands at a key
 
 unfoldable pub addRecord : Bool → Line → List Record → List Record
@@ -83,6 +93,10 @@ addLock false x o = o
 unfoldable pub lockOf : Key → List KeyLine → Option Lock
 lockOf k [] = none
 lockOf k (e ∷ es) = addLock (eqBytes k (e .key)) (e .line) (lockOf k es)
+
+-- the line is of this pair of key and start
+abbrev pub lineIs : Key → ℕ → KeyLine → Bool
+lineIs k s e = eqBytes k (e .key) && eqb s (startOf (e .line))
 
 abbrev pub atPair : Key → ℕ → Default → Bool
 atPair k s d = eqBytes k (d .key) && eqb s (d .start)

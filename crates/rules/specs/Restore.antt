@@ -1,10 +1,12 @@
 -- Document 01: "Restore (replaces the whole store): form, table number not zero, then each entry, in any order: key of this table; default
 -- start not 0, row decodes; lock sound; record sound; no second default or write for one key and stamp, no second lock for a key; every write
 -- Put has its default. Any fault 13, then 11."
+-- Document 02, CR 3: "Restore shall also refuse: a Put lock without its default; a default to which no Put lock or Put record of its key and
+-- start points; two lines of one key and start. .. all are 13, after 01's image checks and before 11."
 -- Assumes nothing.
 use Prim.Native.Nat.{ℕ}
-use mathlib.Core.Bool.{Bool, true, false, _&&_, not}
-use mathlib.Core.List.{List, [], _∷_}
+use mathlib.Core.Bool.{Bool, true, false, _&&_, _||_, not}
+use mathlib.Core.List.{List, [], _∷_, _++_, map}
 use mathlib.Core.Option.{Option, none, some}
 use lib.Dec.{eqb}
 use Rattle.forms.specs.Bytes.{Bytes, eqBytes}
@@ -15,9 +17,8 @@ use Rattle.rules.specs.declared.answers.Answer.{Answer}
 use Rattle.rules.specs.declared.answers.Answer.the-variants.{No}
 use Rattle.rules.specs.declared.records.Kind.{Kind}
 use Rattle.rules.specs.declared.records.Kind.the-variants.{Put, Delete, Rollback}
-use Rattle.rules.specs.declared.records.Record.{Record}
 use Rattle.rules.specs.Answers.{_▸_, need}
-use Rattle.rules.specs.Box.{Box, Standing, Finished, KeyLine, Default, rowOf, insertLine, insertDefault}
+use Rattle.rules.specs.Box.{Box, Standing, Finished, KeyLine, Default, startOf, kindIn, eqKind, lineIs, rowOf, insertLine, insertDefault}
 use Rattle.rules.specs.Sound.{soundRecord, soundLock}
 use Rattle.rules.specs.Room.{roomFor}
 use Rattle.rules.specs.Page.{KeyLock}
@@ -84,6 +85,44 @@ goodImage i =
     noSecond likeWrite (i .writes) &&
     allGood (hasDefault (i .defaults)) (i .writes)
 
+-- ---- document 02, CR 3
+
+abbrev pub lockLine : KeyLock → KeyLine
+lockLine x = record { key = x .key; line = Standing (x .lock) }
+
+abbrev pub writeLine : KeyRecord → KeyLine
+writeLine x = record { key = x .key; line = Finished (x .write) }
+
+-- the image's lines: its locks, then its writes
+abbrev pub imageLines : Image → List KeyLine
+imageLines i = map lockLine (i .locks) ++ map writeLine (i .writes)
+
+-- "a Put lock without its default": none is
+abbrev pub lockHasDefault : List Default → KeyLock → Bool
+lockHasDefault ds x = kindHasDefault (x .lock .kind) (isSome (rowOf (x .key) (x .lock .start) ds))
+
+-- a line points to a default if it is a Put of its key and start
+abbrev pub pointsTo : Default → KeyLine → Bool
+pointsTo d e = lineIs (d .key) (d .start) e && eqKind (kindIn (e .line)) Put
+
+-- "a default to which no Put lock or Put record of its key and start points": to each, one does
+unfoldable pub pointedTo : List KeyLine → Default → Bool
+pointedTo [] d = false
+pointedTo (e ∷ es) d = pointsTo d e || pointedTo es d
+
+-- "two lines of one key and start": no second of a pair, lock or record, of any kind
+abbrev pub likeLine : KeyLine → KeyLine → Bool
+likeLine a b = lineIs (a .key) (startOf (a .line)) b
+
+-- an image that is not sick
+unfoldable pub healthyImage : Image → Bool
+healthyImage i =
+    allGood (lockHasDefault (i .defaults)) (i .locks) &&
+    allGood (pointedTo (imageLines i)) (i .defaults) &&
+    noSecond likeLine (imageLines i)
+
+-- ---- the box
+
 -- the image's entries, each at its place
 unfoldable pub placeDefaults : List Default → List Default
 placeDefaults [] = []
@@ -91,19 +130,20 @@ placeDefaults (d ∷ ds) = insertDefault d (placeDefaults ds)
 
 unfoldable pub placeWrites : List KeyRecord → List KeyLine
 placeWrites [] = []
-placeWrites (x ∷ xs) = insertLine (record { key = x .key; line = Finished (x .write) }) (placeWrites xs)
+placeWrites (x ∷ xs) = insertLine (writeLine x) (placeWrites xs)
 
 unfoldable pub placeLocks : List KeyLock → List KeyLine → List KeyLine
 placeLocks [] es = es
-placeLocks (x ∷ xs) es = insertLine (record { key = x .key; line = Standing (x .lock) }) (placeLocks xs es)
+placeLocks (x ∷ xs) es = insertLine (lockLine x) (placeLocks xs es)
 
 unfoldable pub boxOf : Image → Box
 boxOf i = record { lines = placeLocks (i .locks) (placeWrites (i .writes)); defaults = placeDefaults (i .defaults) }
 
--- "Any fault 13, then 11"
+-- "Any fault 13, then 11"; "all are 13, after 01's image checks and before 11"
 unfoldable pub restoreSteps : Image → Answer
 restoreSteps i =
     need (goodImage i) 13 ▸
+    need (healthyImage i) 13 ▸
     need (roomFor (boxOf i)) 11
 
 -- "replaces the whole store"

@@ -1,5 +1,7 @@
+pub mod LoadLaws
 pub mod MarkPlaces
+pub mod PairLaws
 pub mod PlaceLaws
 pub mod PutLaws
-pub mod LoadLaws
+pub mod SortedLaws
 pub mod VerdictLaws

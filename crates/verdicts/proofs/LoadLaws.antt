@@ -29,7 +29,7 @@ unfolding readOn
 on-any none f h = refl
 on-any (some q) f h = h (q .got) (q .rest)
 
-no-piece : (s : Bytes) (p : ℕ) → rawAt Write s p .piece ≡ []
+pub no-piece : (s : Bytes) (p : ℕ) → rawAt Write s p .piece ≡ []
 unfolding rawAt entryFrom _>>=_ readOn just
 no-piece s p = on-any (piece (drop p s)) _ (λ k u. on-any (numberOf 8 u) _ (λ n v. on-any (tailFrom v) _ (λ t w. refl)))
 

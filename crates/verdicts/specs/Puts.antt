@@ -1,42 +1,45 @@
--- "every write Put has its default", told by places: those of defaults by key and start, and those of writes by key and start.
+-- Lines and defaults, each by key and start: "a Put lock without its default; a default to which no Put lock or Put record of its key and start
+-- points", and "every write Put has its default", told by the pairs of the Puts and those of the defaults.
 -- Assumes nothing.
 use Prim.Native.Nat.{ℕ}
-use mathlib.Core.Path.{_≡_}
-use mathlib.Core.Bool.{Bool, true, not}
-use mathlib.Core.List.{List, [], map}
-use Rattle.seqs.specs.Tables.{All}
+use mathlib.Core.Bool.{Bool, true, false, _&&_}
+use mathlib.Core.List.{List, [], _∷_, map}
 use Rattle.forms.specs.Bytes.{Bytes}
-use Rattle.rules.specs.Box as box
-use Rattle.rules.specs.Box.{rowBefore, ordered}
-use Rattle.rules.specs.Image.{KeyRecord}
-use Rattle.rules.specs.Restore.{allGood, hasDefault}
-use Rattle.images.specs.Entries.{rawAt}
-use Rattle.images.specs.declared.entries.Section.the-variants.{Default, Write}
-use Rattle.judging.specs.Good.{keyRecordOf}
-use Rattle.judging.specs.Sections.{Stands, rowAt}
+use Rattle.forms.specs.Key.{Key}
+use Rattle.rules.specs.declared.records.Kind.{Kind}
+use Rattle.rules.specs.declared.records.Kind.the-variants.{Put, Delete, Rollback}
+use Rattle.rules.specs.Box.{KeyLine, Default, startOf, kindIn}
+use Rattle.rules.specs.Restore.{likeDefault}
+use Rattle.images.specs.Entries.{Raw}
+use Rattle.judging.specs.Sections.{rowAt, lineAt}
 
--- the write at a place
-abbrev pub writeAt : Bytes → ℕ → KeyRecord
-writeAt s p = keyRecordOf (rawAt Write s p)
+-- a key and a start, as a default without a row
+abbrev pub pairOf : Key → ℕ → Default
+pairOf k n = record { key = k; start = n; row = [] }
 
-abbrev pub putsStored : Bytes → List ℕ → List ℕ → Bool
-putsStored s ds ps = allGood (hasDefault (map (rowAt s) ds)) (map (writeAt s) ps)
+abbrev pub linePair : KeyLine → Default
+linePair e = pairOf (e .key) (startOf (e .line))
 
--- a write's key and start
-abbrev pub pairOf : KeyRecord → box.Default
-pairOf x = record { key = x .key; start = x .write .start; row = [] }
+abbrev pub rawPair : Raw → Default
+rawPair x = pairOf (x .key) (x .two)
 
-abbrev pub pairBefore : KeyRecord → KeyRecord → Bool
-pairBefore x y = rowBefore (pairOf x) (pairOf y)
+abbrev pub putOn : Kind → Default → List Default → List Default
+putOn Put p ps = p ∷ ps
+putOn Delete p ps = ps
+putOn Rollback p ps = ps
 
-abbrev pub notAfter : {A : Type 0} → (A → A → Bool) → A → A → Bool
-notAfter lt x y = not (lt y x)
+-- the pairs of the lines that are Puts
+unfoldable pub putsOf : List KeyLine → List Default
+putsOf [] = []
+putsOf (e ∷ es) = putOn (kindIn (e .line)) (linePair e) (putsOf es)
 
--- good defaults, each before all that follow it, and writes, none after one that follows it
-pub record PutsAsk (s : Bytes) (ds ps : List ℕ) : Type 0 where
-  pub table : ℕ
-  pub from : ℕ
-  pub to : ℕ
-  pub defaults : All (Stands Default table s from to) ds
-  pub rows : ordered rowBefore (map (rowAt s) ds) ≡ true
-  pub pairs : ordered (notAfter pairBefore) (map (writeAt s) ps) ≡ true
+-- the same pairs, in the same turn
+unfoldable pub samePairs : List Default → List Default → Bool
+samePairs [] [] = true
+samePairs [] (d ∷ ds) = false
+samePairs (p ∷ ps) [] = false
+samePairs (p ∷ ps) (d ∷ ds) = likeDefault p d && samePairs ps ds
+
+-- the Puts of these lines are of the pairs of those defaults, one for one
+abbrev pub putsMatch : Bytes → ℕ → List ℕ → List ℕ → Bool
+putsMatch s writes ds ps = samePairs (putsOf (map (lineAt s writes) ps)) (map (rowAt s) ds)

@@ -1,43 +1,25 @@
 // Restore's verdict from the image's bytes alone: "Any fault 13, then 11"; and of an image that has room, its places in order.
-ghost use mathlib.Core.Path.{_≡_};
-ghost use Prim.Native.Nat.{_-_, _*_, _≤_};
-ghost use lib.ListN.{length, take};
-ghost use Rattle.orders.specs.declared.marks.By.the-variants.{Lines};
-ghost use Rattle.orders.specs.Marks.{beforeAt};
-ghost use Rattle.orders.specs.Sorts.{merged};
-ghost use Rattle.verdicts.specs.Verdicts.{JoinAsk, DecideAsk, VerdictAsk, Decided};
+ghost use Prim.Native.Nat.{_*_, _≤_};
+ghost use lib.ListN.{length};
+ghost use Rattle.verdicts.specs.Verdicts.{DecideAsk, VerdictAsk, Decided};
 use crate::judge::judge;
 use crate::outcome::Verdict;
 use judging::sections::Sections;
-use orders::By;
 use orders::copy;
-use orders::merge;
 use rules::Answer;
 use rules::Load;
 use rules::load_fits;
 
-// The first `l` places of the locks and those of the writes, merged; `ps` has room for just these.
-fn join(s: &[u8], wat: usize, ls: &[u32], l: usize, ws: &[u32], ps: &mut [u32], lines: &mut [u32])
-    requires { ⌜ JoinAsk (now ls) l (now ws) (now ps) (now lines) ⌝ }
-    ensures { λ _. ⌜ take (length (now (ps .entry))) (now (lines .exit)) ≡ merged (beforeAt (Lines wat) (now (s .entry))) (take l (now (ls .entry))) (take (length (now (ps .entry)) - l) (now (ws .entry))) ⌝ }
-{
-    copy(ls, &mut ps[..l]);
-    copy(ws, &mut ps[l..]);
-    merge(s, By::Lines(wat), ps, l, lines);
-}
-
-// The verdict on an image that was judged; of an accepted one the places of its defaults and of its lines, in order.
+// The verdict on an image s that was judged; of an accepted one the places of its defaults and of its lines, in order.
 fn decide(
     s: &[u8],
     i: Sections,
     ds: &[u32],
-    ls: &[u32],
-    ws: &[u32],
-    ps: &mut [u32],
+    ps: &[u32],
     rows: &mut [u32],
     lines: &mut [u32],
 ) -> Verdict
-    requires { ⌜ DecideAsk (now s) i (now ds) (now ls) (now ws) (now ps) (now rows) (now lines) ⌝ }
+    requires { ⌜ DecideAsk (now s) i (now ds) (now ps) (now rows) (now lines) ⌝ }
     ensures { λ v. ⌜ Decided (now (s .entry)) v (now (rows .exit)) (now (lines .exit)) ⌝ }
 {
     let d = i.defaults;
@@ -65,7 +47,7 @@ fn decide(
         };
     }
     copy(ds, &mut rows[..d]);
-    join(s, wat, ls, l, ws, &mut ps[..n], lines);
+    copy(ps, &mut lines[..n]);
     Verdict {
         answer: Answer::Accepted,
         load: load,
@@ -73,7 +55,7 @@ fn decide(
     }
 }
 
-// The verdict, with room for the places of each section.
+// The verdict, with room for the places of each section, and for those of all lines.
 fn verdict_with(
     s: &[u8],
     ds: &mut [u32],
@@ -88,7 +70,7 @@ fn verdict_with(
     ensures { λ v. ⌜ Decided (now (s .entry)) v (now (rows .exit)) (now (lines .exit)) ⌝ }
 {
     let i = judge(s, ds, ls, ws, ps, room);
-    decide(s, i, ds, ls, ws, ps, rows, lines)
+    decide(s, i, ds, ps, rows, lines)
 }
 
 fn verdict_small(s: &[u8], rows: &mut [u32], lines: &mut [u32]) -> Verdict
@@ -98,8 +80,8 @@ fn verdict_small(s: &[u8], rows: &mut [u32], lines: &mut [u32]) -> Verdict
     let mut ds = [0u32; 1024];
     let mut ls = [0u32; 1024];
     let mut ws = [0u32; 1024];
-    let mut ps = [0u32; 1024];
-    let mut room = [0u32; 1024];
+    let mut ps = [0u32; 2048];
+    let mut room = [0u32; 2048];
     verdict_with(
         s,
         &mut ds,
@@ -119,8 +101,8 @@ fn verdict_large(s: &[u8], rows: &mut [u32], lines: &mut [u32]) -> Verdict
     let mut ds = [0u32; 65536];
     let mut ls = [0u32; 65536];
     let mut ws = [0u32; 65536];
-    let mut ps = [0u32; 65536];
-    let mut room = [0u32; 65536];
+    let mut ps = [0u32; 131072];
+    let mut room = [0u32; 131072];
     verdict_with(
         s,
         &mut ds,

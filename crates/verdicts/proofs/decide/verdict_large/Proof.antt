@@ -1,14 +1,14 @@
--- `verdicts::decide::verdict_large` meets its contract: a count has two bytes, so that 65,536 places are always enough.
+-- `verdicts::decide::verdict_large` meets its contract: 65,536 places are enough for every section.
 -- Assumes nothing.
 use Rattle.verdicts.proofs.VerdictLaws.{room-for}
+use mathlib.Core.Logic.{inr}
 use borrow.Author.Needs.{needs}
 use native.Mathlib.Omega.{arith}
-use mathlib.Core.Logic.{inr}
 use Rattle.verdicts.proofs.decide.verdict_large.Statement.{statement}
 use Rattle.verdicts.proofs.decide.verdict_large.Tie as tie
 
 verdict-with-requires : tie.Need-verdict-with-requires
-verdict-with-requires c κs = room-for 65536 (inr (omega arith)) (omega arith) (omega arith) (c .before .before .before .before .before .before .before .before .before .before .pre .0) (c .before .before .before .before .before .before .before .before .before .before .pre .1)
+verdict-with-requires c κs = room-for 65536 131072 (inr (omega arith)) (omega arith) ((c .before .before .before .before .before .before .before .before .before .before .pre) .0) ((c .before .before .before .before .before .before .before .before .before .before .pre) .1)
 
 pub verdict-large-spec : {M : Type 1} → statement M
 verdict-large-spec =
