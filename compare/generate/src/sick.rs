@@ -1,10 +1,12 @@
 //! Sick images (change request 3): a sound image made sick in one way, at any place; and what keeps other faults from
 //! making it so.
 
+use paper::form::Entry;
 use paper::restore::{Image, RawLock, RawRecord};
 use paper::store::{Bytes, Kind};
 use paper::trace::Call;
 
+use crate::batch::mutation_bytes;
 use crate::faults::{Fault, Place, add};
 use crate::orders::{Order, ascends, default_mark, lock_mark, put, write_mark};
 use crate::random::Random;
@@ -185,67 +187,66 @@ fn rollback(start: u64) -> Call {
     Call::Rollback { transaction: 7, start, key: a() }
 }
 
+fn read(moment: u64) -> Call {
+    Call::Read { moment, key: a() }
+}
+
+const PUT: u8 = 1;
+const DELETE: u8 = 2;
+const UNDONE: u8 = 3;
+
 /// Images of key a for the fixed sample, sick and just not sick, and calls from those that are taken.
 pub fn cases() -> Vec<(&'static str, Vec<Call>)> {
-    let (put, delete, undone) = (1, 2, 3);
-    let sick = vec![
-        restore(&[10], &[], &[write(10, 12, put)]),
-        restore(&[], &[lock(7, 10, put)], &[]),
-        restore(&[11], &[lock(7, 10, put)], &[]),
-        restore(&[10], &[], &[]),
-        restore(&[10], &[], &[write(10, 12, delete)]),
-        restore(&[10], &[], &[write(10, 10, undone)]),
-        restore(&[10], &[lock(7, 10, delete)], &[]),
-        restore(&[9, 10], &[], &[write(10, 12, put)]),
-        restore(&[], &[], &[write(3, 4, delete), write(3, 7, delete)]),
-        restore(&[3], &[], &[write(3, 4, put), write(3, 7, put)]),
-        restore(&[3], &[lock(7, 3, put)], &[write(3, 4, put)]),
-        restore(&[], &[lock(8, 3, delete)], &[write(3, 3, undone)]),
-        Call::Statistics,
-        Call::Read { moment: 12, key: a() },
-    ];
-    let last = u64::MAX;
-    let batch = crate::batch::mutation_bytes(&[paper::form::Entry { key: a(), kind: Kind::Delete, row: vec![] }]);
-    let one_step = Call::OneStep { transaction: 7, start: last, commit: last, batch };
-    let image = restore(&[10, 20], &[lock(7, 20, put)], &[write(10, 12, put)]);
-    let read = |moment| Call::Read { moment, key: a() };
     vec![
-        ("sick in each way", sick),
+        ("sick in each way", sick_in_each_way()),
         ("an orphan among 1,025 defaults, and orphans alone", vec![many(1), many(1025), Call::Statistics]),
-        (
-            "a lock below a stamp of its key",
-            vec![
-                restore(&[], &[lock(7, 5, delete)], &[write(7, 9, delete)]),
-                commit(5, 8),
-                commit(5, 10),
-                Call::Statistics,
-            ],
-        ),
-        (
-            "a lock that cannot end",
-            vec![
-                restore(&[], &[lock(7, last, delete)], &[write(7, last, delete)]),
-                commit(last, last),
-                rollback(last),
-                one_step,
-            ],
-        ),
-        (
-            "calls from an image",
-            vec![
-                image,
-                commit(10, 12),
-                rollback(10),
-                read(19),
-                rollback(5),
-                commit(20, 21),
-                rollback(5),
-                read(21),
-                Call::Statistics,
-            ],
-        ),
+        ("a lock below a stamp of its key", low_lock()),
+        ("a lock that cannot end", endless_lock()),
+        ("calls from an image", calls_from_an_image()),
         ("no entries", vec![restore(&[], &[], &[]), Call::Statistics]),
     ]
+}
+
+/// A sound image, then eleven sick ones, which leave the store as it is.
+fn sick_in_each_way() -> Vec<Call> {
+    vec![
+        restore(&[10], &[], &[write(10, 12, PUT)]),
+        restore(&[], &[lock(7, 10, PUT)], &[]),
+        restore(&[11], &[lock(7, 10, PUT)], &[]),
+        restore(&[10], &[], &[]),
+        restore(&[10], &[], &[write(10, 12, DELETE)]),
+        restore(&[10], &[], &[write(10, 10, UNDONE)]),
+        restore(&[10], &[lock(7, 10, DELETE)], &[]),
+        restore(&[9, 10], &[], &[write(10, 12, PUT)]),
+        restore(&[], &[], &[write(3, 4, DELETE), write(3, 7, DELETE)]),
+        restore(&[3], &[], &[write(3, 4, PUT), write(3, 7, PUT)]),
+        restore(&[3], &[lock(7, 3, PUT)], &[write(3, 4, PUT)]),
+        restore(&[], &[lock(8, 3, DELETE)], &[write(3, 3, UNDONE)]),
+        Call::Statistics,
+        read(12),
+    ]
+}
+
+/// Not sick: the lock's commit is 8 below the stamp and 0 above it.
+fn low_lock() -> Vec<Call> {
+    let image = restore(&[], &[lock(7, 5, DELETE)], &[write(7, 9, DELETE)]);
+    vec![image, commit(5, 8), commit(5, 10), Call::Statistics]
+}
+
+/// Not sick either, although the lock can be neither committed nor rolled back.
+fn endless_lock() -> Vec<Call> {
+    let last = u64::MAX;
+    let image = restore(&[], &[lock(7, last, DELETE)], &[write(7, last, DELETE)]);
+    let batch = mutation_bytes(&[Entry { key: a(), kind: Kind::Delete, row: vec![] }]);
+    let one_step = Call::OneStep { transaction: 7, start: last, commit: last, batch };
+    vec![image, commit(last, last), rollback(last), one_step]
+}
+
+/// A replay, refusals, a commit of the image's lock and a new line.
+fn calls_from_an_image() -> Vec<Call> {
+    let image = restore(&[10, 20], &[lock(7, 20, PUT)], &[write(10, 12, PUT)]);
+    let before = vec![image, commit(10, 12), rollback(10), read(19), rollback(5)];
+    [before, vec![commit(20, 21), rollback(5), read(21), Call::Statistics]].concat()
 }
 
 /// 1,025 defaults of as many keys; so many of them have no line.

@@ -37,7 +37,7 @@ module _ {section : Section} {s : Bytes} {p : ℕ} {e : Entry} (v : EntryAt sect
   entry-size = omega (arith, key-long, piece-long, ap rawBytes (v .raw))
 
   module _ {area : Bytes} {top : ℕ} (b : Spare (rawBytes (rawAt section s p)) area top) where
-    pub bring-room : top + e .len + e .plen < 65536
+    bring-room : top + e .len + e .plen < 65536
     bring-room = omega (arith, b .room, entry-size)
 
     pub key-room : top + length (bytesAt s (e .at) (e .len)) ≤ length area

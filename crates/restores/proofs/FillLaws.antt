@@ -21,7 +21,7 @@ use Rattle.restores.specs.Fills.{Way, sizeIf, Comes}
 -- ---- the first k elements, and empty ones after them
 
 module _ {A : Type 0} (empty : A) where
-  abbrev pub blank : ℕ → List A → List A
+  abbrev blank : ℕ → List A → List A
   blank k t = take k t ++ replicate (1024 - k) empty
 
   module _ (k : ℕ) (t : List A) (long : length t ≡ 1024) (h : k < 1024) where

@@ -18,7 +18,7 @@ use Rattle.images.specs.declared.entries.Section.{Section}
 use Rattle.images.specs.declared.entries.Section.the-variants.{Default, Lock, Write}
 use Rattle.judging.specs.Good.{fits, pass, goodFrom}
 use Rattle.judging.specs.Sections.{Stands, rowAt, lineIf, lineAt}
-use Rattle.orders.specs.Marks.{rankOf, ranked, Head, headFrom, headOr, rankedBy, sectionIf, pairOf, markAt}
+use Rattle.orders.specs.Marks.{rankOf, ranked, Head, headFrom, headOr, rankedBy, sectionIf, rankedPair, markAt}
 use Rattle.orders.specs.declared.marks.By.the-variants.{Rows, Pairs, Lines}
 
 -- ---- the reader of a head against that of an entry
@@ -87,6 +87,6 @@ pub mark-pair : (w : ℕ) (s : Bytes) (p : ℕ) → markAt (Pairs w) s p ≡ ran
 unfolding markAt
 mark-pair w s p = go (ltb p w)
   where
-    go : (b : Bool) → pairOf (rawAt (sectionIf b) s p) ≡ ranked (lineIf b s p .key) false (startOf (lineIf b s p .line))
+    go : (b : Bool) → rankedPair (rawAt (sectionIf b) s p) ≡ ranked (lineIf b s p .key) false (startOf (lineIf b s p .line))
     go true = refl
     go false = refl

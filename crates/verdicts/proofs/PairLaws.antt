@@ -3,9 +3,9 @@
 -- Assumes nothing.
 use Prim.Native.Nat.{ℕ}
 use mathlib.Core.Path.{_≡_, refl, sym, _∙_, ap, ap₂}
-use mathlib.Core.Bool.{Bool, true, false, not, _&&_, _||_, and-true, and-false, and-assoc, true≢false}
+use mathlib.Core.Bool.{Bool, true, false, not, _&&_, _||_, and-false, and-assoc}
 use mathlib.Core.List.{List, [], _∷_, _++_, map}
-use lib.Dec.{ltb, eqb}
+use lib.Dec.{ltb}
 use borrow.Author.Tests.{eqb-true, eq-eqb}
 use Rattle.seqs.proofs.Tests.{and-left, and-right, and-both}
 use Rattle.forms.specs.Bytes.{cmp, eqBytes}
@@ -19,11 +19,11 @@ use Rattle.rules.specs.Page.{KeyLock}
 use Rattle.rules.specs.Image.{KeyRecord}
 use Rattle.rules.specs.Restore.{allGood, likeDefault, kindHasDefault, hasDefault, lockLine, writeLine, lockHasDefault, pointsTo, pointedTo}
 use Rattle.laws.proofs.Sorted.{Fewer, empty, gone, kept, ordered-first, ordered-rest, ordered-fewer, after-down}
-use Rattle.laws.proofs.BoxOrder.{rowBefore-trans, rowBefore-else, rowBefore-apart, rowBefore-apart′}
+use Rattle.laws.proofs.BoxOrder.{rowBefore-trans, rowBefore-else, rowBefore-apart′}
 use Rattle.orders.specs.Sorts.{sorted}
-use Rattle.verdicts.specs.Puts.{pairOf, linePair, putOn, putsOf, samePairs}
-use Rattle.verdicts.proofs.SortedLaws.{sorted-good}
-use Rattle.verdicts.proofs.PlaceLaws.{pairBefore}
+use Rattle.verdicts.specs.Puts.{linePair, putOn, putsOf, samePairs}
+use Rattle.verdicts.proofs.SortedLaws.{sorted-good, none-good, none-after}
+use Rattle.verdicts.proofs.PlaceLaws.{likes-rows, pairBefore}
 
 -- ---- one of them
 
@@ -71,13 +71,7 @@ module _ (x y : Default) (e : likeDefault x y ≡ true) where
   after-like (z ∷ zs) h =
       and-both (rowBefore y z) _ (sym (ap₂ (λ (k : Key) (n : ℕ). byOrder (cmp k (z .key)) (ltb n (z .start))) same-key same-start) ∙ and-left _ _ h) (after-like zs (and-right (rowBefore x z) _ h))
 
--- one that is before all of them has no like among them
-has-none : (x : Default) (l : List Default) → allAfter rowBefore x l ≡ true → allGood (λ y. not (likeDefault x y)) l ≡ true
-unfolding allAfter allGood
-has-none x [] h = refl
-has-none x (y ∷ ys) h = and-both (not (likeDefault x y)) _ (ap not (rowBefore-apart x y (and-left _ _ h))) (has-none x ys (and-right (rowBefore x y) _ h))
-
--- and is the like of none
+-- one that is before all of them is the like of none
 not-needed : (y : Default) (ys l : List Default) → allAfter rowBefore y l ≡ true → allGood (has (y ∷ ys)) l ≡ allGood (has ys) l
 unfolding allAfter allGood
 not-needed y ys [] h = refl
@@ -92,7 +86,7 @@ same-pairs (x ∷ xs) [] o q = refl
 same-pairs (x ∷ xs) (y ∷ ys) o q = go (likeDefault x y) (rowBefore x y) refl refl (same-pairs xs ys (ordered-rest rowBefore x xs o) (ordered-rest rowBefore y ys q))
   where
     before : (u v : Default) (l : List Default) → rowBefore u v ≡ true → ordered rowBefore (v ∷ l) ≡ true → has (v ∷ l) u ≡ false
-    before u v l h p = ap not (has-none u (v ∷ l) (and-both _ _ h (after-down rowBefore rowBefore-trans u v l h (ordered-first rowBefore v l p))))
+    before u v l h p = ap not (sym (none-good likeDefault u (v ∷ l)) ∙ none-after likes-rows u (v ∷ l) (and-both _ _ h (after-down rowBefore rowBefore-trans u v l h (ordered-first rowBefore v l p))))
 
     found : (u v : Default) (l : List Default) → likeDefault u v ≡ true → has (v ∷ l) u ≡ true
     found u v l h = ap (λ (b : Bool). not (not b && allGood (λ z. not (likeDefault u z)) l)) h

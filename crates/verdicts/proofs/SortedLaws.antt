@@ -3,7 +3,7 @@
 -- Assumes nothing.
 use mathlib.Core.Path.{_≡_, refl, sym, _∙_, ap, ap₂}
 use mathlib.Core.Bool.{Bool, true, false, not, _&&_, and-false, true≢false, false≢true}
-use mathlib.Core.List.{List, [], _∷_, _++_, map}
+use mathlib.Core.List.{List, [], _∷_, map}
 use Rattle.seqs.specs.Tables.{All}
 use Rattle.seqs.proofs.Tests.{and-left, and-right, and-both}
 use Rattle.rules.specs.Box.{putIn, insertBy, allAfter, ordered}
@@ -26,7 +26,7 @@ and-cross true false c d = sym (and-false c)
 
 module _ {A : Type 0} (lt : A → A → Bool) where
   module _ (P : A → Type 0) where
-    pub put-all : (x : A) (l : List A) → P x → All P l → All P (insertBy lt x l)
+    put-all : (x : A) (l : List A) → P x → All P l → All P (insertBy lt x l)
     unfolding All insertBy putIn
     put-all x [] p h = (p, tt)
     put-all x (y ∷ ys) p h = go (lt x y) (put-all x ys p (h .1))
@@ -41,7 +41,7 @@ module _ {A : Type 0} (lt : A → A → Bool) where
     sorted-all (x ∷ xs) h = put-all x (sorted lt xs) (h .0) (sorted-all xs (h .1))
 
   module _ (p : A → Bool) where
-    pub put-good : (x : A) (l : List A) → allGood p (insertBy lt x l) ≡ p x && allGood p l
+    put-good : (x : A) (l : List A) → allGood p (insertBy lt x l) ≡ p x && allGood p l
     unfolding allGood insertBy putIn
     put-good x [] = refl
     put-good x (y ∷ ys) = go (lt x y) (put-good x ys)
@@ -57,7 +57,7 @@ module _ {A : Type 0} (lt : A → A → Bool) where
 
 -- ---- no second of its like
 
-pub after-good : {A : Type 0} (lt : A → A → Bool) (x : A) (l : List A) → allAfter lt x l ≡ allGood (lt x) l
+after-good : {A : Type 0} (lt : A → A → Bool) (x : A) (l : List A) → allAfter lt x l ≡ allGood (lt x) l
 unfolding allAfter allGood
 after-good lt x [] = refl
 after-good lt x (y ∷ ys) = ap (λ (b : Bool). lt x y && b) (after-good lt x ys)
