@@ -1,11 +1,12 @@
-// Loaded before the C library (LD_PRELOAD), this counts the copies of table size that a program makes, 16,384 bytes and up, and at the end
-// writes to standard error how many there were and how many bytes they had. bench/run --copies uses it; nothing is timed with it.
+// Loaded before the C library (LD_PRELOAD), this counts the copies of table size that a program makes, 12,000 bytes and up, and at the end
+// writes to standard error how many there were and how many bytes they had. The table of slots has 12,288 bytes and the whole store about 12,328;
+// what stands of the table in the boxes of bench/rust, 932 lines at most, has less than 12,000. bench/run --copies uses it; nothing is timed with it.
 #define _GNU_SOURCE
 #include <dlfcn.h>
 #include <stdio.h>
 #include <string.h>
 
-enum { LEAST = 16384 };
+enum { LEAST = 12000 };
 
 static unsigned long long copies, bytes;
 

@@ -86,7 +86,7 @@ pub enum Kind {
     Room,
     /// All four rooms full, or an image far beyond, of more than 65,535 bytes.
     Large,
-    /// A box filled by calls alone until its area is packed anew.
+    /// A box filled by calls alone until its area is packed anew; damaged where an op is left out.
     Repacks,
     /// A fault in the trace's own form.
     Damaged,
@@ -94,14 +94,15 @@ pub enum Kind {
     Edge,
 }
 
-const KINDS: [(Kind, usize); 8] = [
+const KINDS: [(Kind, usize); 9] = [
     (Kind::Fresh, 245),
     (Kind::Odd, 340),
     (Kind::Images, 150),
     (Kind::Hostile, 40),
     (Kind::Room, 70),
     (Kind::Large, 10),
-    (Kind::Damaged, 120),
+    (Kind::Repacks, 10),
+    (Kind::Damaged, 110),
     (Kind::Edge, 25),
 ];
 
@@ -112,13 +113,11 @@ pub fn kind_of(seed: u64) -> Kind {
 }
 
 /// The trace of a seed. A full box costs a driver as much time as thousands of reads and shows restore alone, so where
-/// images are what is read, most of these give way to small ones. One large box in four is made by calls alone and packs
-/// its area anew. One trace in ten, and where the changing ops are single forms alone two in three, is about these. Where
-/// restore stands alone, all that would be about calls is about images.
+/// images are what is read, most of these give way to small ones. One trace in ten, and where the changing ops are single
+/// forms alone two in three, is about these. Where restore stands alone, all that would be about calls is about images.
 pub fn trace(seed: u64, ops: Ops) -> Bytes {
     let kind = match kind_of(seed) {
         Kind::Room | Kind::Large if ops.reads_images() && !seed.is_multiple_of(8) => Kind::Odd,
-        Kind::Large if ops == Ops::all() && seed.is_multiple_of(4) => Kind::Repacks,
         Kind::Fresh if ops.restores_alone() => Kind::Images,
         Kind::Odd if ops.restores_alone() => Kind::Hostile,
         Kind::Fresh | Kind::Odd if ops.singles_alone() => Kind::Singles,
@@ -161,8 +160,8 @@ pub fn trace_of(kind: Kind, seed: u64, ops: Ops) -> Bytes {
         }
         Kind::Room => room(&mut maker),
         Kind::Large => large(&mut maker),
-        Kind::Repacks => return repacks::trace(&mut maker.random),
-        Kind::Damaged => {
+        Kind::Repacks if ops == Ops::all() => return repacks::trace(&mut maker.random),
+        Kind::Repacks | Kind::Damaged => {
             if maker.random.percent(50) {
                 let restore = maker.sound_restore();
                 maker.push(restore);

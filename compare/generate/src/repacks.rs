@@ -1,11 +1,10 @@
 //! Boxes that are filled by calls alone until the store packs its area anew (paper/src/area.rs), in each call that brings
-//! bytes, and then looked at from end to end: every row read back, a page of all, statistics and marks.
+//! bytes, and then looked at from end to end: locks, rows, a page of all, replays, statistics and marks.
 
-use paper::area::Area;
+use paper::area::{Area, LONGEST_LOCK, LONGEST_ROLLBACK, NUMBERS};
 use paper::form::Entry;
 use paper::page::Bounds;
-use paper::room::{LINES, LIVE_BYTES};
-use paper::run::run_call;
+use paper::room::{LINES, LIVE_BYTES, LOCKS};
 use paper::store::{Bytes, Kind, Store};
 use paper::trace::{Call, write_trace};
 
@@ -13,100 +12,125 @@ use crate::batch::{key_bytes, mutation_bytes};
 use crate::random::Random;
 
 /// The calls that bring bytes, by their ops.
-pub const OPS: [u8; 5] = [6, 7, 10, 11, 12];
+pub const OPS: [u8; 7] = [6, 7, 8, 9, 10, 11, 12];
+/// A trace has no room for more repacks.
+pub const MOST: usize = 3;
+/// By their number: the live bytes of what stands, and the length of the rows that come and go. The more repacks, the more
+/// must each of the 1,024 lines bring.
+const FILLS: [(usize, usize); MOST] = [(20_000, 12), (34_000, 110), (34_000, 255)];
 /// Every call is of this transaction.
 const TRANSACTION: u64 = 7;
-/// The rows that stand have these lengths in turn, and their keys those.
-const ROWS: [usize; 9] = [2, 255, 60, 3, 130, 254, 12, 200, 90];
+/// The rows that stand have these lengths in turn, where 0 is a Delete, and their keys those, both from a place of the
+/// trace's own on.
+const ROWS: [usize; 9] = [2, 255, 60, 0, 130, 254, 12, 200, 90];
 const KEYS: [usize; 5] = [6, 48, 7, 20, 33];
-/// The place for which an entry that comes and goes asks, as a lock with its row and as a rollback.
-const COMES_AND_GOES: usize = 399 + 48;
+/// The shortest key that is made here; a Rollback of it has so many bytes.
+const SHORT: usize = 6;
+const SHORT_ROLLBACK: usize = SHORT + NUMBERS;
 
 /// The box, its area, and the trace that made them.
+#[derive(Default)]
 struct Filler {
     calls: Vec<Call>,
     store: Store,
     area: Area,
     keys: usize,
     time: u64,
+    turn: usize,
 }
 
-/// The traces of the fixed sample: a repack in each call that brings bytes, on new keys and beside locks, and a box of
-/// 1,024 lines.
+/// The traces of the fixed sample: a repack in each call that brings bytes, on new keys, two or three to a trace; on locks,
+/// one to a trace; and in boxes of 1,024 lines.
 pub fn cases() -> Vec<(&'static str, Vec<Call>)> {
-    vec![
-        ("a repack in each call", packed(36_000, &OPS, false)),
-        ("a repack in each call, beside locks", packed(36_000, &OPS, true)),
-        ("a full box, packed anew", full_and_packed()),
-    ]
+    let new = [&OPS[..3], &OPS[3..5], &OPS[5..]].map(|ops| ("a repack on new keys", packed(0, ops, false)));
+    let locked = OPS.map(|op| ("a repack on locks", packed(0, &[op], true)));
+    let full = [9, 12].map(|op| ("a full box, packed anew", full_and_packed(op)));
+    new.into_iter().chain(locked).chain(full).collect()
 }
 
-/// A trace with a repack in each call that brings bytes, in any order.
+/// A trace with a repack in some of the calls that bring bytes, in any order, or in a full box.
 pub fn trace(random: &mut Random) -> Bytes {
-    let live = random.between(36_000, 40_000);
+    if random.percent(10) {
+        return write_trace(&full_and_packed(*random.pick(&[9, 12])));
+    }
     let mut ops = OPS;
     random.shuffle(&mut ops);
-    write_trace(&packed(live, &ops, random.percent(50)))
+    let ops = &ops[..*random.pick(&[1, 2, MOST, MOST])];
+    let turn = random.below(KEYS.len() * ROWS.len());
+    write_trace(&packed(turn, ops, random.percent(50)))
 }
 
-/// Rows of at least so many live bytes, then for each op a box so full that a call of this op packs the area anew.
-fn packed(live: usize, ops: &[u8], on_locks: bool) -> Vec<Call> {
-    let mut filler = Filler::new();
+/// Lines that stand, and then for each op a box so full that a call of this op packs the area anew.
+fn packed(turn: usize, ops: &[u8], on_locks: bool) -> Vec<Call> {
+    let mut filler = Filler { turn, ..Filler::default() };
+    let (live, row) = FILLS[ops.len() - 1];
     while filler.store.room_used().live_bytes < live {
         filler.stand();
     }
-    ops.iter().for_each(|op| filler.pack_by(*op, on_locks));
+    ops.iter().for_each(|op| filler.pack_by(*op, on_locks, row));
     filler.look();
     filler.calls
 }
 
-/// 1,024 lines and as many rows, a quarter of them locked; half of the locks are rolled back; the other half is committed
-/// in one step with longer rows, until the area is packed anew although no line has come. One line more is 11.
-fn full_and_packed() -> Vec<Call> {
-    let mut filler = Filler::new();
-    for _ in 0..24 {
-        let entries = filler.puts(32, |_| 6, |_| 20);
-        filler.one_step(&entries);
+/// 1,024 lines and as many rows, a quarter of them locked; half of the locks are rolled back; the other half is committed,
+/// with longer rows if that is done in one step, until the area is packed anew although no line has come. One line more
+/// is 11.
+fn full_and_packed(op: u8) -> Vec<Call> {
+    let mut filler = Filler::default();
+    for _ in 0..21 {
+        let ((start, keys), commit) = (filler.lock(32, 20), filler.tick());
+        filler.commit_batch(start, commit, &keys);
     }
-    let locked: Vec<(u64, Vec<Bytes>)> = (0..8).map(|_| filler.lock(32, |_| 20)).collect();
-    let one_more = |filler: &mut Filler| {
-        let entries = filler.puts(1, |_| 6, |_| 2);
-        filler.one_step(&entries);
+    let locked = [20, 20, 20, 20, 40, 40, 40, 40].map(|row| filler.lock(32, row));
+    let more = |filler: &mut Filler, count| {
+        let (start, commit, entries) = (filler.tick(), filler.tick(), filler.entries(count, |_| SHORT, |_| 20));
+        filler.one_step(start, commit, &entries);
     };
-    one_more(&mut filler);
+    (0..12).for_each(|_| more(&mut filler, 8));
+    more(&mut filler, 1);
     for (start, keys) in &locked[..4] {
         let (singles, batch) = keys.split_at(4);
         singles.iter().for_each(|key| filler.rollback(*start, key));
         filler.rollback_batch(*start, batch);
     }
     for (start, keys) in &locked[4..] {
-        let entries: Vec<Entry> = keys.iter().enumerate().map(|(at, key)| put(key, 150 + at)).collect();
-        filler.one_step_at(*start, &entries);
+        let commit = filler.tick();
+        if op == 9 {
+            filler.commit_batch(*start, commit, keys);
+        } else {
+            let entries: Vec<Entry> = keys.iter().enumerate().map(|(at, key)| entry(key, 150 + at)).collect();
+            filler.one_step(*start, commit, &entries);
+        }
+        filler.show_locks();
     }
-    one_more(&mut filler);
+    more(&mut filler, 1);
     filler.look();
     filler.calls
 }
 
-/// A Put whose row tells its key.
-fn put(key: &Bytes, length: usize) -> Entry {
+/// A Put with a row of this length that tells its key; of length 0, a Delete.
+fn entry(key: &Bytes, length: usize) -> Entry {
     let text = (0..length.saturating_sub(3)).map(|at| key[4].wrapping_mul(7) ^ key[5] ^ at as u8);
-    let row = match length {
-        2 => vec![0, 0],
-        _ => [0, 1, (length - 3) as u8].into_iter().chain(text).collect(),
+    let (kind, row) = match length {
+        0 => (Kind::Delete, Bytes::new()),
+        2 => (Kind::Put, vec![0, 0]),
+        _ => (Kind::Put, [0, 1, (length - 3) as u8].into_iter().chain(text).collect()),
     };
-    Entry { key: key.clone(), kind: Kind::Put, row }
+    Entry { key: key.clone(), kind, row }
+}
+
+fn keys_of(entries: &[Entry]) -> Vec<Bytes> {
+    entries.iter().map(|entry| entry.key.clone()).collect()
+}
+
+/// A primary of 48 bytes that tells the start of its lock.
+fn primary_of(start: u64) -> Bytes {
+    start.to_be_bytes().repeat(6).into_iter().map(|byte| byte ^ 0xA5).collect()
 }
 
 impl Filler {
-    fn new() -> Self {
-        Filler { calls: Vec::new(), store: Store::default(), area: Area::default(), keys: 0, time: 0 }
-    }
-
     fn push(&mut self, call: Call) {
-        let before = self.store.clone();
-        run_call(&mut self.store, &call);
-        self.area.packs(&before, &call, &self.store);
+        self.area.run(&mut self.store, &call);
         self.calls.push(call);
     }
 
@@ -125,31 +149,39 @@ impl Filler {
         key
     }
 
-    /// Puts of new keys, ascending.
-    fn puts(&mut self, count: usize, key: impl Fn(usize) -> usize, row: impl Fn(usize) -> usize) -> Vec<Entry> {
-        let mut entries: Vec<Entry> = (0..count).map(|at| put(&self.key(key(at)), row(at))).collect();
+    /// Entries of new keys, ascending.
+    fn entries(&mut self, count: usize, key: impl Fn(usize) -> usize, row: impl Fn(usize) -> usize) -> Vec<Entry> {
+        let mut entries: Vec<Entry> = (0..count).map(|at| entry(&self.key(key(at)), row(at))).collect();
         entries.sort_by(|left, right| left.key.cmp(&right.key));
         entries
     }
 
-    fn one_step(&mut self, entries: &[Entry]) {
-        let start = self.tick();
-        self.one_step_at(start, entries);
+    /// Entries of new keys, of many lengths.
+    fn mixed(&mut self, count: usize) -> Vec<Entry> {
+        let turn = self.turn;
+        self.entries(count, |at| KEYS[(turn + at) % KEYS.len()], |at| ROWS[(turn + at) % ROWS.len()])
     }
 
-    fn one_step_at(&mut self, start: u64, entries: &[Entry]) {
-        let commit = self.tick();
+    fn one_step(&mut self, start: u64, commit: u64, entries: &[Entry]) {
         self.push(Call::OneStep { transaction: TRANSACTION, start, commit, batch: mutation_bytes(entries) });
     }
 
-    fn prewrite(&mut self, start: u64, primary: Bytes, entry: Entry) {
-        let Entry { key, kind, row } = entry;
+    fn prewrite(&mut self, start: u64, entry: Entry) {
+        let (primary, Entry { key, kind, row }) = (primary_of(start), entry);
         self.push(Call::Prewrite { transaction: TRANSACTION, start, time_to_live: 1, kind, primary, key, row });
     }
 
     fn prewrite_batch(&mut self, start: u64, entries: &[Entry]) {
-        let (primary, batch) = (vec![1; 48], mutation_bytes(entries));
+        let (primary, batch) = (primary_of(start), mutation_bytes(entries));
         self.push(Call::PrewriteBatch { transaction: TRANSACTION, start, time_to_live: 1, primary, batch });
+    }
+
+    fn commit(&mut self, start: u64, commit: u64, key: &[u8]) {
+        self.push(Call::Commit { transaction: TRANSACTION, start, commit, key: key.to_vec() });
+    }
+
+    fn commit_batch(&mut self, start: u64, commit: u64, keys: &[Bytes]) {
+        self.push(Call::CommitBatch { transaction: TRANSACTION, start, commit, batch: key_bytes(keys) });
     }
 
     fn rollback(&mut self, start: u64, key: &[u8]) {
@@ -160,111 +192,130 @@ impl Filler {
         self.push(Call::RollbackBatch { transaction: TRANSACTION, start, batch: key_bytes(keys) });
     }
 
-    /// A batch of Puts is prewritten: its start and its keys.
-    fn lock(&mut self, count: usize, row: impl Fn(usize) -> usize) -> (u64, Vec<Bytes>) {
-        let (start, entries) = (self.tick(), self.puts(count, |_| 6, row));
+    /// A Rollback of a new key, which has so many bytes in the area.
+    fn rollback_new(&mut self, bytes: usize) {
+        let (start, key) = (self.tick(), self.key(bytes - NUMBERS));
+        self.rollback(start, &key);
+    }
+
+    /// A batch of Puts of short keys is prewritten: its start and its keys.
+    fn lock(&mut self, count: usize, row: usize) -> (u64, Vec<Bytes>) {
+        let (start, entries) = (self.tick(), self.entries(count, |_| SHORT, |_| row));
         self.prewrite_batch(start, &entries);
-        (start, entries.into_iter().map(|entry| entry.key).collect())
+        (start, keys_of(&entries))
     }
 
-    /// A batch of rows that stay: of new keys, and then a second row for some of them.
+    /// A batch that stays: of new keys, and then a second row for some of them in one step.
     fn stand(&mut self) {
-        let mut entries = self.puts(18, |at| KEYS[at % KEYS.len()], |at| ROWS[at % ROWS.len()]);
-        self.one_step(&entries);
+        let (start, commit, mut entries) = (self.tick(), self.tick(), self.mixed(18));
+        self.prewrite_batch(start, &entries);
+        self.commit_batch(start, commit, &keys_of(&entries));
         entries.retain(|entry| entry.row.len() < 20);
-        entries.iter_mut().for_each(|entry| *entry = put(&entry.key, entry.row.len() + 4));
-        self.one_step(&entries);
+        entries.iter_mut().for_each(|old| *old = entry(&old.key, old.row.len() + 4));
+        let (start, commit) = (self.tick(), self.tick());
+        self.one_step(start, commit, &entries);
     }
 
-    /// Uses the area up to so many bytes before its end, or a few more: by rows that are prewritten and rolled back, as many
-    /// at a time as the live bytes have room for, and at last by rollbacks of new keys.
-    fn close_gap(&mut self, left: usize) {
+    /// Uses the area up until just the longest Rollback has place: by rows of this length that are prewritten and rolled
+    /// back, as many at a time as there is place and room for, and at last by rollbacks of new keys.
+    fn close_gap(&mut self, row: usize) {
         loop {
-            let over = self.area.gap().saturating_sub(left);
-            let room = (LIVE_BYTES - self.store.room_used().live_bytes) / COMES_AND_GOES;
-            match over / COMES_AND_GOES {
-                0 if over < 20 => return,
-                _ if room == 0 => return,
-                0 => {
-                    let (start, key) = (self.tick(), self.key(over.min(48)));
-                    self.rollback(start, &key);
-                }
-                count => {
-                    let (start, keys) = self.lock(count.min(room).min(32), |_| 255);
+            let over = self.area.gap().saturating_sub(LONGEST_ROLLBACK);
+            let used = self.store.room_used();
+            let live = (LIVE_BYTES - used.live_bytes) / (2 * SHORT + 48 + row);
+            let room = live.min(LINES - used.lines).min(LOCKS - used.locks).min(32);
+            if over < SHORT_ROLLBACK || room == 0 {
+                return;
+            }
+            let count = room.min((over - SHORT_ROLLBACK) / (LONGEST_LOCK + SHORT_ROLLBACK));
+            match over {
+                _ if count > 0 => {
+                    let (start, keys) = self.lock(count, row);
                     self.rollback_batch(start, &keys);
                 }
+                // What is left over is never less than a Rollback.
+                0..=LONGEST_ROLLBACK => self.rollback_new(over),
+                _ => self.rollback_new((over - SHORT_ROLLBACK).min(LONGEST_ROLLBACK)),
             }
         }
     }
 
-    /// A call of this op for whose bytes the area has no place: on new keys, or on keys with locks of its own.
-    fn pack_by(&mut self, op: u8, on_locks: bool) {
-        let locked = if on_locks { Some(self.lock(8, |at| 20 + at)) } else { None };
-        self.close_gap(if op == 10 || op == 11 { 100 } else { 300 });
-        match (op, locked) {
-            (6, _) => {
-                let (start, key) = (self.tick(), self.key(48));
-                self.prewrite(start, vec![1; 48], put(&key, 255));
-                let commit = self.tick();
-                self.push(Call::Commit { transaction: TRANSACTION, start, commit, key });
+    /// A call of this op for whose bytes the area has no place: on new keys, or with eight that have locks of its own, one of
+    /// which may be ended before. Then the locks are shown and committed. The area is filled by rows of this length.
+    fn pack_by(&mut self, op: u8, on_locks: bool, row: usize) {
+        let (start, commit, entries) = (self.tick(), self.tick(), self.mixed(8));
+        let keys = keys_of(&entries);
+        if on_locks || op == 8 || op == 9 {
+            self.prewrite_batch(start, &entries);
+        }
+        match op {
+            9 if on_locks => self.commit(start, commit, &keys[0]),
+            11 if on_locks => self.rollback(start, &keys[0]),
+            _ => {}
+        }
+        self.close_gap(row);
+        match op {
+            6 => {
+                let longest = entry(&self.key(48), 255);
+                self.prewrite(start, longest);
             }
-            (7, _) => {
-                let (start, keys) = self.lock(5, |at| ROWS[at]);
-                let commit = self.tick();
-                let batch = key_bytes(&keys);
-                self.push(Call::CommitBatch { transaction: TRANSACTION, start, commit, batch });
+            7 => {
+                let mut all = if on_locks { self.mixed(5) } else { Vec::new() };
+                all.extend(entries);
+                all.sort_by(|left, right| left.key.cmp(&right.key));
+                self.prewrite_batch(start, &all);
             }
-            // Few bytes each, so several of them: one of these finds no place.
-            (10, _) => {
-                for _ in 0..6 {
-                    let (start, key) = (self.tick(), self.key(48));
-                    self.rollback(start, &key);
-                }
+            8 => {
+                let longest = entries.iter().max_by_key(|entry| entry.row.len()).expect("one of eight");
+                self.commit(start, commit, &longest.key);
             }
-            (11, Some((start, keys))) => self.rollback_batch(start, &keys),
-            (11, None) => {
-                let (start, mut keys) = (self.tick(), vec![self.key(48), self.key(40), self.key(6)]);
-                keys.sort();
-                self.rollback_batch(start, &keys);
+            9 => self.commit_batch(start, commit, &keys),
+            10 => {
+                // The first of them fills the area to its last byte.
+                self.rollback_new(LONGEST_ROLLBACK);
+                self.rollback(start, &keys[0]);
             }
-            (_, Some((start, keys))) => {
-                let entries: Vec<Entry> = keys.iter().enumerate().map(|(at, key)| put(key, 70 + at)).collect();
-                self.one_step_at(start, &entries);
+            11 => self.rollback_batch(start, &keys),
+            _ => {
+                let other = |old: &Entry| entry(&old.key, if old.kind == Kind::Put { 70 } else { 0 });
+                self.one_step(start, commit, &entries.iter().map(other).collect::<Vec<Entry>>());
             }
-            (_, None) => {
-                let entries = self.puts(5, |at| KEYS[at], |at| ROWS[at]);
-                self.one_step(&entries);
-            }
+        }
+        self.show_locks();
+        let locked: Vec<Bytes> = self.store.locks.keys().cloned().collect();
+        if !locked.is_empty() {
+            self.commit_batch(start, commit, &locked);
         }
     }
 
-    /// Fills the lines to the last and asks for one more; ends what is still locked; then every row by its own read, all
-    /// of them on one page, the statistics and the marks.
+    fn show_locks(&mut self) {
+        let (lock_limit, bounds) = (u64::MAX, Bounds::default());
+        let needed = self.store.intent_page(lock_limit, &bounds, &mut [0; 65_535]).unwrap_or(0);
+        self.push(Call::IntentPage { lock_limit, bounds, buffer: needed as u16 });
+    }
+
+    /// Fills the lines to the last and asks for one more; then the newest row of each key on one page, one in four of them
+    /// and every older row by its own read; every commit and rollback once more; the statistics and the marks.
     fn look(&mut self) {
         let used = self.store.room_used();
-        let free = (LINES - used.lines).min((LIVE_BYTES - used.live_bytes) / 6);
-        let mut keys: Vec<Bytes> = (0..free).map(|_| self.key(6)).collect();
+        let free = (LINES - used.lines).min((LIVE_BYTES - used.live_bytes) / SHORT);
+        let mut keys: Vec<Bytes> = (0..free).map(|_| self.key(SHORT)).collect();
         keys.sort();
         for keys in keys.chunks(32) {
             let start = self.tick();
             self.rollback_batch(start, keys);
         }
-        let (start, key) = (self.tick(), self.key(6));
-        self.rollback(start, &key);
-        let locks: Vec<(Bytes, u64)> = self.store.locks.iter().map(|(key, lock)| (key.clone(), lock.start)).collect();
-        for (key, start) in locks {
-            let commit = self.tick();
-            self.push(Call::Commit { transaction: TRANSACTION, start, commit, key });
+        self.rollback_new(SHORT_ROLLBACK);
+        let (moment, most, bounds) = (self.time, u64::MAX, Bounds::default());
+        let needed = self.store.page(moment, most, most, &bounds, &mut [0; 65_535]).unwrap_or(0);
+        self.push(Call::Page { moment, row_limit: most, byte_limit: most, bounds, buffer: needed as u16 });
+        let mut reads = Vec::new();
+        for (at, (key, chain)) in self.store.records.iter().enumerate() {
+            let puts = chain.iter().rev().filter(|(_, record)| record.kind == Kind::Put);
+            let puts = puts.skip(usize::from(at % 4 != 0));
+            reads.extend(puts.map(|(stamp, _)| Call::Read { moment: *stamp, key: key.clone() }));
         }
-        let puts = self.store.records.iter().flat_map(|(key, chain)| chain.iter().map(move |line| (key, line)));
-        let puts = puts.filter(|(_, (_, record))| record.kind == Kind::Put);
-        let reads: Vec<Call> = puts.map(|(key, (at, _))| Call::Read { moment: *at, key: key.clone() }).collect();
-        reads.into_iter().for_each(|read| self.push(read));
-        let (moment, most) = (self.time, u64::MAX);
-        let needed = self.store.page(moment, most, most, &Bounds::default(), &mut [0; 65_535]).unwrap_or(0);
-        let (bounds, buffer) = (Bounds::default(), needed as u16);
-        self.push(Call::Page { moment, row_limit: most, byte_limit: most, bounds, buffer });
-        self.push(Call::Statistics);
-        self.push(Call::Marks);
+        let replays: Vec<Call> = self.calls.iter().filter(|call| (8..=11).contains(&call.op())).cloned().collect();
+        reads.into_iter().chain(replays).chain([Call::Statistics, Call::Marks]).for_each(|call| self.push(call));
     }
 }

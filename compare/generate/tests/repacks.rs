@@ -1,60 +1,87 @@
-//! The traces that pack the area anew do so, in each call that brings bytes, and read back every row that stands.
+//! The traces that pack the area anew do so, in each call that brings bytes, and show every row that stands.
 
-use std::collections::BTreeMap;
+use std::collections::{BTreeMap, BTreeSet};
 
 use generate::random::Random;
-use generate::repacks::{self, OPS};
+use generate::repacks::{self, MOST, OPS};
 use paper::area;
 use paper::room::{DEFAULTS, LINES};
 use paper::run::run_call;
-use paper::store::Store;
-use paper::trace::{Call, MOST_BYTES, write_trace};
+use paper::store::{Kind, Store};
+use paper::trace::{Call, MOST_BYTES, read_trace, write_trace};
 
-/// The most lines and defaults that the box held, and the answers by op and number; every row that stands in the end must
-/// have been read, and no call refused but for room.
-fn look(calls: &[Call]) -> (usize, usize, BTreeMap<(u8, u8), usize>) {
+/// What a trace does: the ops of the calls that pack the area anew, the most lines and defaults that the box held, and the
+/// answers by op and number.
+struct Seen {
+    packed: Vec<u8>,
+    lines: usize,
+    defaults: usize,
+    answers: BTreeMap<(u8, u8), usize>,
+}
+
+/// Runs the calls. None may be refused but for room; of every key the newest row must stand on the page, and each older
+/// one must have been read.
+fn look(name: &str, calls: &[Call]) -> Seen {
+    let trace = write_trace(calls);
+    assert!(trace.len() <= MOST_BYTES, "{name}: {} bytes", trace.len());
     let mut store = Store::default();
-    let (mut lines, mut defaults, mut rows_read) = (0, 0, 0);
-    let mut answers = BTreeMap::new();
+    let (mut lines, mut defaults, mut on_page) = (0, 0, 0);
+    let (mut read, mut answers) = (BTreeSet::new(), BTreeMap::new());
     for call in calls {
         let answer = run_call(&mut store, call);
         let used = store.room_used();
         (lines, defaults) = (used.lines.max(lines), used.defaults.max(defaults));
-        rows_read += usize::from(call.op() == 1 && answer.payload.len() > 1);
+        match call {
+            Call::Read { moment, key } if answer.payload.len() > 1 => _ = read.insert((key, *moment)),
+            Call::Page { .. } => on_page = usize::from(answer.payload[0]) << 8 | usize::from(answer.payload[1]),
+            _ => {}
+        }
         *answers.entry((call.op(), answer.number)).or_default() += 1;
-        assert!(matches!(answer.number, 0 | 11), "op {} answers {}", call.op(), answer.number);
+        assert!(matches!(answer.number, 0 | 11), "{name}: op {} answers {}", call.op(), answer.number);
     }
-    assert_eq!(rows_read, store.room_used().defaults, "every row that stands was read");
-    assert!([2, 33, 34].iter().all(|op| answers.contains_key(&(*op, 0))), "{answers:?}");
-    (lines, defaults, answers)
+    assert_eq!(on_page, store.defaults.len(), "{name}: the newest row of each key stands on the page");
+    for (key, chain) in &store.records {
+        let puts = chain.iter().rev().filter(|(_, record)| record.kind == Kind::Put);
+        assert!(puts.skip(1).all(|(stamp, _)| read.contains(&(key, *stamp))), "{name}: an older row of {key:?}");
+    }
+    assert!([33, 34].iter().all(|op| answers.contains_key(&(*op, 0))), "{name}: {answers:?}");
+    Seen { packed: area::repacks(&trace), lines, defaults, answers }
 }
 
 #[test]
 fn each_call_that_brings_bytes_packs_the_area_anew() {
-    for (name, calls) in &repacks::cases()[..2] {
-        let trace = write_trace(calls);
-        assert_eq!(area::repacks(&trace), OPS, "{name}");
-        assert_eq!(look(calls).0, LINES, "{name}");
-        assert!(trace.len() <= MOST_BYTES, "{name}: {} bytes", trace.len());
+    let cases = repacks::cases();
+    for cases in [&cases[..3], &cases[3..10]] {
+        let mut all = Vec::new();
+        for (name, calls) in cases {
+            let seen = look(name, calls);
+            assert_eq!(seen.lines, LINES, "{name}: {:?}", seen.packed);
+            all.extend(seen.packed);
+        }
+        assert_eq!(all, OPS);
     }
 }
 
 #[test]
 fn a_full_box_is_packed_anew() {
-    let (name, calls) = &repacks::cases()[2];
-    let (lines, defaults, answers) = look(calls);
-    assert_eq!((lines, defaults), (LINES, DEFAULTS), "{name}");
-    assert_eq!(area::repacks(&write_trace(calls)), [12], "{name}");
-    assert_eq!(answers.get(&(12, 11)), Some(&2), "one line more is 11, before and after: {answers:?}");
+    for ((name, calls), op) in repacks::cases()[10..].iter().zip([9, 12]) {
+        let seen = look(name, calls);
+        assert_eq!((seen.packed, seen.lines, seen.defaults), (vec![op], LINES, DEFAULTS), "{name}");
+        assert_eq!(seen.answers.get(&(12, 11)), Some(&2), "one line more is 11, before and after");
+    }
 }
 
 #[test]
 fn drawn_traces_pack_the_area_anew() {
-    for seed in 0..8 {
+    let (mut ops, mut most) = (BTreeSet::new(), 0);
+    for seed in 0..24 {
         let trace = repacks::trace(&mut Random::new(seed));
-        let mut packed = area::repacks(&trace);
-        packed.sort_unstable();
-        assert_eq!(packed, OPS, "seed {seed}");
-        assert!(trace.len() <= MOST_BYTES, "seed {seed}: {} bytes", trace.len());
+        let calls = read_trace(&trace).expect("a trace of repacks is in form");
+        let packed = look(&format!("seed {seed}"), &calls).packed;
+        assert!(!packed.is_empty(), "seed {seed}");
+        most = packed.len().max(most);
+        ops.extend(packed);
     }
+    assert_eq!(ops.into_iter().collect::<Vec<u8>>(), OPS);
+    assert_eq!(most, MOST);
 }

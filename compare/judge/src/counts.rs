@@ -1,12 +1,16 @@
-//! What was compared: the calls by op; the single forms by the lengths that a batch's length byte sets apart; the restores
-//! by the order of their entries, by the answer and by what makes the image sick.
+//! What was compared: the calls by op; those on a box that is just full, and those that pack the area anew; the single
+//! forms by the lengths that a batch's length byte sets apart; the restores by the order of their entries, by the answer
+//! and by what makes the image sick.
 
 use std::collections::BTreeMap;
 
 use generate::orders::ascends;
+use generate::repacks;
 use generate::singles::LENGTHS;
+use paper::answer::NO_ROOM;
+use paper::area::Area;
 use paper::restore::Image;
-use paper::run::run_trace;
+use paper::room::{DEFAULTS, LINES, LIVE_BYTES, LOCKS};
 use paper::sick::Sickness;
 use paper::store::Store;
 use paper::trace::{Call, read_trace};
@@ -15,6 +19,9 @@ use paper::trace::{Call, read_trace};
 pub struct Counts {
     pub answers: u64,
     ops: BTreeMap<u8, u64>,
+    full: [u64; 4],
+    no_room: u64,
+    repacks: BTreeMap<u8, u64>,
     lengths: BTreeMap<usize, u64>,
     restores: BTreeMap<&'static str, BTreeMap<u8, u64>>,
     sick: BTreeMap<&'static str, u64>,
@@ -22,10 +29,18 @@ pub struct Counts {
 
 impl Counts {
     pub fn take_all(&mut self, trace: &[u8]) {
-        let answers = run_trace(trace);
-        self.answers += answers.len() as u64;
-        for (call, answer) in read_trace(trace).iter().flatten().zip(&answers) {
+        let Some(calls) = read_trace(trace) else {
+            self.answers += 1;
+            return;
+        };
+        self.answers += calls.len() as u64;
+        let (mut store, mut area) = (Store::default(), Area::default());
+        for call in &calls {
+            self.take_full(&store);
+            let (answer, packed) = area.run(&mut store, call);
             *self.ops.entry(call.op()).or_default() += 1;
+            *self.repacks.entry(call.op()).or_default() += u64::from(packed);
+            self.no_room += u64::from(answer.number == NO_ROOM);
             match call {
                 Call::Prewrite { key, row, .. } => self.take_lengths(&[key.len(), row.len()]),
                 Call::Commit { key, .. } | Call::Rollback { key, .. } => self.take_lengths(&[key.len()]),
@@ -33,6 +48,12 @@ impl Counts {
                 _ => {}
             }
         }
+    }
+
+    fn take_full(&mut self, store: &Store) {
+        let used = store.room_used();
+        let full = [used.lines == LINES, used.locks == LOCKS, used.defaults == DEFAULTS, used.live_bytes == LIVE_BYTES];
+        self.full.iter_mut().zip(full).for_each(|(count, full)| *count += u64::from(full));
     }
 
     fn take_lengths(&mut self, lengths: &[usize]) {
@@ -72,6 +93,15 @@ impl Counts {
     pub fn print(&self) {
         let ops: Vec<String> = self.ops.iter().map(|(op, count)| format!("{op} x{count}")).collect();
         println!("calls by op: {}", ops.join(", "));
+        let [lines, locks, defaults, live_bytes] = self.full;
+        println!(
+            "calls on a box just full: lines x{lines}, locks x{locks}, defaults x{defaults}, live bytes x{live_bytes}; \
+             answered 11: x{}",
+            self.no_room
+        );
+        let packed = |op: &u8| format!("{op} x{}", self.repacks.get(op).unwrap_or(&0));
+        let packed: Vec<String> = repacks::OPS.iter().map(packed).collect();
+        println!("calls that pack the area anew, by op: {}", packed.join(", "));
         let of = |length: &usize| format!("{length} bytes x{}", self.lengths.get(length).unwrap_or(&0));
         let above: u64 = self.lengths.iter().filter(|(length, _)| **length > 255).map(|(_, count)| count).sum();
         let singles: u64 = [6, 8, 10].iter().filter_map(|op| self.ops.get(op)).sum();

@@ -1,6 +1,6 @@
 //! The classes hide nothing else: with a rule of the paper bent, comparison 1 meets a difference that has no name.
 
-use generate::{Kind, Ops, trace, trace_of};
+use generate::{Kind, Ops, kind_of, trace, trace_of};
 use judge::one::differences;
 use paper::bend::{Bend, Reach, with_bend};
 use paper::trace::{Call, read_trace};
@@ -58,6 +58,8 @@ const UNSEEN: &[(&str, &[Bend])] = &[
         &[
             Bend::RepackInPrewriteLosesARow,
             Bend::RepackInPrewriteBatchLosesARow,
+            Bend::RepackInCommitLosesARow,
+            Bend::RepackInCommitBatchLosesARow,
             Bend::RepackInRollbackLosesARow,
             Bend::RepackInRollbackBatchLosesARow,
             Bend::RepackInOneStepLosesARow,
@@ -65,9 +67,10 @@ const UNSEEN: &[(&str, &[Bend])] = &[
     ),
 ];
 
-/// The calls of traces of every kind, and of many that come to a room.
+/// The calls of traces of every kind but those about the area, and of many that come to a room.
 fn traces() -> Vec<Vec<Call>> {
-    let any = (0..1500).map(|seed| trace(seed, Ops::all()));
+    let seeds = (0..1500).filter(|seed| kind_of(*seed) != Kind::Repacks);
+    let any = seeds.map(|seed| trace(seed, Ops::all()));
     let rooms = (0..300).map(|seed| trace_of(Kind::Room, seed, Ops::all()));
     any.chain(rooms).filter_map(|trace| read_trace(&trace)).collect()
 }

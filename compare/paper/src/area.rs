@@ -1,10 +1,14 @@
-//! A model of the byte area in which the box's store keeps its keys, primaries and rows. The paper has no area and no
-//! answer depends on it; the model says when the store packs its area anew, so that the sample can be made to force that
-//! in every call that can, and so that a repack which loses a row can be played.
+//! A model of the byte area in which the box's store keeps its lines. The paper has no area and no answer depends on it;
+//! the model says when the store packs its area anew, so that traces can be made to force that in every call that can,
+//! and so that a repack which loses a row can be played.
 //!
-//! It follows docs/ARCHITECTURE.md, "The store": new bytes go at the top; nothing goes back; where the bytes of a call
-//! would pass the end, the live ones are packed anew first, after which the top is their count.
+//! It follows docs/ARCHITECTURE.md, "The store": a line is one stretch of bytes. New stretches go at the top; nothing
+//! goes back. A call that changes something first asks place for all its entries, each as if it were the longest; where
+//! that would pass the end, the stretches of the standing lines are packed anew, after which the top is their sum.
 
+use std::slice::from_ref;
+
+use crate::answer::Answer;
 use crate::bend::{Bend, bent};
 use crate::form::{Entry, key_batch, mutation_batch};
 use crate::run::run_call;
@@ -12,9 +16,14 @@ use crate::store::{Bytes, Kind, Store};
 use crate::trace::{Call, read_trace};
 
 /// The area's bytes.
-pub const AREA: usize = 65_536;
-/// The place that a rollback asks for each of its keys, whatever their lengths.
-const LONGEST_KEY: usize = 48;
+pub const AREA: usize = 131_072;
+/// Beside its key and a Put's row, a stretch has two numbers; that of a lock has one more, and the primary.
+pub const NUMBERS: usize = 16;
+const LOCK_NUMBER: usize = 8;
+/// The longest stretches: of a Rollback, of any record, and of a lock.
+pub const LONGEST_ROLLBACK: usize = 48 + NUMBERS;
+pub const LONGEST_RECORD: usize = LONGEST_ROLLBACK + 255;
+pub const LONGEST_LOCK: usize = LONGEST_RECORD + LOCK_NUMBER + 48;
 
 /// The area of one store: its first byte past all that came since it was packed.
 #[derive(Clone, Copy, Debug, Default)]
@@ -28,75 +37,106 @@ impl Area {
         AREA - self.top
     }
 
-    /// Takes in what a call did, by the store before and after it: was the area packed anew?
-    pub fn packs(&mut self, before: &Store, call: &Call, after: &Store) -> bool {
-        if before == after {
-            return false;
+    /// Runs a call on the store: its answer, and whether the area was packed anew. A refused call leaves the area.
+    pub fn run(&mut self, store: &mut Store, call: &Call) -> (Answer, bool) {
+        let (asked, brought) = place(store, call);
+        let packed = (asked > self.gap()).then(|| store.stretches());
+        let answer = run_call(store, call);
+        if answer.number != 0 {
+            return (answer, false);
         }
-        if matches!(call, Call::Restore { .. }) {
-            self.top = after.room_used().live_bytes;
-            return false;
-        }
-        let (brought, asked) = bytes_of(before, call);
-        let packs = asked > self.gap();
-        if packs {
-            self.top = before.room_used().live_bytes;
-        }
-        self.top += brought;
-        packs
+        self.top = match call {
+            Call::Restore { .. } => store.stretches(),
+            _ => packed.unwrap_or(self.top) + brought,
+        };
+        (answer, packed.is_some())
     }
 }
 
-/// The bytes that an accepted call brings, and those for which it asks place.
-fn bytes_of(before: &Store, call: &Call) -> (usize, usize) {
-    let same = |bytes: usize| (bytes, bytes);
-    let row = |key: &[u8], kind: Kind, row: &[u8]| if kind == Kind::Put { key.len() + row.len() } else { 0 };
-    let lock = |key: &[u8], primary: &[u8], kind, bytes: &[u8]| match before.lock_of(key) {
-        Some(_) => 0,
-        None => key.len() + primary.len() + row(key, kind, bytes),
-    };
-    match call {
-        Call::Prewrite { primary, key, kind, row, .. } => same(lock(key, primary, *kind, row)),
+/// The place for which a call asks if it is accepted, and the bytes that it brings; none of both if it changes nothing.
+fn place(store: &Store, call: &Call) -> (usize, usize) {
+    let (longest, brought) = match call {
+        Call::Prewrite { primary, key, kind, row, .. } => {
+            let entry = Entry { key: key.clone(), kind: *kind, row: row.clone() };
+            (LONGEST_LOCK, new_locks(store, primary, &[entry]))
+        }
         Call::PrewriteBatch { primary, batch, .. } => {
-            let entries = mutation_batch(batch).unwrap_or_default();
-            same(entries.iter().map(|entry| lock(&entry.key, primary, entry.kind, &entry.row)).sum())
+            (LONGEST_LOCK, new_locks(store, primary, &mutation_batch(batch).unwrap_or_default()))
         }
-        Call::Rollback { start, key, .. } => rolled(before, *start, &[key.clone()]),
-        Call::RollbackBatch { start, batch, .. } => rolled(before, *start, &key_batch(batch).unwrap_or_default()),
-        Call::OneStep { batch, .. } => {
-            let bytes = |entry: &Entry| entry.key.len() + row(&entry.key, entry.kind, &entry.row);
-            same(mutation_batch(batch).unwrap_or_default().iter().map(bytes).sum())
+        Call::Commit { start, key, .. } => (LONGEST_RECORD, committed(store, *start, from_ref(key))),
+        Call::CommitBatch { start, batch, .. } => {
+            (LONGEST_RECORD, committed(store, *start, &key_batch(batch).unwrap_or_default()))
         }
-        // A commit's record takes the bytes of the lock's key.
-        _ => (0, 0),
+        Call::Rollback { start, key, .. } => (LONGEST_ROLLBACK, rolled_back(store, *start, from_ref(key))),
+        Call::RollbackBatch { start, batch, .. } => {
+            (LONGEST_ROLLBACK, rolled_back(store, *start, &key_batch(batch).unwrap_or_default()))
+        }
+        Call::OneStep { start, commit, batch, .. } => {
+            (LONGEST_RECORD, stepped(store, *start, *commit, &mutation_batch(batch).unwrap_or_default()))
+        }
+        _ => return (0, 0),
+    };
+    match brought.iter().sum() {
+        0 => (0, 0),
+        sum => (longest * brought.len(), sum),
     }
 }
 
-/// The bytes of the keys that have no Rollback yet, and the place asked for: a rollback's record brings its key anew.
-fn rolled(before: &Store, start: u64, keys: &[Bytes]) -> (usize, usize) {
-    let new = keys.iter().filter(|key| before.record_at(key, start).is_none());
-    (new.map(|key| key.len()).sum(), keys.len() * LONGEST_KEY)
+/// The bytes of an entry's record.
+fn record(entry: &Entry) -> usize {
+    entry.key.len() + NUMBERS + if entry.kind == Kind::Put { entry.row.len() } else { 0 }
+}
+
+/// What each entry of a prewrite brings: a lock, unless it stands already.
+fn new_locks(store: &Store, primary: &[u8], entries: &[Entry]) -> Vec<usize> {
+    let lock = |entry: &Entry| match store.lock_of(&entry.key) {
+        Some(_) => 0,
+        None => record(entry) + LOCK_NUMBER + primary.len(),
+    };
+    entries.iter().map(lock).collect()
+}
+
+/// What each key of a commit brings: a record with the lock's row, unless it was committed before.
+fn committed(store: &Store, start: u64, keys: &[Bytes]) -> Vec<usize> {
+    let record = |key: &Bytes| match store.lock_of(key) {
+        Some(lock) if lock.start == start => key.len() + NUMBERS + store.default_at(key, start).map_or(0, Vec::len),
+        _ => 0,
+    };
+    keys.iter().map(record).collect()
+}
+
+/// What each key of a rollback brings: a Rollback, unless it stands already.
+fn rolled_back(store: &Store, start: u64, keys: &[Bytes]) -> Vec<usize> {
+    let rollback = |key: &Bytes| match store.record_at(key, start) {
+        Some(_) => 0,
+        None => key.len() + NUMBERS,
+    };
+    keys.iter().map(rollback).collect()
+}
+
+/// What each entry of a one-step batch brings: a record, unless the batch is a replay.
+fn stepped(store: &Store, start: u64, commit: u64, entries: &[Entry]) -> Vec<usize> {
+    let step = |entry: &Entry| match store.record_at(&entry.key, commit) {
+        Some(applied) if applied.start == start => 0,
+        _ => record(entry),
+    };
+    entries.iter().map(step).collect()
 }
 
 /// The ops of the trace's calls that pack the area anew, in turn.
 pub fn repacks(trace: &[u8]) -> Vec<u8> {
     let mut store = Store::default();
     let mut area = Area::default();
-    let mut ops = Vec::new();
-    for call in read_trace(trace).unwrap_or_default() {
-        let before = store.clone();
-        run_call(&mut store, &call);
-        if area.packs(&before, &call, &store) {
-            ops.push(call.op());
-        }
-    }
-    ops
+    let calls = read_trace(trace).unwrap_or_default();
+    calls.iter().filter(|call| area.run(&mut store, call).1).map(|call| call.op()).collect()
 }
 
 /// The calls that bring bytes, by their ops, and the bend in which a repack by one of them loses a row.
-const LOSING: [(u8, Bend); 5] = [
+const LOSING: [(u8, Bend); 7] = [
     (6, Bend::RepackInPrewriteLosesARow),
     (7, Bend::RepackInPrewriteBatchLosesARow),
+    (8, Bend::RepackInCommitLosesARow),
+    (9, Bend::RepackInCommitBatchLosesARow),
     (10, Bend::RepackInRollbackLosesARow),
     (11, Bend::RepackInRollbackBatchLosesARow),
     (12, Bend::RepackInOneStepLosesARow),
@@ -108,6 +148,14 @@ pub fn losing() -> Option<u8> {
 }
 
 impl Store {
+    /// The bytes of the stretches of all lines. A row stands for exactly the Put lines, so each is one line's.
+    fn stretches(&self) -> usize {
+        let locks = self.locks.iter().map(|(key, lock)| key.len() + NUMBERS + LOCK_NUMBER + lock.primary.len());
+        let records = self.records.iter().map(|(key, chain)| (key.len() + NUMBERS) * chain.len());
+        let rows = self.defaults.values().flat_map(|chain| chain.values()).map(Vec::len);
+        locks.chain(records).chain(rows).sum()
+    }
+
     /// The last row goes, and nothing says so.
     pub fn lose_a_row(&mut self) {
         let last = self.defaults.iter().next_back().and_then(|(key, chain)| Some((key.clone(), *chain.keys().last()?)));

@@ -337,6 +337,8 @@ bends! {
     // The area, which the paper does not have (area.rs)
     RepackInPrewriteLosesARow "an area packed anew in a prewrite loses a row";
     RepackInPrewriteBatchLosesARow "an area packed anew in a prewrite of a batch loses a row";
+    RepackInCommitLosesARow "an area packed anew in a commit loses a row";
+    RepackInCommitBatchLosesARow "an area packed anew in a commit of a batch loses a row";
     RepackInRollbackLosesARow "an area packed anew in a rollback loses a row";
     RepackInRollbackBatchLosesARow "an area packed anew in a rollback of a batch loses a row";
     RepackInOneStepLosesARow "an area packed anew in a one-step batch loses a row";

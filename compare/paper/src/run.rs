@@ -81,15 +81,14 @@ pub fn run_trace(trace: &[u8]) -> Vec<Answer> {
 fn run_losing(op: u8, calls: &[Call]) -> Vec<Answer> {
     let mut store = Store::default();
     let mut area = Area::default();
-    let mut answers = Vec::new();
-    for call in calls {
-        let before = store.clone();
-        answers.push(run_call(&mut store, call));
-        if area.packs(&before, call, &store) && call.op() == op {
+    let run = |call: &Call| {
+        let (answer, packed) = area.run(&mut store, call);
+        if packed && call.op() == op {
             store.lose_a_row();
         }
-    }
-    answers
+        answer
+    };
+    calls.iter().map(run).collect()
 }
 
 /// The answers of one trace, in bytes.

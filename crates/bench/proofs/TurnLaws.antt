@@ -1,31 +1,50 @@
--- The copy of an area, and what holds before each call of a turn.
+-- The copy of an area below its top, and what holds before each call of a turn.
 -- Assumes nothing.
-use Prim.Native.Nat.{ℕ, _≤_, _<_}
-use mathlib.Core.Path.{_≡_, refl, sym, ap, subst, _∙_}
+use Prim.Native.Nat.{ℕ}
+use mathlib.Core.Path.{_≡_, refl, sym, ap, ap₂, subst, _∙_}
+use mathlib.Core.List.{List}
 use native.Mathlib.Omega.{arith}
-use lib.ListN.{length, take, drop}
-use lib.Seq.{take-all}
+use lib.ListN.{length, take}
+use lib.Seq.{length-take-le}
+use Rattle.seqs.proofs.Tables.{shown-same}
 use Rattle.forms.specs.Bytes.{Bytes}
 use Rattle.forms.specs.Appends.{Appended}
+use Rattle.rules.specs.Box as box
 use Rattle.lines.specs.declared.store.Store.{Store}
-use Rattle.lines.specs.Made.{Made}
+use Rattle.lines.specs.View.{lineOf, defaultIn, stored, boxOf}
+use Rattle.lines.specs.Made.{SlotBelow, Kept, Made}
+use Rattle.stretches.proofs.StretchLaws.{slot-kept, default-kept}
 use Rattle.bench.specs.Asks.{TurnAsks}
 
--- bytes that come from the front on and are as many as the area's are all of it
-pub copied : {area src area′ : Bytes} → Appended area 0 src area′ → length src ≡ length area → area′ ≡ src
-copied {area} {src} {area′} a h = sym (take-all (length src) area′ (omega (arith, a .long, h))) ∙ a .stands
+module _ {st : Store} {area copy : Bytes} (t : TurnAsks st area copy) where
+  below-long : length (take (st .top) area) ≡ st .top
+  below-long = length-take-le (st .top) area (omega (arith, t .made .built .top-in, t .made .built .area-long))
 
--- an area with the same bytes is made with the same store
-pub made-copy : {st : Store} {area copy : Bytes} → Made st area → copy ≡ area → Made st copy
-made-copy {st} m h = subst (λ (a : Bytes). Made st a) (sym h) m
+  -- an area with the same bytes below the top is made with the same store
+  module _ {copy′ : Bytes} (a : Appended copy 0 (take (st .top) area) copy′) where
+    same-below : take (st .top) copy′ ≡ take (st .top) area
+    same-below = ap (λ (n : ℕ). take n copy′) (sym below-long) ∙ a .stands
 
--- what the loops keep: the store, its area, and an area for copies that is as long as it was
-pub record Turning (st : Store) (area copy₀ copy : Bytes) : Type 0 where
+    same-box : boxOf st copy′ ≡ boxOf st area
+    same-box =
+        ap₂ (λ (x : List box.KeyLine) (y : List box.Default). record { lines = x; defaults = y })
+        (shown-same (lineOf copy′) (lineOf area) (SlotBelow (st .top)) (slot-kept area copy′ (st .top) same-below) (st .load .lines) (st .lines) (t .made .built .lines .holds))
+        (ap stored (shown-same (defaultIn copy′) (defaultIn area) (SlotBelow (st .top)) (default-kept area copy′ (st .top) same-below) (st .load .lines) (st .lines) (t .made .built .lines .holds)))
+
+    pub made-copy : Made st copy′
+    made-copy =
+        record {
+          built = record { area-long = a .long ∙ t .long; top-in = t .made .built .top-in; lines = t .made .built .lines; kept = subst (λ (x : box.Box). Kept x (st .load)) (sym same-box) (t .made .built .kept) };
+          fit = t .made .fit;
+        }
+
+-- what the loops keep: the store, its area, the area for copies, and a buffer that is as long as it was
+pub record Turning (st : Store) (area copy out₀ out : Bytes) : Type 0 where
   pub asks : TurnAsks st area copy
-  pub as-long : length copy ≡ length copy₀
+  pub as-long : length out ≡ length out₀
 
-pub turning-start : {st : Store} {area copy : Bytes} → TurnAsks st area copy → Turning st area copy copy
+pub turning-start : {st : Store} {area copy out : Bytes} → TurnAsks st area copy → Turning st area copy out out
 turning-start a = record { asks = a; as-long = refl }
 
-pub turning-more : {st : Store} {area copy₀ copy copy′ : Bytes} → Turning st area copy₀ copy → length copy′ ≡ length copy → Turning st area copy₀ copy′
-turning-more t h = record { asks = record { made = t .asks .made; long = h ∙ t .asks .long }; as-long = h ∙ t .as-long }
+pub turning-more : {st : Store} {area copy copy′ out₀ out out′ : Bytes} → Turning st area copy out₀ out → length copy′ ≡ 131072 → length out′ ≡ length out → Turning st area copy′ out₀ out′
+turning-more t h g = record { asks = record { made = t .asks .made; long = h }; as-long = g ∙ t .as-long }

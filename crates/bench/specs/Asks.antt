@@ -28,4 +28,4 @@ pub record CallAsks (st : Store) (area s : Bytes) (a : Asked) : Type 0 where
 -- a turn: the store stands on its area, and the calls that change it are made on a copy
 pub record TurnAsks (st : Store) (area copy : Bytes) : Type 0 where
   pub made : Made st area
-  pub long : length copy ≡ 65536
+  pub long : length copy ≡ 131072

@@ -1,25 +1,28 @@
-// The calls that change the store, each made on a copy of the area, so that all start from the same box.
+// The calls that change the store. Each leaves an area that is as long, so that the next can be made on it.
 ghost use mathlib.Core.Path.{_≡_};
-ghost use lib.ListN.{length};
+ghost use Prim.Native.Nat.{_≤_};
+ghost use lib.ListN.{length, take};
+ghost use Rattle.forms.specs.Appends.{Appended};
 ghost use Rattle.lines.specs.Made.{Made};
 ghost use Rattle.bench.specs.Asks.{CallAsks};
 use crate::asked::Asked;
 use crate::worths::of_changed;
 use crate::worths::of_load;
+use mvcc::AREA;
 use mvcc::Changed;
 use mvcc::Store;
 use std::num::wrapping_add_u64;
 
-// The bytes of one area over those of another that is as long.
-pub fn copy_area(from: &[u8], to: &mut [u8])
-    requires { ⌜ length (now from) ≡ length (now to) ⌝ }
-    ensures { λ _. ⌜ now (to .exit) ≡ now (from .entry) ⌝ }
+// The first `top` bytes of one area over those of another.
+pub fn copy_below(from: &[u8], to: &mut [u8], top: usize)
+    requires { ⌜ (top ≤ length (now from)) × (top ≤ length (now to)) ⌝ }
+    ensures { λ _. ⌜ Appended (now (to .entry)) 0 (take top (now (from .entry))) (now (to .exit)) ⌝ }
 {
-    forms::append(to, 0, from);
+    forms::append(to, 0, &from[..top]);
 }
 
 // A Put's prewrite.
-fn locked(store: Store, area: &mut [u8], s: &[u8], a: Asked) -> Changed
+fn locked(store: Store, area: &mut [u8; AREA], s: &[u8], a: Asked) -> Changed
     requires { ⌜ CallAsks store (now area) (now s) a ⌝ }
     ensures { λ r. ⌜ Made (r .store) (now (area .exit)) ⌝ }
 {
@@ -40,22 +43,25 @@ fn locked(store: Store, area: &mut [u8], s: &[u8], a: Asked) -> Changed
     )
 }
 
-pub fn prewrite_once(store: Store, area: &mut [u8], s: &[u8], a: Asked) -> u64
+pub fn prewrite_once(store: Store, area: &mut [u8; AREA], s: &[u8], a: Asked) -> u64
     requires { ⌜ CallAsks store (now area) (now s) a ⌝ }
+    ensures { λ _. ⌜ length (now (area .exit)) ≡ 131072 ⌝ }
 {
     of_changed(locked(store, area, s, a))
 }
 
-pub fn commit_once(store: Store, area: &[u8], key: &[u8], txn: u64, start: u64) -> u64
+pub fn commit_once(store: Store, area: &mut [u8; AREA], key: &[u8], txn: u64, start: u64) -> u64
     requires { ⌜ Made store (now area) ⌝ }
+    ensures { λ _. ⌜ length (now (area .exit)) ≡ 131072 ⌝ }
 {
     let commit = wrapping_add_u64(start, 1);
     of_changed(mvcc::commit_intent(store, area, txn, start, commit, key))
 }
 
 // A prewrite, and its commit at one above its start.
-pub fn pair_once(store: Store, area: &mut [u8], s: &[u8], a: Asked) -> u64
+pub fn pair_once(store: Store, area: &mut [u8; AREA], s: &[u8], a: Asked) -> u64
     requires { ⌜ CallAsks store (now area) (now s) a ⌝ }
+    ensures { λ _. ⌜ length (now (area .exit)) ≡ 131072 ⌝ }
 {
     let done = locked(store, area, s, a);
     let held = done.store;
@@ -64,14 +70,16 @@ pub fn pair_once(store: Store, area: &mut [u8], s: &[u8], a: Asked) -> u64
     commit_once(held, area, &s[k..r], a.one, a.two)
 }
 
-pub fn rollback_once(store: Store, area: &mut [u8], key: &[u8], txn: u64, start: u64) -> u64
+pub fn rollback_once(store: Store, area: &mut [u8; AREA], key: &[u8], txn: u64, start: u64) -> u64
     requires { ⌜ Made store (now area) ⌝ }
+    ensures { λ _. ⌜ length (now (area .exit)) ≡ 131072 ⌝ }
 {
     of_changed(mvcc::rollback_intent(store, area, txn, start, key))
 }
 
-pub fn step_once(store: Store, area: &mut [u8], batch: &[u8], txn: u64, start: u64) -> u64
+pub fn step_once(store: Store, area: &mut [u8; AREA], batch: &[u8], txn: u64, start: u64) -> u64
     requires { ⌜ Made store (now area) ⌝ }
+    ensures { λ _. ⌜ length (now (area .exit)) ≡ 131072 ⌝ }
 {
     let commit = wrapping_add_u64(start, 1);
     let done = mvcc::commit_batch(store, area, txn, start, commit, batch);
@@ -81,8 +89,9 @@ pub fn step_once(store: Store, area: &mut [u8], batch: &[u8], txn: u64, start: u
     wrapping_add_u64(of_load(answer, load), done.count as u64)
 }
 
-pub fn restore_once(store: Store, area: &mut [u8], image: &[u8]) -> u64
+pub fn restore_once(store: Store, area: &mut [u8; AREA], image: &[u8]) -> u64
     requires { ⌜ Made store (now area) ⌝ }
+    ensures { λ _. ⌜ length (now (area .exit)) ≡ 131072 ⌝ }
 {
     of_changed(mvcc::restore(store, area, image))
 }

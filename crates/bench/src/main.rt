@@ -14,6 +14,7 @@ ghost use Prim.Native.Nat.{_+_, _≤_};
 use forms::Width;
 use libc::STDIN_FILENO;
 use libc::STDOUT_FILENO;
+use mvcc::AREA;
 use turns::many_turns;
 
 // What stands before the calls: where the image lies.
@@ -51,19 +52,21 @@ fn head_of(input: &[u8]) -> Head
 }
 
 // The image restored, and its turns.
-fn measure(input: &[u8], area: &mut [u8], copy: &mut [u8])
-    requires { ⌜ (length (now area) ≡ 65536) × (length (now copy) ≡ 65536) ⌝ }
-{
+fn measure(input: &[u8]) {
+    let mut area = [0u8; AREA];
+    let mut copy = [0u8; AREA];
+    let mut out = [0u8; 65535];
     let head = head_of(input);
     let b = head.at;
     let e = b + head.len;
     let store = mvcc::fresh();
-    let done = mvcc::restore(store, area, &input[b..e]);
+    let done = mvcc::restore(store, &mut area, &input[b..e]);
     let kept = done.store;
     let sum = many_turns(
         kept,
-        area,
-        copy,
+        &area,
+        &mut copy,
+        &mut out,
         &input[b..e],
         &input[e..],
         head.way,
@@ -75,9 +78,7 @@ fn measure(input: &[u8], area: &mut [u8], copy: &mut [u8])
 }
 
 fn main() {
-    let mut area = [0u8; 65536];
-    let mut copy = [0u8; 65536];
     let mut input = [0u8; 262144];
     let n = io::read_full(STDIN_FILENO, &mut input);
-    measure(&input[..n], &mut area, &mut copy);
+    measure(&input[..n]);
 }

@@ -2,10 +2,11 @@
 ghost use Rattle.lines.specs.Made.{Made};
 use crate::worths::of_answer;
 use crate::worths::of_seen;
+use mvcc::AREA;
 use mvcc::Store;
 use std::num::wrapping_add_u64;
 
-pub fn read_once(store: Store, area: &[u8], key: &[u8], moment: u64) -> u64
+pub fn read_once(store: Store, area: &[u8; AREA], key: &[u8], moment: u64) -> u64
     requires { ⌜ Made store (now area) ⌝ }
 {
     let seen = mvcc::read(store, area, key, moment);
@@ -15,7 +16,7 @@ pub fn read_once(store: Store, area: &[u8], key: &[u8], moment: u64) -> u64
 // A page of so many rows from the key on, or from the first where it has no bytes, written over the front of `out`.
 pub fn page_once(
     store: Store,
-    area: &[u8],
+    area: &[u8; AREA],
     out: &mut [u8],
     key: &[u8],
     moment: u64,
@@ -44,7 +45,7 @@ pub fn page_once(
     wrapping_add_u64(of_answer(answer), paged.count as u64)
 }
 
-pub fn stats_once(store: Store, area: &[u8]) -> u64
+pub fn stats_once(store: Store, area: &[u8; AREA]) -> u64
     requires { ⌜ Made store (now area) ⌝ }
 {
     let s = mvcc::stats(store, area);

@@ -1,13 +1,13 @@
 // The turns: each makes every call of the input once, each call on the same box. All calls of an input are of one kind, a number: 1 read,
 // 2 page, 3 statistics; and, each on a copy of the area, 5 prewrite, 6 commit, 7 prewrite and commit, 8 rollback, 9 one-step batch, 10 restore.
 // 0 makes no call, and 4 only the copy: what such a turn takes is to be subtracted.
-ghost use Prim.Native.Nat.{_≤_};
+ghost use mathlib.Core.Path.{_≡_};
 ghost use lib.ListN.{length};
 ghost use Rattle.bench.specs.Asks.{AskedIn, CallAsks, TurnAsks};
 use crate::asked::Asked;
 use crate::asked::asked_at;
 use crate::changes::commit_once;
-use crate::changes::copy_area;
+use crate::changes::copy_below;
 use crate::changes::pair_once;
 use crate::changes::prewrite_once;
 use crate::changes::restore_once;
@@ -16,6 +16,7 @@ use crate::changes::step_once;
 use crate::shows::page_once;
 use crate::shows::read_once;
 use crate::shows::stats_once;
+use mvcc::AREA;
 use mvcc::Store;
 use std::num::wrapping_add_u64;
 
@@ -23,7 +24,7 @@ use std::num::wrapping_add_u64;
 // the boxes stands between the two.
 fn show_call(
     store: Store,
-    area: &[u8],
+    area: &[u8; AREA],
     out: &mut [u8],
     s: &[u8],
     a: Asked,
@@ -44,8 +45,16 @@ fn show_call(
 }
 
 // A call that changes the store.
-fn change_call(store: Store, area: &mut [u8], image: &[u8], s: &[u8], a: Asked, way: u8) -> u64
+fn change_call(
+    store: Store,
+    area: &mut [u8; AREA],
+    image: &[u8],
+    s: &[u8],
+    a: Asked,
+    way: u8,
+) -> u64
     requires { ⌜ CallAsks store (now area) (now s) a ⌝ }
+    ensures { λ _. ⌜ length (now (area .exit)) ≡ 131072 ⌝ }
 {
     let k = a.key;
     let r = a.row;
@@ -61,10 +70,13 @@ fn change_call(store: Store, area: &mut [u8], image: &[u8], s: &[u8], a: Asked, 
     }
 }
 
+// A call that changes the store is made on a copy of the area, so that all start from the same box. Only the bytes below the store's top are
+// copied: a store depends on none above it.
 fn one_call(
     store: Store,
-    area: &[u8],
-    copy: &mut [u8],
+    area: &[u8; AREA],
+    copy: &mut [u8; AREA],
+    out: &mut [u8],
     image: &[u8],
     s: &[u8],
     a: Asked,
@@ -72,30 +84,34 @@ fn one_call(
     turn: u64,
 ) -> u64
     requires { ⌜ (TurnAsks store (now area) (now copy)) × (AskedIn (length (now s)) a) ⌝ }
+    ensures { λ _. ⌜ length (now (copy .exit)) ≡ 131072 ⌝ }
 {
     if way < 4 {
-        return show_call(store, area, copy, s, a, way, turn);
+        return show_call(store, area, out, s, a, way, turn);
     }
-    copy_area(area, copy);
+    let top = store.top;
+    copy_below(area, copy, top);
     change_call(store, copy, image, s, a, way)
 }
 
 fn one_turn(
     store: Store,
-    area: &[u8],
-    copy: &mut [u8],
+    area: &[u8; AREA],
+    copy: &mut [u8; AREA],
+    out: &mut [u8],
     image: &[u8],
     s: &[u8],
     way: u8,
     turn: u64,
 ) -> u64
     requires { ⌜ TurnAsks store (now area) (now copy) ⌝ }
+    ensures { λ _. ⌜ length (now (copy .exit)) ≡ 131072 ⌝ }
 {
     let mut at: usize = 0;
     let mut sum: u64 = 0;
     while at < s.len() {
         let a = asked_at(s, at);
-        let worth = one_call(store, area, copy, image, s, a, way, turn);
+        let worth = one_call(store, area, copy, out, image, s, a, way, turn);
         sum = wrapping_add_u64(sum, worth);
         at = a.next;
     }
@@ -105,19 +121,21 @@ fn one_turn(
 // So many turns: the sum of what their calls are worth.
 pub fn many_turns(
     store: Store,
-    area: &[u8],
-    copy: &mut [u8],
+    area: &[u8; AREA],
+    copy: &mut [u8; AREA],
+    out: &mut [u8],
     image: &[u8],
     s: &[u8],
     way: u8,
     turns: u64,
 ) -> u64
     requires { ⌜ TurnAsks store (now area) (now copy) ⌝ }
+    ensures { λ _. ⌜ length (now (copy .exit)) ≡ 131072 ⌝ }
 {
     let mut left = turns;
     let mut sum: u64 = 0;
     while 0 < left {
-        let worth = one_turn(store, area, copy, image, s, way, left);
+        let worth = one_turn(store, area, copy, out, image, s, way, left);
         sum = wrapping_add_u64(sum, worth);
         left -= 1;
     }

@@ -1,7 +1,7 @@
 // "3; start 1; end 1; 4; resume 1; resume at or past end": the checks of a page's arguments.
 ghost use mathlib.Core.Path.{_≡_};
 ghost use Rattle.forms.specs.Readers.{when};
-ghost use Rattle.rules.specs.Page.{absentOr, bothBelow, boundsStep, pageArguments, intentArguments, pastEnd};
+ghost use Rattle.rules.specs.Page.{absentOr, bothBelow, boundsStep, pageArguments, pastEnd};
 ghost use Rattle.bounds.specs.Bounds.{boundsOf};
 use rules::Answer;
 
@@ -53,7 +53,7 @@ fn bounds_step(
     Answer::Accepted
 }
 
-// "3; start 1; end 1; 4; resume 1"
+// "3; start 1; end 1; 4; resume 1". "Page's argument checks without byte limit" are those with a byte limit that is not 0.
 pub fn page_arguments(
     rows: u64,
     bytes: u64,
@@ -70,24 +70,6 @@ pub fn page_arguments(
         return Answer::No(3);
     }
     if bytes == 0 {
-        return Answer::No(3);
-    }
-    bounds_step(starts, start, ends, end, resumes, resume)
-}
-
-// "Page's argument checks without byte limit"
-pub fn intent_arguments(
-    limit: u64,
-    starts: bool,
-    start: &[u8],
-    ends: bool,
-    end: &[u8],
-    resumes: bool,
-    resume: &[u8],
-) -> Answer
-    ensures { λ r. ⌜ r ≡ intentArguments limit (boundsOf starts (now (start .entry)) ends (now (end .entry)) resumes (now (resume .entry))) ⌝ }
-{
-    if limit == 0 {
         return Answer::No(3);
     }
     bounds_step(starts, start, ends, end, resumes, resume)

@@ -2,7 +2,6 @@
 pub mod arguments;
 pub mod within;
 
-pub use arguments::intent_arguments;
 pub use arguments::page_arguments;
 pub use arguments::past_end;
 pub use within::slot_inside;

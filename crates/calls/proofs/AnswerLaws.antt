@@ -30,6 +30,13 @@ then-end Accepted = refl
 then-end (No n) = refl
 then-end (Held o) = refl
 
+-- what follows a step matters only where it passes
+pub then-same : (a v w : Answer) → (a ≡ Accepted → v ≡ w) → a ▸ v ≡ a ▸ w
+unfolding _▸_
+then-same Accepted v w f = f refl
+then-same (No n) v w f = refl
+then-same (Held o) v w f = refl
+
 module _ (a v : Answer) (new old : Box) where
   pub head-out : (a ≡ Accepted → ⊥) → settle (a ▸ v) new old ≡ record { answer = a; box = old }
   head-out n = ap (λ (x : Answer). settle x new old) (sym (then-refused a v n)) ∙ settle-old a new old n

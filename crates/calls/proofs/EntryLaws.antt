@@ -1,32 +1,28 @@
 -- An entry by its parts: a Put carries its row, a Delete none. What each way out of the tests on entries says.
 -- Assumes nothing.
-use Prim.Native.Nat.{ℕ}
-use mathlib.Core.Path.{_≡_, sym, ap, ap₂, _∙_}
+use Prim.Native.Nat.{ℕ, _+_, _-_, _≤_}
+use native.Mathlib.Omega.{arith}
+use native.Mathlib.Nat.{add-sub-cancel-left}
+use mathlib.Core.Path.{_≡_, refl, sym, ap, _∙_}
 use mathlib.Core.Bool.{Bool, true, false, not, _&&_}
-use mathlib.Core.Option.{Option}
+use mathlib.Core.Option.{Option, some}
 use lib.Dec.{eqb}
+use lib.ListN.{length}
 use borrow.Author.Tests.{eq-eqb, ne-eqb, not-true, not-false}
-use Rattle.forms.specs.Bytes.{Bytes, eqBytes}
-use Rattle.forms.specs.Key.{Key}
+use Rattle.forms.specs.Bytes.{Bytes, bytesAt, eqBytes}
 use Rattle.forms.specs.Row.{Row, rowForm}
-use Rattle.forms.specs.Readers.{when, isSome}
-use Rattle.rules.specs.declared.records.Kind.the-variants.{Put, Delete}
-use Rattle.rules.specs.declared.room.Load.{Load}
+use Rattle.forms.specs.Readers.{when}
+use Rattle.forms.specs.Batch.{Mutation}
+use Rattle.forms.specs.Places.{keyAt, mutationOf, EntryIn}
+use Rattle.forms.specs.declared.batch.Entry.{Entry}
 use Rattle.rules.specs.Calls.{kindOf, owns, rowArgument, rowStands}
-use Rattle.laws.specs.Adds.{noLoad, rowLoad, ofRow}
-use Rattle.lines.specs.View.{lockIn}
-use Rattle.lines.specs.Looks.{lockedBy}
-use Rattle.lines.specs.declared.keys.Locked.{Locked}
-use Rattle.lines.specs.declared.keys.Locked.the-variants.{Nobody, By}
-use Rattle.lines.specs.declared.store.Intent.{Intent}
+use Rattle.lines.specs.declared.views.Intent.{Intent}
+use Rattle.lines.specs.Looks.{lockIn}
+use Rattle.lines.proofs.ViewLaws.{bytes-long}
+use Rattle.stretches.specs.Changes.{RowFits}
+use Rattle.calls.specs.Walks.{sizeIf, rowAt}
 
 module _ (put : Bool) (row : Row) where
-  pub kind-put : put ≡ true → Put ≡ kindOf (when put row)
-  kind-put h = sym (ap (λ (b : Bool). kindOf (when b row)) h)
-
-  pub kind-delete : put ≡ false → Delete ≡ kindOf (when put row)
-  kind-delete h = sym (ap (λ (b : Bool). kindOf (when b row)) h)
-
   pub argument-delete : not put ≡ true → true ≡ rowArgument (when put row)
   argument-delete h = sym (ap (λ (b : Bool). rowArgument (when b row)) (not-true put h))
 
@@ -36,20 +32,8 @@ module _ (put : Bool) (row : Row) where
   pub stands-delete : (o : Option Row) → not put ≡ true → true ≡ rowStands (when put row) o
   stands-delete o h = sym (ap (λ (b : Bool). rowStands (when b row) o) (not-true put h))
 
-  module _ (q : Row) (ok : Bool) (p : not put ≡ false) where
-    pub stands-missing : not ok ≡ true → false ≡ rowStands (when put row) (when ok q)
-    stands-missing e = sym (ap₂ (λ (b c : Bool). rowStands (when b row) (when c q)) (not-false put p) (not-true ok e))
-
-    pub stands-put : {r : Bool} → not ok ≡ false → r ≡ eqBytes row q → r ≡ rowStands (when put row) (when ok q)
-    stands-put e s = s ∙ sym (ap₂ (λ (b c : Bool). rowStands (when b row) (when c q)) (not-false put p) (not-false ok e))
-
-  pub load-delete : (k : Key) {l : Load} → l ≡ noLoad → not put ≡ true → l ≡ ofRow k (when put row)
-  unfolding ofRow
-  load-delete k e h = e ∙ sym (ap (λ (b : Bool). ofRow k (when b row)) (not-true put h))
-
-  pub load-put : (k : Key) → not put ≡ false → rowLoad k row ≡ ofRow k (when put row)
-  unfolding ofRow
-  load-put k h = sym (ap (λ (b : Bool). ofRow k (when b row)) (not-false put h))
+  pub stands-put : (q : Row) {r : Bool} → not put ≡ false → r ≡ eqBytes row q → r ≡ rowStands (when put row) (some q)
+  stands-put q e s = s ∙ sym (ap (λ (b : Bool). rowStands (when b row) (some q)) (not-false put e))
 
 -- ---- own locks
 
@@ -60,11 +44,30 @@ module _ (area : Bytes) (l : Intent) (txn start : ℕ) where
   pub owns-txn : l .txn ≡ txn → eqb (l .start) start ≡ owns txn start (lockIn area l)
   owns-txn e = sym (ap (λ (b : Bool). b && eqb (l .start) start) (eq-eqb _ _ e))
 
--- ---- no lock
+-- ---- an entry's key and row, as the code cuts them
 
-module _ (area : Bytes) (lock : Locked) where
-  pub free-nobody : lock ≡ Nobody → true ≡ not (isSome (lockedBy area lock))
-  free-nobody e = sym (ap (λ (x : Locked). not (isSome (lockedBy area x))) e)
+pub key-short : {s : Bytes} (e : Entry) → EntryIn s e → length (keyAt s e) ≤ 255
+key-short {s} e i = omega (arith, bytes-long s (e .at) (e .len) (i .key-in), i .key-small)
 
-  pub free-by : {l : Intent} → lock ≡ By l → false ≡ not (isSome (lockedBy area lock))
-  free-by e = sym (ap (λ (x : Locked). not (isSome (lockedBy area x))) e)
+pub size-few : (put : Bool) (n : ℕ) → sizeIf put n ≤ n
+size-few true n = omega arith
+size-few false n = omega arith
+
+pub row-cut : (s : Bytes) (e : Entry) {m : ℕ} → m ≡ sizeIf (e .put) (e .rowlen) → bytesAt s (e .rowat) (e .rowat + m - e .rowat) ≡ rowAt s e
+row-cut s e q = simp add-sub-cancel-left (ap (bytesAt s (e .rowat)) q)
+
+-- an entry by its parts, as the code cuts them
+pub parts-are : (s : Bytes) (e : Entry) → record { key = keyAt s e; row = when (e .put) (rowAt s e) } ≡ mutationOf s e
+parts-are s e = ap {B = Mutation} (λ (o : Option Row). record { key = keyAt s e; row = o }) (go (e .put))
+  where
+    go : (t : Bool) → when t (bytesAt s (e .rowat) (sizeIf t (e .rowlen))) ≡ when t (bytesAt s (e .rowat) (e .rowlen))
+    go true = refl
+    go false = refl
+
+-- a Put's row is in form, and a Delete has none
+pub row-fits : (s : Bytes) (e : Entry) → rowArgument (when (e .put) (rowAt s e)) ≡ true → RowFits (kindOf (when (e .put) (rowAt s e))) (rowAt s e)
+row-fits s e = go (e .put)
+  where
+    go : (t : Bool) → rowArgument (when t (bytesAt s (e .rowat) (sizeIf t (e .rowlen)))) ≡ true → RowFits (kindOf (when t (bytesAt s (e .rowat) (sizeIf t (e .rowlen))))) (bytesAt s (e .rowat) (sizeIf t (e .rowlen)))
+    go true f = f
+    go false f = refl

@@ -1,11 +1,10 @@
 pub mod EntryLaws
 pub mod SettledLaws
+pub mod AnswerLaws
 pub mod WalkLaws
 pub mod PassLaws
 pub mod SeenLaws
-pub mod KeepLaws
-pub mod ShiftLaws
 pub mod ApplyLaws
-pub mod ReadyLaws
-pub mod AnswerLaws
-pub mod MoveLaws
+pub mod JudgeLaws
+pub mod DoneLaws
+pub mod StoreLaws

@@ -1,5 +1,4 @@
--- A pass over the entries of a batch, by what was found at their keys, for every state of it: P tells of a box, of the entries that are left
--- and of the state, on every store in which this was found.
+-- A pass over the entries of a batch, for every state of it: P tells of the entries that are left and of the state.
 -- Assumes nothing.
 use Prim.Native.Nat.{ℕ, _+_, _≤_, _<_}
 use native.Mathlib.Omega.{arith}
@@ -9,54 +8,32 @@ use lib.ListN.{getD, drop}
 use Rattle.seqs.specs.Tables.{shown}
 use Rattle.seqs.proofs.Tables.{table-at, shown-next, shown-past}
 use Rattle.forms.specs.Bytes.{Bytes}
-use Rattle.forms.specs.Places.{EntryIn, keyAt, noEntry}
+use Rattle.forms.specs.Places.{EntryIn, noEntry, Listed}
 use Rattle.forms.specs.declared.batch.Entry.{Entry}
-use Rattle.rules.specs.Box.{Box}
-use Rattle.lines.specs.declared.store.Store.{Store}
-use Rattle.lines.specs.declared.keys.Looked.{Looked}
-use Rattle.lines.specs.declared.places.FoundRow.{FoundRow}
-use Rattle.lines.specs.View.{boxOf}
-use Rattle.calls.specs.Walks.{noLook, noFound, Met, Surveyed, PassAsks}
 
-pub record Pass {A S : Type 0} (P : Box → List A → S → Type 0) (item : Entry → A) (area s : Bytes) (start stamp n : ℕ) (es : List Entry) (founds : List Looked) (rows : List FoundRow) (i : ℕ) (q : S) : Type 0 where
-  pub asks : PassAsks area s start stamp n es founds rows
-  pub each : (st : Store) → Surveyed st area s start stamp n es founds rows → P (boxOf st area) (drop i (shown item n es)) q
+pub record Pass {A S : Type 0} (P : List A → S → Type 0) (item : Entry → A) (s : Bytes) (n : ℕ) (es : List Entry) (i : ℕ) (q : S) : Type 0 where
+  pub listed : Listed s n es
+  pub left : P (drop i (shown item n es)) q
 
-pub met-at : {st : Store} {area s : Bytes} {start stamp n : ℕ} {es : List Entry} {founds : List Looked} {rows : List FoundRow} → Surveyed st area s start stamp n es founds rows → {i : ℕ} → i < n
-    → Met st area (keyAt s (getD es i noEntry)) start stamp (getD founds i noLook) (getD rows i noFound)
-met-at v {i} more = record { looked = v .looks .each i more; row = v .stored .each i more }
+module _ {A S : Type 0} (P : List A → S → Type 0) (item : Entry → A) {s : Bytes} {n : ℕ} {es : List Entry} where
+  pub pass-start : Listed s n es → {q : S} → P (shown item n es) q → Pass P item s n es 0 q
+  pass-start a p = record { listed = a; left = p }
 
-module _ {A S : Type 0} (P : Box → List A → S → Type 0) (item : Entry → A) {area s : Bytes} {start stamp n : ℕ} {es : List Entry} {founds : List Looked} {rows : List FoundRow} where
-  pub pass-start : PassAsks area s start stamp n es founds rows → {q : S} → ((b : Box) → P b (shown item n es) q) → Pass P item area s start stamp n es founds rows 0 q
-  pass-start a p = record { asks = a; each = λ st v. p (boxOf st area) }
-
-module _ {A S : Type 0} {P : Box → List A → S → Type 0} {item : Entry → A} {area s : Bytes} {start stamp n : ℕ} {es : List Entry} {founds : List Looked} {rows : List FoundRow} {i : ℕ} {q : S} (v : Pass P item area s start stamp n es founds rows i q) where
-  abbrev e : Entry
-  e = getD es i noEntry
-
-  abbrev rest : List A
-  rest = drop (i + 1) (shown item n es)
-
+module _ {A S : Type 0} {P : List A → S → Type 0} {item : Entry → A} {s : Bytes} {n : ℕ} {es : List Entry} {i : ℕ} {q : S} (v : Pass P item s n es i q) where
   module _ (more : i < n) where
     pub pass-small : i < 32
-    pass-small = omega (arith, v .asks .listed .few)
+    pass-small = omega (arith, v .listed .few)
 
     -- the entry lies in the bytes
     pub pass-in : EntryIn s (getD es i noEntry)
-    pass-in = table-at (v .asks .listed) i more
+    pass-in = table-at (v .listed) i more
 
-    -- and what was found at its key was found in a store
-    pub pass-met : Met (v .asks .st) area (keyAt s (getD es i noEntry)) start stamp (getD founds i noLook) (getD rows i noFound)
-    pass-met = met-at (v .asks .surveyed) more
-
-    pub pass-here : (st : Store) → Surveyed st area s start stamp n es founds rows → P (boxOf st area) (item (getD es i noEntry) ∷ drop (i + 1) (shown item n es)) q
-    pass-here st w = subst (λ (l : List A). P (boxOf st area) l q) (shown-next (v .asks .listed) item i more) (v .each st w)
+    pub pass-here : P (item (getD es i noEntry) ∷ drop (i + 1) (shown item n es)) q
+    pass-here = subst (λ (l : List A). P l q) (shown-next (v .listed) item i more) (v .left)
 
     -- one entry more
-    pub pass-more : {t : S}
-        → ((st : Store) (l : List A) → Met st area (keyAt s (getD es i noEntry)) start stamp (getD founds i noLook) (getD rows i noFound) → P (boxOf st area) (item (getD es i noEntry) ∷ l) q → P (boxOf st area) l t)
-        → Pass P item area s start stamp n es founds rows (i + 1) t
-    pass-more f = record { asks = v .asks; each = λ st w. f st rest (met-at w more) (pass-here st w) }
+    pub pass-more : {t : S} → (P (item (getD es i noEntry) ∷ drop (i + 1) (shown item n es)) q → P (drop (i + 1) (shown item n es)) t) → Pass P item s n es (i + 1) t
+    pass-more f = record { listed = v .listed; left = f pass-here }
 
-  pub pass-end : n ≤ i → (st : Store) → Surveyed st area s start stamp n es founds rows → P (boxOf st area) [] q
-  pass-end z st w = subst (λ (l : List A). P (boxOf st area) l q) (shown-past (v .asks .listed) item i z) (v .each st w)
+  pub pass-end : n ≤ i → P [] q
+  pass-end z = subst (λ (l : List A). P l q) (shown-past (v .listed) item i z) (v .left)

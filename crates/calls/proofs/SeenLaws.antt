@@ -2,91 +2,106 @@
 -- Assumes nothing.
 use Prim.Native.Nat.{ℕ, _+_, _≤_, _<_}
 use native.Mathlib.Omega.{arith}
-use mathlib.Core.Path.{_≡_, ap, sym, _∙_, subst}
+use mathlib.Core.Path.{_≡_, ap, ap₂, sym, _∙_, subst}
 use mathlib.Core.List.{List}
-use lib.ListN.{getD, drop}
+use lib.ListN.{getD}
 use Rattle.seqs.specs.Tables.{shown}
 use Rattle.seqs.proofs.Tables.{shown-length}
 use Rattle.forms.specs.Bytes.{Bytes}
-use Rattle.forms.specs.Places.{keyAt, noEntry}
+use Rattle.forms.specs.Readers.{when}
+use Rattle.forms.specs.Batch.{Mutation}
+use Rattle.forms.specs.Places.{keyAt, mutationOf, noEntry, Listed}
 use Rattle.forms.specs.declared.batch.Entry.{Entry}
+use Rattle.rules.specs.declared.answers.Answer.{Answer}
 use Rattle.rules.specs.declared.answers.Answer.the-variants.{Accepted}
 use Rattle.rules.specs.declared.room.Load.{Load}
 use Rattle.rules.specs.Box.{Box}
 use Rattle.laws.specs.Adds.{plus, minus}
-use Rattle.lines.specs.declared.store.Store.{Store}
-use Rattle.lines.specs.declared.keys.Looked.{Looked}
-use Rattle.lines.specs.declared.places.FoundRow.{FoundRow}
-use Rattle.lines.specs.View.{boxOf}
-use Rattle.calls.specs.Loads.{Summable}
-use Rattle.calls.specs.Frees.{Within}
-use Rattle.calls.specs.Walks.{noLook, noFound, Met, Surveyed, PassAsks}
-use Rattle.calls.specs.Weights.{noWeight, Light, LeftAsks, Steps, EntryChecked, AllChecked}
+use Rattle.laws.proofs.LoadLaws.{load-fields}
+use Rattle.stretches.specs.Loads.{Within}
+use Rattle.calls.specs.Walks.{rowAt}
+use Rattle.calls.specs.Weights.{noWeight, Light, Sums, LeftAsks, Steps, Refused, EntryChecked, AllChecked}
 use Rattle.calls.specs.declared.weights.Weight.{Weight}
 use Rattle.calls.specs.declared.weights.Seen.{Seen}
-use Rattle.calls.proofs.WalkLaws.{Walking, walking-start, walking-more, walking-out, walking-end, Summing, summing-start, summing-more, summing-small, summing-few, summing-end}
-use Rattle.calls.proofs.PassLaws.{Pass, pass-start, pass-met, pass-here, pass-more, pass-end, met-at}
+use Rattle.calls.proofs.EntryLaws.{parts-are}
+use Rattle.calls.proofs.WalkLaws.{Walking, walking-start, walking-more, walking-out, walking-end, added-small, Summing, summing-start, summing-more, summing-small, summing-few, summing-end}
+use Rattle.calls.proofs.PassLaws.{Pass, pass-start, pass-here, pass-more, pass-end}
 
--- of one box
-pub record Seeing {A : Type 0} (c : Steps A) (all : List A) (b : Box) (rest : List A) (w : Weight) : Type 0 where
+pub record Seeing {A : Type 0} (c : Steps A) (b : Box) (all rest : List A) (w : Weight) : Type 0 where
   pub walk : Walking (c .check) b all rest
   pub added : Summing (c .adds b) (c .add) all rest (w .added)
   pub freed : Summing (c .frees b) (c .free) all rest (w .freed)
 
--- of every store in which this was found
-abbrev pub SeeingAll : {A : Type 0} → Steps A → (Entry → A) → Bytes → Bytes → ℕ → ℕ → ℕ → List Entry → List Looked → List FoundRow → ℕ → Weight → Type 0
-SeeingAll c item area s start stamp n es founds rows i w = Pass (Seeing c (shown item n es)) item area s start stamp n es founds rows i w
+abbrev pub SeeingAll : {A : Type 0} → Steps A → (Entry → A) → Box → Bytes → ℕ → List Entry → ℕ → Weight → Type 0
+SeeingAll c item b s n es i w = Pass (Seeing c b (shown item n es)) item s n es i w
 
-module _ {A : Type 0} (c : Steps A) (item : Entry → A) {area s : Bytes} {start stamp n : ℕ} {es : List Entry} {founds : List Looked} {rows : List FoundRow} where
-  pub seeing-start : PassAsks area s start stamp n es founds rows → {z : Weight} → z ≡ noWeight → SeeingAll c item area s start stamp n es founds rows 0 z
+module _ {A : Type 0} (c : Steps A) (item : Entry → A) (b : Box) {s : Bytes} {n : ℕ} {es : List Entry} where
+  pub seeing-start : Listed s n es → {z : Weight} → z ≡ noWeight → SeeingAll c item b s n es 0 z
   seeing-start a e =
-      let few = shown-length (a .listed) item in
-      pass-start (Seeing c (shown item n es)) item a (λ b. record {
+      let few = shown-length a item in
+      pass-start (Seeing c b (shown item n es)) item a (record {
         walk = walking-start (c .check) b (shown item n es);
-        added = summing-start (c .adds b) (c .add) (shown item n es) (omega (arith, few, a .listed .few)) (ap (λ (w : Weight). w .added) e);
-        freed = summing-start (c .frees b) (c .free) (shown item n es) (omega (arith, few, a .listed .few)) (ap (λ (w : Weight). w .freed) e);
+        added = summing-start (c .adds b) (c .add) (shown item n es) (omega (arith, few, a .few)) (ap (λ (w : Weight). w .added) e);
+        freed = summing-start (c .frees b) (c .free) (shown item n es) (omega (arith, few, a .few)) (ap (λ (w : Weight). w .freed) e);
       })
 
-module _ {A : Type 0} {c : Steps A} {item : Entry → A} {area s : Bytes} {start stamp n : ℕ} {es : List Entry} {founds : List Looked} {rows : List FoundRow} {i : ℕ} {sum : Weight}
-    (v : SeeingAll c item area s start stamp n es founds rows i sum) where
-  here : Seeing c (shown item n es) (boxOf (v .asks .st) area) (drop i (shown item n es)) sum
-  here = v .each (v .asks .st) (v .asks .surveyed)
-
+module _ {A : Type 0} {c : Steps A} {item : Entry → A} {b : Box} {s : Bytes} {n : ℕ} {es : List Entry} {i : ℕ} {sum : Weight} (v : SeeingAll c item b s n es i sum) where
   light : Light 32 (c .add) (c .free) sum
-  light = record { added = summing-few (here .added); freed = summing-few (here .freed) }
+  light = record { added = summing-few (v .left .added); freed = summing-few (v .left .freed) }
 
-  module _ (more : i < n) {r : Seen} (seen : (st : Store) → Met st area (keyAt s (getD es i noEntry)) start stamp (getD founds i noLook) (getD rows i noFound) → EntryChecked c (boxOf st area) (item (getD es i noEntry)) r) where
-    pub seeing-small : c .add ≤ 65887 → c .free ≤ 65887 → (Summable (sum .added) (r .weight .added)) × (Summable (sum .freed) (r .weight .freed))
-    seeing-small a f =
-        let k = seen (v .asks .st) (pass-met v more) in
-        (summing-small (here .added) a (k .light .added), summing-small (here .freed) f (k .light .freed))
+  module _ (more : i < n) {r : Seen} (k : EntryChecked c b (item (getD es i noEntry)) r) where
+    pub seeing-small : c .add ≤ 65887 → c .free ≤ 65887 → Sums sum (r .weight)
+    seeing-small a f = record {
+      added = summing-small (v .left .added) a;
+      more-added = added-small a (k .light .added);
+      freed = summing-small (v .left .freed) f;
+      more-freed = added-small f (k .light .freed);
+    }
 
-    pub seeing-more : r .answer ≡ Accepted → {t : Weight} → (t .added ≡ plus (sum .added) (r .weight .added)) × (t .freed ≡ plus (sum .freed) (r .weight .freed)) → SeeingAll c item area s start stamp n es founds rows (i + 1) t
-    seeing-more p g = pass-more v more (λ st l m w.
-        let k = seen st m in
-        record {
-          walk = walking-more (w .walk) (k .answer-is) p;
-          added = summing-more (w .added) (k .added-is p) (k .light .added) (g .0);
-          freed = summing-more (w .freed) (k .freed-is p) (k .light .freed) (g .1);
-        })
+    pub seeing-more : r .answer ≡ Accepted → {t : Weight} → (t .added ≡ plus (sum .added) (r .weight .added)) × (t .freed ≡ plus (sum .freed) (r .weight .freed)) → SeeingAll c item b s n es (i + 1) t
+    seeing-more p g = pass-more v more (λ w. record {
+      walk = walking-more (w .walk) (k .answer-is) p;
+      added = summing-more (w .added) (k .added-is p) (k .light .added) (g .0);
+      freed = summing-more (w .freed) (k .freed-is p) (k .light .freed) (g .1);
+    })
 
-    pub seeing-out : (r .answer ≡ Accepted → ⊥) → (st : Store) → Surveyed st area s start stamp n es founds rows → AllChecked c (boxOf st area) (shown item n es) (record { answer = r .answer; weight = sum })
-    seeing-out n st w = record {
-      answer-is = walking-out (pass-here v more st w .walk) (seen st (met-at w more) .answer-is) n;
+    pub seeing-out : (r .answer ≡ Accepted → ⊥) → AllChecked c b (shown item n es) (record { answer = r .answer; weight = sum })
+    seeing-out n = record {
+      answer-is = walking-out (pass-here v more .walk) (k .answer-is) n;
       added-is = λ p. absurd (n p);
       freed-is = λ p. absurd (n p);
       light = light;
     }
 
-  pub seeing-end : n ≤ i → (st : Store) → Surveyed st area s start stamp n es founds rows → AllChecked c (boxOf st area) (shown item n es) (record { answer = Accepted; weight = sum })
-  seeing-end z st w =
-      let k = pass-end v z st w in
+  pub seeing-end : n ≤ i → AllChecked c b (shown item n es) (record { answer = Accepted; weight = sum })
+  seeing-end z =
+      let k = pass-end v z in
       record {
         answer-is = walking-end (k .walk);
         added-is = λ p. summing-end (k .added);
         freed-is = λ p. summing-end (k .freed);
         light = light;
       }
+
+-- an entry that is refused adds and frees nothing
+pub checked-refused : {A : Type 0} (c : Steps A) (b : Box) (x : A) {a : Answer} → a ≡ c .check b x → (a ≡ Accepted → ⊥) → {r : Seen} → Refused a r → EntryChecked c b x r
+checked-refused c b x e n v =
+    let y = load-fields (ap (λ (w : Weight). w .added) (v .weight-is)) in
+    let z = load-fields (ap (λ (w : Weight). w .freed) (v .weight-is)) in
+    record {
+      answer-is = v .answer-is ∙ e;
+      added-is = λ q. absurd (n (sym (v .answer-is) ∙ q));
+      freed-is = λ q. absurd (n (sym (v .answer-is) ∙ q));
+      light = record { added = omega (arith, y); freed = omega (arith, z) };
+    }
+
+-- what a check says of an entry's parts it says of the entry
+module _ {c : Steps Mutation} {b : Box} {s : Bytes} {n : ℕ} {es : List Entry} {i : ℕ} {sum : Weight} (v : SeeingAll c (mutationOf s) b s n es i sum) where
+  pub seeing-parts : {key row : Bytes} {r : Seen} → key ≡ keyAt s (getD es i noEntry) → row ≡ rowAt s (getD es i noEntry) → EntryChecked c b (record { key = key; row = when (getD es i noEntry .put) row }) r
+      → EntryChecked c b (mutationOf s (getD es i noEntry)) r
+  seeing-parts {r = r} p q k =
+      let e = getD es i noEntry in
+      subst (λ (m : Mutation). EntryChecked c b m r) (ap₂ (λ (x : Bytes) (y : Bytes). record { key = x; row = when (e .put) y }) p q ∙ parts-are s e) k
 
 -- ---- the room that is left
 

@@ -1,7 +1,7 @@
 -- The promise of a changing call, made by its ways out: nothing has changed, or the box is another one.
 -- Assumes nothing.
 use mathlib.Core.Bool.{Bool, true, false, not, false≢true}
-use mathlib.Core.Path.{_≡_, refl, sym, _∙_, ap, subst}
+use mathlib.Core.Path.{_≡_, refl, sym, _∙_, ap}
 use Rattle.forms.specs.Bytes.{Bytes}
 use Rattle.rules.specs.declared.answers.Answer.{Answer}
 use Rattle.rules.specs.declared.answers.Answer.the-variants.{Accepted, No, Held}
@@ -9,11 +9,8 @@ use Rattle.rules.specs.Answers.{_▸_}
 use Rattle.rules.specs.Calls.{Done}
 use Rattle.lines.specs.declared.store.Store.{Store}
 use Rattle.lines.specs.View.{boxOf}
-use Rattle.rules.specs.Room.{Fits}
-use Rattle.ledger.specs.Tidy.{Tidy}
-use Rattle.lines.specs.Made.{Built, Made}
-use Rattle.calls.specs.declared.changed.Changed.{Changed}
-use Rattle.calls.specs.Settled.{isAccepted, Untouched, Moved, Settled}
+use Rattle.lines.specs.Made.{Made}
+use Rattle.calls.specs.Settled.{isAccepted, Untouched, Settled}
 
 -- ---- accepted, or a refusal
 
@@ -39,37 +36,22 @@ pub untouched : {st : Store} {area : Bytes} → Untouched st area st area
 untouched = record { store-is = refl; area-is = refl }
 
 -- nothing has changed, and the definition leaves the box
-pub moved-same : {st : Store} {area : Bytes} {d : Done} {a : Answer} → Made st area → d ≡ record { answer = a; box = boxOf st area } → Moved st area d (record { store = st; answer = a }) area
-moved-same {st} {area} {d} m e = record {
+pub settled-same : {st : Store} {area : Bytes} {d : Done} {a : Answer} → Made st area → d ≡ record { answer = a; box = boxOf st area } → Settled st area d (record { store = st; answer = a }) area
+settled-same {st} {area} {d} m e = record {
   answer-is = sym (ap (λ (x : Done). x .answer) e);
-  built = m .built;
-  fit = m .fit;
+  made = m;
   shown = sym (ap (λ (x : Done). x .box) e);
   refused = λ n. untouched;
   unchanged = λ s. untouched;
 }
 
 -- the box is the definition's, and another one than it was
-pub moved-new : {st : Store} {area : Bytes} {d : Done} {r : Store} {area′ : Bytes} → Built r area′ → Fits (r .load) → d ≡ record { answer = Accepted; box = boxOf r area′ } → (boxOf r area′ ≡ boxOf st area → ⊥)
-    → Moved st area d (record { store = r; answer = Accepted }) area′
-moved-new {st} {area} {d} {r} {area′} v f e n = record {
+pub settled-new : {st : Store} {area : Bytes} {d : Done} {r : Store} {area′ : Bytes} → Made r area′ → d ≡ record { answer = Accepted; box = boxOf r area′ } → (boxOf r area′ ≡ boxOf st area → ⊥)
+    → Settled st area d (record { store = r; answer = Accepted }) area′
+settled-new {st} {area} {d} {r} {area′} m e n = record {
   answer-is = sym (ap (λ (x : Done). x .answer) e);
-  built = v;
-  fit = f;
+  made = m;
   shown = sym (ap (λ (x : Done). x .box) e);
-  refused = λ g. absurd (g refl);
+  refused = λ f. absurd (f refl);
   unchanged = λ s. absurd (n (sym (ap (λ (x : Done). x .box) e) ∙ s));
 }
-
--- the definition leaves a tidy box
-pub settled : {st : Store} {area : Bytes} {d : Done} {r : Changed} {area′ : Bytes} → Tidy (d .box) → Moved st area d r area′ → Settled st area d r area′
-settled t m = record {
-  answer-is = m .answer-is;
-  made = record { built = m .built; fit = m .fit; tidy = subst Tidy (sym (m .shown)) t };
-  shown = m .shown;
-  refused = m .refused;
-  unchanged = m .unchanged;
-}
-
-pub settled-same : {st : Store} {area : Bytes} {d : Done} {a : Answer} → Made st area → d ≡ record { answer = a; box = boxOf st area } → Settled st area d (record { store = st; answer = a }) area
-settled-same m e = settled (subst Tidy (sym (ap (λ (x : Done). x .box) e)) (m .tidy)) (moved-same m e)

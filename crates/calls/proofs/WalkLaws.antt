@@ -15,7 +15,8 @@ use Rattle.rules.specs.Box.{Box}
 use Rattle.laws.specs.Adds.{noLoad, plus, sumLoads}
 use Rattle.laws.proofs.LoadLaws.{load-fields, plus-none, none-plus, plus-assoc}
 use Rattle.laws.proofs.BatchLaws.{checkAll}
-use Rattle.calls.specs.Loads.{AddedBy, Summable}
+use Rattle.stretches.specs.Loads.{Small}
+use Rattle.calls.specs.Weights.{AddedBy}
 use Rattle.calls.proofs.SettledLaws.{then-refused}
 
 -- ---- the steps that are left
@@ -43,6 +44,9 @@ module _ {A : Type 0} {check : Box → A → Answer} {b : Box} {all : List A} wh
   pub walking-end : Walking check b all [] → Accepted ≡ checkAll check b all
   unfolding checkAll
   walking-end v = sym (v .steps)
+
+pub added-small : {cap : ℕ} {y : Load} → cap ≤ 65887 → AddedBy 1 cap y → Small y
+added-small low a = omega (arith, a .bytes)
 
 -- ---- a sum of loads: what is left of it, and that it stays small
 
@@ -79,9 +83,8 @@ module _ {A : Type 0} {f : A → Load} {cap : ℕ} {all : List A} where
         bytes = omega (arith, v .bytes, suc-mul (length rest) cap);
       }
 
-  -- one more can be added
-  pub summing-small : {rest : List A} {sum : Load} → Summing f cap all rest sum → cap ≤ 65887 → {y : Load} → AddedBy 1 cap y → Summable sum y
-  summing-small v low small = omega (arith, v .bytes)
+  pub summing-small : {rest : List A} {sum : Load} → Summing f cap all rest sum → cap ≤ 65887 → Small sum
+  summing-small v low = omega (arith, v .bytes)
 
   pub summing-few : {rest : List A} {sum : Load} → Summing f cap all rest sum → AddedBy 32 cap sum
   summing-few v = omega (arith, v .bytes)

@@ -8,8 +8,7 @@ use Rattle.rules.specs.declared.answers.Answer.the-variants.{Accepted, No, Held
 use Rattle.rules.specs.Calls.{Done}
 use Rattle.lines.specs.declared.store.Store.{Store}
 use Rattle.lines.specs.View.{boxOf}
-use Rattle.rules.specs.Room.{Fits}
-use Rattle.lines.specs.Made.{Built, Made}
+use Rattle.lines.specs.Made.{Made}
 use Rattle.calls.specs.declared.changed.Changed.{Changed}
 
 abbrev pub isAccepted : Answer → Bool
@@ -21,16 +20,6 @@ isAccepted (Held h) = false
 pub record Untouched (st : Store) (area : Bytes) (r : Store) (area′ : Bytes) : Type 0 where
   pub store-is : r ≡ st
   pub area-is : area′ ≡ area
-
--- what the steps of a call leave: the answer is the definition's, and the store shows its box, within the limits; nothing has changed where the
--- call is refused, or leaves the box as it was
-pub record Moved (st : Store) (area : Bytes) (d : Done) (r : Changed) (area′ : Bytes) : Type 0 where
-  pub answer-is : r .answer ≡ d .answer
-  pub built : Built (r .store) area′
-  pub fit : Fits (r .store .load)
-  pub shown : boxOf (r .store) area′ ≡ d .box
-  pub refused : (r .answer ≡ Accepted → ⊥) → Untouched st area (r .store) area′
-  pub unchanged : d .box ≡ boxOf st area → Untouched st area (r .store) area′
 
 -- the answer is the definition's, and the store shows the definition's box; "A refusal changes nothing in store or buffers"; and a call that
 -- is "accepted and unchanged", as a replay is, changes nothing either

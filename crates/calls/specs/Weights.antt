@@ -1,32 +1,44 @@
 -- What entries add and free, what the check of an entry, or of all entries, says of a box, and the room that is left.
 -- Assumes nothing.
-use Prim.Native.Nat.{ℕ}
+use Prim.Native.Nat.{ℕ, _*_, _≤_}
 use mathlib.Core.Path.{_≡_}
 use mathlib.Core.List.{List}
-use Rattle.forms.specs.Bytes.{Bytes}
-use Rattle.forms.specs.declared.batch.Entry.{Entry}
 use Rattle.rules.specs.declared.answers.Answer.{Answer}
 use Rattle.rules.specs.declared.answers.Answer.the-variants.{Accepted}
 use Rattle.rules.specs.declared.room.Load.{Load}
 use Rattle.rules.specs.Box.{Box}
 use Rattle.laws.specs.Adds.{noLoad, plus, sumLoads}
 use Rattle.laws.proofs.BatchLaws.{checkAll}
-use Rattle.calls.specs.Loads.{AddedBy, Summable}
-use Rattle.calls.specs.Frees.{Within}
+use Rattle.stretches.specs.Loads.{Small, Within}
 use Rattle.calls.specs.declared.weights.Weight.{Weight}
 use Rattle.calls.specs.declared.weights.Seen.{Seen}
 
 abbrev pub noWeight : Weight
 noWeight = record { added = noLoad; freed = noLoad }
 
+-- what n entries can add: each a line, a lock and a default at most, and `cap` bytes
+pub record AddedBy (n cap : ℕ) (l : Load) : Type 0 where
+  pub lines : l .lines ≤ n
+  pub locks : l .locks ≤ n
+  pub defaults : l .defaults ≤ n
+  pub bytes : l .bytes ≤ n * cap
+
 -- what n entries can add and free: each at most `add` and `free` bytes
 pub record Light (n add free : ℕ) (w : Weight) : Type 0 where
   pub added : AddedBy n add (w .added)
   pub freed : AddedBy n free (w .freed)
 
+-- small numbers, so that there is a sum
+pub record Sums (a b : Weight) : Type 0 where
+  pub added : Small (a .added)
+  pub more-added : Small (b .added)
+  pub freed : Small (a .freed)
+  pub more-freed : Small (b .freed)
+
 -- there is a sum, and what goes is in it
 pub record LeftAsks (load : Load) (w : Weight) : Type 0 where
-  pub sums : Summable load (w .added)
+  pub load-small : Small load
+  pub added-small : Small (w .added)
   pub freed-there : Within (w .freed) (plus load (w .added))
 
 -- ---- the steps of a call at one entry: its check, what it adds and what it frees, and the bytes that this can come to

@@ -1,19 +1,15 @@
 // Tests that several calls make, as rules' Calls says them.
 ghost use mathlib.Core.Path.{_≡_};
-ghost use mathlib.Core.Bool.{not};
+ghost use mathlib.Core.Option.{some};
 ghost use Prim.Native.Nat.{_+_, _≤_};
 ghost use lib.ListN.{length};
 ghost use Rattle.forms.specs.Bytes.{Bytes, bytesAt};
-ghost use Rattle.forms.specs.Row.{Row};
-ghost use Rattle.forms.specs.Readers.{when, isSome};
+ghost use Rattle.forms.specs.Readers.{when};
 ghost use Rattle.rules.specs.Box.{eqKind, holderOf};
-ghost use Rattle.rules.specs.Calls.{kindOf, owns, zeroStep, rowArgument, rowStands};
-ghost use Rattle.lines.specs.View.{lockIn};
-ghost use Rattle.lines.specs.Looks.{lockedBy};
+ghost use Rattle.rules.specs.Calls.{owns, zeroStep, rowArgument, rowStands};
+ghost use Rattle.lines.specs.Looks.{lockIn};
 ghost use Rattle.calls.specs.Settled.{isAccepted};
-use lines::FoundRow;
 use lines::Intent;
-use lines::Locked;
 use rules::Answer;
 use rules::Holder;
 use rules::Kind;
@@ -38,15 +34,6 @@ pub fn accepted(a: Answer) -> bool
         Answer::Accepted => true,
         Answer::No(_) => false,
         Answer::Held(_) => false,
-    }
-}
-
-pub fn is_free(lock: Locked) -> bool
-    ensures { λ r. ⌜ ((area : Bytes) → r ≡ not (isSome (lockedBy area lock))) ⌝ }
-{
-    match lock {
-        Locked::Nobody => true,
-        Locked::By(_) => false,
     }
 }
 
@@ -92,16 +79,6 @@ pub fn same_kind(a: Kind, b: Kind) -> bool
     }
 }
 
-// The kind of an entry: a Put carries a row, a Delete none.
-pub fn kind_for(put: bool) -> Kind
-    ensures { λ r. ⌜ ((row : Row) → r ≡ kindOf (when put row)) ⌝ }
-{
-    if put {
-        return Kind::Put;
-    }
-    Kind::Delete
-}
-
 // "2": a Put's row is in form; a Delete's row argument is ignored.
 pub fn row_argument(put: bool, row: &[u8]) -> bool
     ensures { λ r. ⌜ r ≡ rowArgument (when put (now (row .entry))) ⌝ }
@@ -112,18 +89,14 @@ pub fn row_argument(put: bool, row: &[u8]) -> bool
     forms::row_in_form(row)
 }
 
-// "for a Put, this row": stored, and the same.
-pub fn row_stands(put: bool, row: &[u8], stored: FoundRow, area: &[u8]) -> bool
-    requires { ⌜ stored .at + stored .len ≤ length (now area) ⌝ }
-    ensures { λ r. ⌜ r ≡ rowStands (when put (now (row .entry))) (when (stored .ok) (bytesAt (now (area .entry)) (stored .at) (stored .len))) ⌝ }
+// "for a Put, this row": the one that a line carries.
+pub fn row_stands(put: bool, row: &[u8], area: &[u8], at: usize, len: usize) -> bool
+    requires { ⌜ at + len ≤ length (now area) ⌝ }
+    ensures { λ r. ⌜ r ≡ rowStands (when put (now (row .entry))) (some (bytesAt (now (area .entry)) at len)) ⌝ }
 {
     if !put {
         return true;
     }
-    if !stored.ok {
-        return false;
-    }
-    let at = stored.at;
-    let e = at + stored.len;
+    let e = at + len;
     forms::same(row, &area[at..e])
 }

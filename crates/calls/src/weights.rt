@@ -1,12 +1,11 @@
 // What entries would add to a store and free in it, and what the check of an entry, or of all entries, says.
 ghost use mathlib.Core.Path.{_≡_};
 ghost use Rattle.laws.specs.Adds.{plus, minus};
-ghost use Rattle.calls.specs.Loads.{Summable};
-ghost use Rattle.calls.specs.Weights.{noWeight, LeftAsks, Refused};
-use crate::frees::minus_load;
-use crate::loads::plus_load;
+ghost use Rattle.calls.specs.Weights.{noWeight, Sums, LeftAsks, Refused};
 use rules::Answer;
 use rules::Load;
+use stretches::less;
+use stretches::more;
 
 // What an entry, or all of them, would add and free.
 pub struct Weight {
@@ -47,15 +46,15 @@ pub fn refusal(answer: Answer) -> Seen
 }
 
 pub fn plus_weight(a: Weight, b: Weight) -> Weight
-    requires { ⌜ (Summable (a .added) (b .added)) × (Summable (a .freed) (b .freed)) ⌝ }
+    requires { ⌜ Sums a b ⌝ }
     ensures { λ r. ⌜ (r .added ≡ plus (a .added) (b .added)) × (r .freed ≡ plus (a .freed) (b .freed)) ⌝ }
 {
     let aa = a.added;
     let ba = b.added;
-    let added = plus_load(aa, ba);
+    let added = more(aa, ba);
     let af = a.freed;
     let bf = b.freed;
-    let freed = plus_load(af, bf);
+    let freed = more(af, bf);
     Weight {
         added: added,
         freed: freed,
@@ -69,6 +68,6 @@ pub fn left_load(load: Load, w: Weight) -> Load
 {
     let added = w.added;
     let freed = w.freed;
-    let all = plus_load(load, added);
-    minus_load(all, freed)
+    let all = more(load, added);
+    less(all, freed)
 }

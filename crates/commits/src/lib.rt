@@ -1,5 +1,6 @@
-// "Commit": a checking pass over the store as it came, and an applying pass. There is no 11: a record takes the lock's place, and live bytes
-// fall by the primary, so a commit never needs room (`commits-room` of laws' CommitLaws). The single form is a batch of one.
+// "Commit": a checking pass over the store as it came, and an applying pass, after a repack where the area wants one. There is no 11: a record
+// takes the lock's place, and live bytes fall by the primary, so a commit never needs room (`commits-room` of laws' CommitLaws). The single
+// form is a batch of one.
 pub mod batch;
 pub mod checks;
 pub mod passes;

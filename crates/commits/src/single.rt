@@ -5,19 +5,20 @@ ghost use Rattle.lines.specs.Made.{Made};
 ghost use Rattle.calls.specs.Settled.{Settled};
 use crate::batch::commit_intents_batch;
 use calls::Changed;
+use lines::AREA;
 use lines::Store;
 
 // "the single form disappears as a step of its own and is a batch of one"
 pub fn commit_intent(
     store: Store,
-    area: &[u8],
+    area: &mut [u8; AREA],
     txn: u64,
     start: u64,
     commit: u64,
     key: &[u8],
 ) -> Changed
     requires { ⌜ Made store (now area) ⌝ }
-    ensures { λ r. ⌜ Settled store (now (area .entry)) (rule.commit (record { txn = txn; start = start; commit = commit }) (now (key .entry)) (boxOf store (now (area .entry)))) r (now (area .entry)) ⌝ }
+    ensures { λ r. ⌜ Settled store (now (area .entry)) (rule.commit (record { txn = txn; start = start; commit = commit }) (now (key .entry)) (boxOf store (now (area .entry)))) r (now (area .exit)) ⌝ }
 {
     let mut batch = [0u8; 258];
     let n = forms::one_key(&mut batch, key);

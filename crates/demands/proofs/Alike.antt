@@ -21,8 +21,7 @@ use Rattle.rules.specs.Commit.{Ending}
 use Rattle.rules.specs.Written.{Written}
 use Rattle.lines.specs.declared.store.Store.{Store}
 use Rattle.lines.specs.declared.store.Slot.{Slot}
-use Rattle.lines.specs.declared.store.Held.{Held}
-use Rattle.lines.specs.View.{boxOf, noSlot, noHeld}
+use Rattle.lines.specs.View.{boxOf, noSlot}
 use Rattle.lines.specs.Made.{Made, FreshStore}
 use Rattle.calls.specs.declared.changed.Changed.{Changed}
 use Rattle.calls.specs.Settled.{Settled}
@@ -33,7 +32,7 @@ use Rattle.pages.specs.declared.calls.Paged.{Paged}
 use Rattle.pages.specs.Paged.{PagedAs}
 use Rattle.pages.proofs.PageLaws.{one-answer, one-count, one-buffer}
 use Rattle.demands.specs.Calls.{starting, reading, pointing, handingRow, handingPrimary, paging, pagingIntents, pagingConflicts, prewritingBatch, committingBatch, rollingBackBatch, oneStepping, restoring, counting, marking}
-use Rattle.demands.specs.Calls.{Sort, Lent, boxIn, Given, started, seen, pointed, handed, paged, changed, committed, stepped, counted, marked, rowIn, lockIn, chains, highest, answerIn, countIn, shownIn, partIn, after, Same, Once, OneOutcome, OneRefusal}
+use Rattle.demands.specs.Calls.{Sort, Lent, boxIn, Given, started, seen, pointed, handed, paged, changed, stepped, counted, marked, rowIn, lockIn, chains, highest, answerIn, countIn, shownIn, partIn, after, Same, Once, OneOutcome, OneRefusal}
 use Rattle.demands.proofs.Refusals.{refusals}
 
 -- the parts of `Same`; one answer has one number and one holder
@@ -50,14 +49,12 @@ module _ {s : Store} {area : Bytes} (f : FreshStore s area) where
   unfolding loadOf sumOf fresh
   load-fresh = f .made .built .kept .load-is ∙ ap loadOf (f .shown)
 
-  pub store-fresh : s ≡ record { lines = replicate 1024 noSlot; defaults = replicate 1024 noHeld; load = record { lines = 0; locks = 0; defaults = 0; bytes = 0 }; top = 0 }
+  pub store-fresh : s ≡ record { lines = replicate 1024 noSlot; load = record { lines = 0; locks = 0; defaults = 0; bytes = 0 }; top = 0 }
   store-fresh =
       let l = none-counts (f .made .built .lines) (ap (λ (x : Load). x .lines) load-fresh) in
-      let d = none-counts (f .made .built .defaults) (ap (λ (x : Load). x .defaults) load-fresh) in
-      ap (λ (x : List Slot). record { lines = x; defaults = s .defaults; load = s .load; top = s .top }) l
-      ∙ ap (λ (x : List Held). record { lines = replicate 1024 noSlot; defaults = x; load = s .load; top = s .top }) d
-      ∙ ap (λ (x : Load). record { lines = replicate 1024 noSlot; defaults = replicate 1024 noHeld; load = x; top = s .top }) load-fresh
-      ∙ ap (λ (x : ℕ). record { lines = replicate 1024 noSlot; defaults = replicate 1024 noHeld; load = record { lines = 0; locks = 0; defaults = 0; bytes = 0 }; top = x }) (f .top-is)
+      ap (λ (x : List Slot). record { lines = x; load = s .load; top = s .top }) l
+      ∙ ap (λ (x : Load). record { lines = replicate 1024 noSlot; load = x; top = s .top }) load-fresh
+      ∙ ap (λ (x : ℕ). record { lines = replicate 1024 noSlot; load = record { lines = 0; locks = 0; defaults = 0; bytes = 0 }; top = x }) (f .top-is)
 
 -- ---- what several calls share
 
@@ -75,9 +72,6 @@ module _ (w : Lent) where
 
   changed-same : {r q : Changed} {area area′ : Bytes} → Alike r area q area′ → Same w (changed r area) (changed q area′)
   changed-same {r = r} {q = q} {area = area} {area′ = area′} a = same w (changed r area) (changed q area′) (a .answer) refl refl refl (a .box) refl
-
-  committed-same : {r q : Changed} → Alike r (w .area) q (w .area) → Same w (committed r) (committed q)
-  committed-same {r = r} {q = q} a = same w (committed r) (committed q) (a .answer) refl refl refl (a .box) refl
 
 -- ---- one law a call
 
@@ -110,7 +104,7 @@ module _ (w : Lent) where
   prewrites-once h s (changed r x) (changed t y) a b = changed-same w (settled-once a b)
 
   pub commits-once : (h : Ending) (s : Bytes) → Once w (committingBatch h s)
-  commits-once h s (committed r) (committed t) a b = committed-same w (settled-once a b)
+  commits-once h s (changed r x) (changed t y) a b = changed-same w (settled-once a b)
 
   pub rollbacks-once : (txn start : ℕ) (s : Bytes) → Once w (rollingBackBatch txn start s)
   rollbacks-once txn start s (changed r x) (changed t y) a b = changed-same w (settled-once a b)

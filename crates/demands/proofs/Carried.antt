@@ -22,7 +22,7 @@ use Rattle.ledger.specs.Restored.{restored}
 use Rattle.ledger.proofs.Demand3.{demand3}
 use Rattle.ledger.proofs.Restored.{demand3-restored}
 use Rattle.demands.specs.Calls as calls
-use Rattle.demands.specs.Calls.{aStore, aChange, starting, restoring, Lent, boxIn, Given, started, changed, committed, stepped, answerIn, Kept, MadeIn}
+use Rattle.demands.specs.Calls.{aStore, aChange, starting, restoring, Lent, boxIn, Given, started, changed, stepped, answerIn, Kept, MadeIn}
 use Rattle.demands.specs.Demands as demands
 use Rattle.demands.specs.Demands.{sortOf, publicOf, Ran, none, next, Shows}
 use Rattle.demands.proofs.Stays.{stays-made}
@@ -32,7 +32,7 @@ use Rattle.demands.proofs.Stays.{stays-made}
 shows-next : (c : Call) (w : Lent) (g : Given (sortOf c)) → Kept w (publicOf c) g → boxIn (calls.after w g) ≡ perform c (boxIn w) .box
 unfolding perform
 shows-next (prewritingBatch h s) w (changed r area) k = k .shown
-shows-next (committingBatch h s) w (committed r) k = k .shown
+shows-next (committingBatch h s) w (changed r area) k = k .shown
 shows-next (rollingBackBatch txn start s) w (changed r area) k = k .shown
 shows-next (oneStepping h s) w (stepped r area) k = k .settled .shown
 

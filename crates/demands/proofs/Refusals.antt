@@ -22,7 +22,7 @@ use Rattle.reads.specs.declared.seen.Pointed.the-variants as points
 use Rattle.reads.specs.Parts.{RowPart, PrimaryPart}
 use Rattle.pages.specs.declared.calls.Paged.{Paged}
 use Rattle.pages.specs.Paged.{PagedAs}
-use Rattle.demands.specs.Calls.{Lent, boxIn, started, seen, pointed, handed, paged, changed, committed, stepped, counted, marked, nothing, answerIn, Unchanged, Refusals}
+use Rattle.demands.specs.Calls.{Lent, boxIn, started, seen, pointed, handed, paged, changed, stepped, counted, marked, nothing, answerIn, Unchanged, Refusals}
 use Rattle.demands.specs.Calls.{starting, reading, pointing, handingRow, handingPrimary, paging, pagingIntents, pagingConflicts, prewritingBatch, committingBatch, rollingBackBatch, oneStepping, restoring, counting, marking}
 
 -- ---- a page
@@ -64,9 +64,6 @@ module _ (w : Lent) where
   changed-left : (r : Changed) (area : Bytes) → Untouched (w .store) (w .area) (r .store) area → Unchanged w (changed r area)
   changed-left r area u = record { left = both (r .store) area u; box = ap boxIn (both (r .store) area u); count = refl; shown = refl; part = refl }
 
-  committed-left : (r : Changed) → Untouched (w .store) (w .area) (r .store) (w .area) → Unchanged w (committed r)
-  committed-left r u = record { left = both (r .store) (w .area) u; box = ap boxIn (both (r .store) (w .area) u); count = refl; shown = refl; part = refl }
-
   -- ---- a read, and an intent at a point: the store is as it was by their types, and no row is shown
 
   read-left : (s : Seen) (part : Bytes) → RowPart (w .area) s part → (answerIn w (seen s part) ≡ Accepted → ⊥) → Unchanged w (seen s part)
@@ -93,7 +90,7 @@ refusals _ w (paging a m l) (paged r out) p n = page-left w keyRowBytes (page a 
 refusals _ w (pagingIntents a l) (paged r out) p n = page-left w keyLockBytes (intentPage a l (boxIn w)) r out p n
 refusals _ w (pagingConflicts a m l) (paged r out) p n = page-left w keyLockBytes (conflictPage a m l (boxIn w)) r out p n
 refusals _ w (prewritingBatch h s) (changed r area) p n = changed-left w r area (p .refused n)
-refusals _ w (committingBatch h s) (committed r) p n = committed-left w r (p .refused n)
+refusals _ w (committingBatch h s) (changed r area) p n = changed-left w r area (p .refused n)
 refusals _ w (rollingBackBatch txn start s) (changed r area) p n = changed-left w r area (p .refused n)
 refusals _ w (oneStepping h s) (stepped r area) p n =
     let l = both w (r .store) area (p .settled .refused n) in

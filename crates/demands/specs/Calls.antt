@@ -50,7 +50,6 @@ pub data Sort : Type 0 where
   aPart : Sort
   aPage : Sort
   aChange : Sort
-  aCommit : Sort
   aStep : Sort
   someStats : Sort
   someMarks : Sort
@@ -72,7 +71,7 @@ pub data Public : Sort → Type 0 where
   -- prewrite_batch, commit_intents_batch, rollback_intents_batch; a batch is its bytes, in form or not. prewrite, commit_intent and
   -- rollback_intent are these at the bytes of a batch of one (`oneMutation`, `oneKey` of forms).
   prewritingBatch : Head → Bytes → Public aChange
-  committingBatch : Ending → Bytes → Public aCommit
+  committingBatch : Ending → Bytes → Public aChange
   rollingBackBatch : ℕ → ℕ → Bytes → Public aChange
   -- commit_batch
   oneStepping : Ending → Bytes → Public aStep
@@ -104,9 +103,8 @@ pub data Given : Sort → Type 0 where
   handed : Bytes → Given aPart
   -- a page's answer and count, and the buffer
   paged : Paged → Bytes → Given aPage
-  -- store and answer, and the area; a commit is lent the area as `&`; a one-step batch gives its count too
+  -- store and answer, and the area; a one-step batch gives its count too
   changed : Changed → Bytes → Given aChange
-  committed : Changed → Given aCommit
   stepped : Stepped → Bytes → Given aStep
   -- figures
   counted : Stats → Given someStats
@@ -121,7 +119,6 @@ answerIn w (pointed p part) = answerOf (pointedIn (w .area) p)
 answerIn w (handed part) = Accepted
 answerIn w (paged r out) = r .answer
 answerIn w (changed r area) = r .answer
-answerIn w (committed r) = r .answer
 answerIn w (stepped r area) = r .answer
 answerIn w (counted s) = Accepted
 answerIn w (marked m) = Accepted
@@ -134,7 +131,6 @@ countIn (pointed p part) = 0
 countIn (handed part) = 0
 countIn (paged r out) = r .count
 countIn (changed r area) = 0
-countIn (committed r) = 0
 countIn (stepped r area) = r .count
 countIn (counted s) = 0
 countIn (marked m) = 0
@@ -164,7 +160,6 @@ shownIn w (pointed p part) = lockIn (pointedIn (w .area) p)
 shownIn w (handed part) = nothing
 shownIn w (paged r out) = nothing
 shownIn w (changed r area) = nothing
-shownIn w (committed r) = nothing
 shownIn w (stepped r area) = nothing
 shownIn w (counted s) = chains s
 shownIn w (marked m) = highest m
@@ -177,7 +172,6 @@ partIn (pointed p part) = part
 partIn (handed part) = part
 partIn (paged r out) = []
 partIn (changed r area) = []
-partIn (committed r) = []
 partIn (stepped r area) = []
 partIn (counted s) = []
 partIn (marked m) = []
@@ -191,7 +185,6 @@ after w (pointed p part) = w
 after w (handed part) = w
 after w (paged r out) = record { store = w .store; area = w .area; buffer = out }
 after w (changed r area) = record { store = r .store; area = area; buffer = w .buffer }
-after w (committed r) = record { store = r .store; area = w .area; buffer = w .buffer }
 after w (stepped r area) = record { store = r .store; area = area; buffer = w .buffer }
 after w (counted s) = w
 after w (marked m) = w
@@ -200,7 +193,7 @@ after w (marked m) = w
 
 -- the call, made on `w`, gave this, and kept its promise
 abbrev pub Kept : {o : Sort} → Lent → Public o → Given o → Type 0
--- `fresh` promises it of every area of 65,536 bytes
+-- `fresh` promises it of every area of 131,072 bytes
 Kept w starting (started s) = FreshStore s (w .area)
 Kept w (reading k m) (seen s part) = SeenAs (read k m (boxIn w)) (w .area) s × RowPart (w .area) s part
 Kept w (pointing k m) (pointed p part) = PointedAs (intentAt k m (boxIn w)) (w .area) p × PrimaryPart (w .area) p part
@@ -210,7 +203,7 @@ Kept w (paging a m l) (paged r out) = PagedAs (scanPage a m l (boxIn w) (w .buff
 Kept w (pagingIntents a l) (paged r out) = PagedAs (scanIntentPage a l (boxIn w) (w .buffer)) r out
 Kept w (pagingConflicts a m l) (paged r out) = PagedAs (scanConflictingIntents a m l (boxIn w) (w .buffer)) r out
 Kept w (prewritingBatch h s) (changed r area) = Settled (w .store) (w .area) (prewriteBatch h s (boxIn w)) r area
-Kept w (committingBatch h s) (committed r) = Settled (w .store) (w .area) (commitBatch h s (boxIn w)) r (w .area)
+Kept w (committingBatch h s) (changed r area) = Settled (w .store) (w .area) (commitBatch h s (boxIn w)) r area
 Kept w (rollingBackBatch txn start s) (changed r area) = Settled (w .store) (w .area) (rollbackBatch txn start s (boxIn w)) r area
 Kept w (oneStepping h s) (stepped r area) = Counts (w .store) (w .area) (oneStep h s (boxIn w)) r area
 Kept w (restoring s) (changed r area) = Replaced (w .store) (w .area) (restore s (boxIn w)) r area

@@ -10,13 +10,13 @@ use Rattle.ledger.specs.Ledger as ledger
 use Rattle.ledger.specs.Ledger.{Call, after, empty, Holds, differentPairs}
 use Rattle.ledger.specs.Restored.{restored}
 use Rattle.demands.specs.Calls as calls
-use Rattle.demands.specs.Calls.{Sort, aChange, aCommit, aStep, Public, Lent, boxIn, Given, Kept, MadeIn}
+use Rattle.demands.specs.Calls.{Sort, aChange, aStep, Public, Lent, boxIn, Given, Kept, MadeIn}
 
 -- ---- "prewrites, commits, rollbacks and one-step batches": each is a public call
 
 abbrev pub sortOf : Call → Sort
 sortOf (ledger.prewritingBatch h s) = aChange
-sortOf (ledger.committingBatch h s) = aCommit
+sortOf (ledger.committingBatch h s) = aChange
 sortOf (ledger.rollingBackBatch txn start s) = aChange
 sortOf (ledger.oneStepping h s) = aStep
 

@@ -11,7 +11,8 @@ ghost use Rattle.lines.specs.declared.store.Store.{Store};
 ghost use Rattle.lines.specs.Made.{Made};
 ghost use Rattle.demands.specs.Calls.{Lent, Kept, KeptOn};
 ghost use Rattle.demands.specs.Calls.{starting, reading, pointing, handingRow, handingPrimary, paging, pagingIntents, pagingConflicts, prewritingBatch, committingBatch, rollingBackBatch, oneStepping, restoring, counting, marking};
-ghost use Rattle.demands.specs.Calls.{started, seen, pointed, handed, paged, changed, committed, stepped, counted, marked};
+ghost use Rattle.demands.specs.Calls.{started, seen, pointed, handed, paged, changed, stepped, counted, marked};
+use mvcc::AREA;
 use mvcc::Changed;
 use mvcc::Marks;
 use mvcc::Paged;
@@ -22,13 +23,13 @@ use mvcc::Stepped;
 use mvcc::Store;
 
 pub fn fresh() -> Store
-    ensures { λ r. ⌜ ((w : Lent) → length (w .area) ≡ 65536 → Kept w starting (started r)) ⌝ }
+    ensures { λ r. ⌜ ((w : Lent) → length (w .area) ≡ 131072 → Kept w starting (started r)) ⌝ }
 {
     mvcc::fresh()
 }
 
 // With whatever part `row_of` hands back of the answer.
-pub fn read(store: Store, area: &[u8], key: &[u8], moment: u64) -> Seen
+pub fn read(store: Store, area: &[u8; AREA], key: &[u8], moment: u64) -> Seen
     requires { ⌜ Made store (now area) ⌝ }
     ensures { λ r. ⌜ ((buffer part : Bytes) → Kept (record { store = store; area = now (area .entry); buffer = buffer }) (handingRow r) (handed part) → Kept (record { store = store; area = now (area .entry); buffer = buffer }) (reading (now (key .entry)) moment) (seen r part)) ⌝ }
 {
@@ -36,7 +37,7 @@ pub fn read(store: Store, area: &[u8], key: &[u8], moment: u64) -> Seen
 }
 
 // With whatever part `primary_of` hands back of the answer.
-pub fn intent_for_read(store: Store, area: &[u8], key: &[u8], moment: u64) -> Pointed
+pub fn intent_for_read(store: Store, area: &[u8; AREA], key: &[u8], moment: u64) -> Pointed
     requires { ⌜ Made store (now area) ⌝ }
     ensures { λ r. ⌜ ((buffer part : Bytes) → Kept (record { store = store; area = now (area .entry); buffer = buffer }) (handingPrimary r) (handed part) → Kept (record { store = store; area = now (area .entry); buffer = buffer }) (pointing (now (key .entry)) moment) (pointed r part)) ⌝ }
 {
@@ -58,7 +59,7 @@ pub fn primary_of(area: &[u8], answer: Pointed) -> &[u8]
 
 pub fn scan_page(
     store: Store,
-    area: &[u8],
+    area: &[u8; AREA],
     moment: u64,
     rows: u64,
     bytes: u64,
@@ -91,7 +92,7 @@ pub fn scan_page(
 
 pub fn scan_intent_page(
     store: Store,
-    area: &[u8],
+    area: &[u8; AREA],
     limit: u64,
     starts: bool,
     start: &[u8],
@@ -120,7 +121,7 @@ pub fn scan_intent_page(
 
 pub fn scan_conflicting_intents(
     store: Store,
-    area: &[u8],
+    area: &[u8; AREA],
     moment: u64,
     locks: u64,
     bytes: u64,
@@ -154,7 +155,7 @@ pub fn scan_conflicting_intents(
 // A single form is tied to the batch's case, at the bytes of its batch of one; so are the two below.
 pub fn prewrite(
     store: Store,
-    area: &mut [u8],
+    area: &mut [u8; AREA],
     txn: u64,
     start: u64,
     ttl: u64,
@@ -171,7 +172,7 @@ pub fn prewrite(
 
 pub fn prewrite_batch(
     store: Store,
-    area: &mut [u8],
+    area: &mut [u8; AREA],
     txn: u64,
     start: u64,
     ttl: u64,
@@ -186,33 +187,39 @@ pub fn prewrite_batch(
 
 pub fn commit_intent(
     store: Store,
-    area: &[u8],
+    area: &mut [u8; AREA],
     txn: u64,
     start: u64,
     commit: u64,
     key: &[u8],
 ) -> Changed
     requires { ⌜ Made store (now area) ⌝ }
-    ensures { λ r. ⌜ KeptOn store (now (area .entry)) (committingBatch (record { txn = txn; start = start; commit = commit }) (oneKey (now (key .entry)))) (committed r) ⌝ }
+    ensures { λ r. ⌜ KeptOn store (now (area .entry)) (committingBatch (record { txn = txn; start = start; commit = commit }) (oneKey (now (key .entry)))) (changed r (now (area .exit))) ⌝ }
 {
     mvcc::commit_intent(store, area, txn, start, commit, key)
 }
 
 pub fn commit_intents_batch(
     store: Store,
-    area: &[u8],
+    area: &mut [u8; AREA],
     txn: u64,
     start: u64,
     commit: u64,
     batch: &[u8],
 ) -> Changed
     requires { ⌜ Made store (now area) ⌝ }
-    ensures { λ r. ⌜ KeptOn store (now (area .entry)) (committingBatch (record { txn = txn; start = start; commit = commit }) (now (batch .entry))) (committed r) ⌝ }
+    ensures { λ r. ⌜ KeptOn store (now (area .entry)) (committingBatch (record { txn = txn; start = start; commit = commit }) (now (batch .entry))) (changed r (now (area .exit))) ⌝ }
 {
     mvcc::commit_intents_batch(store, area, txn, start, commit, batch)
 }
 
-pub fn rollback_intent(store: Store, area: &mut [u8], txn: u64, start: u64, key: &[u8]) -> Changed
+pub fn rollback_intent(
+    store: Store,
+    area: &mut [u8; AREA],
+    txn: u64,
+    start: u64,
+    key: &[u8],
+) -> Changed
     requires { ⌜ Made store (now area) ⌝ }
     ensures { λ r. ⌜ KeptOn store (now (area .entry)) (rollingBackBatch txn start (oneKey (now (key .entry)))) (changed r (now (area .exit))) ⌝ }
 {
@@ -221,7 +228,7 @@ pub fn rollback_intent(store: Store, area: &mut [u8], txn: u64, start: u64, key:
 
 pub fn rollback_intents_batch(
     store: Store,
-    area: &mut [u8],
+    area: &mut [u8; AREA],
     txn: u64,
     start: u64,
     batch: &[u8],
@@ -234,7 +241,7 @@ pub fn rollback_intents_batch(
 
 pub fn commit_batch(
     store: Store,
-    area: &mut [u8],
+    area: &mut [u8; AREA],
     txn: u64,
     start: u64,
     commit: u64,
@@ -246,21 +253,21 @@ pub fn commit_batch(
     mvcc::commit_batch(store, area, txn, start, commit, batch)
 }
 
-pub fn restore(store: Store, area: &mut [u8], image: &[u8]) -> Changed
+pub fn restore(store: Store, area: &mut [u8; AREA], image: &[u8]) -> Changed
     requires { ⌜ Made store (now area) ⌝ }
     ensures { λ r. ⌜ KeptOn store (now (area .entry)) (restoring (now (image .entry))) (changed r (now (area .exit))) ⌝ }
 {
     mvcc::restore(store, area, image)
 }
 
-pub fn stats(store: Store, area: &[u8]) -> Stats
+pub fn stats(store: Store, area: &[u8; AREA]) -> Stats
     requires { ⌜ Made store (now area) ⌝ }
     ensures { λ r. ⌜ KeptOn store (now (area .entry)) counting (counted r) ⌝ }
 {
     mvcc::stats(store, area)
 }
 
-pub fn allocator_high_water_marks(store: Store, area: &[u8]) -> Marks
+pub fn allocator_high_water_marks(store: Store, area: &[u8; AREA]) -> Marks
     requires { ⌜ Made store (now area) ⌝ }
     ensures { λ r. ⌜ KeptOn store (now (area .entry)) marking (marked r) ⌝ }
 {

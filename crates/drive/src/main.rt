@@ -5,6 +5,7 @@ ghost use lib.ListN.{length};
 ghost use Rattle.lines.specs.Made.{Made};
 use libc::STDIN_FILENO;
 use libc::STDOUT_FILENO;
+use lines::AREA;
 use lines::Store;
 use rules::Answer;
 use streams::Next;
@@ -16,7 +17,7 @@ fn refuse(out: &mut [u8]) -> bool {
 }
 
 // "The calls of one trace run in turn on one store"
-fn answer_calls(store: Store, trace: &[u8], area: &mut [u8], out: &mut [u8]) -> bool
+fn answer_calls(store: Store, trace: &[u8], area: &mut [u8; AREA], out: &mut [u8]) -> bool
     requires { ⌜ Made store (now area) ⌝ }
 {
     let first = traces::first_call(trace);
@@ -40,43 +41,36 @@ fn answer_calls(store: Store, trace: &[u8], area: &mut [u8], out: &mut [u8]) -> 
 }
 
 // "fresh at the start"; "nothing is run" of a trace that is not in form
-fn answer_trace(trace: &[u8], area: &mut [u8], out: &mut [u8]) -> bool
-    requires { ⌜ length (now area) ≡ 65536 ⌝ }
-{
+fn answer_trace(trace: &[u8], out: &mut [u8]) -> bool {
     if !traces::trace_in_form(trace) {
         return refuse(out);
     }
+    let mut area = [0u8; AREA];
     let store = lines::fresh();
-    answer_calls(store, trace, area, out)
+    answer_calls(store, trace, &mut area, out)
 }
 
 // Whether there is more to answer.
-fn answer_next(trace: &mut [u8], area: &mut [u8], out: &mut [u8]) -> bool
-    requires { ⌜ length (now area) ≡ 65536 ⌝ }
-{
+fn answer_next(trace: &mut [u8], out: &mut [u8]) -> bool {
     let next = streams::next_trace(STDIN_FILENO, trace);
     match next {
         Next::End => false,
         Next::Over => refuse(out),
-        Next::Trace(n) => answer_trace(&trace[..n], area, out),
+        Next::Trace(n) => answer_trace(&trace[..n], out),
     }
 }
 
-fn answer_many(trace: &mut [u8], area: &mut [u8], out: &mut [u8])
-    requires { ⌜ length (now area) ≡ 65536 ⌝ }
-{
+fn answer_many(trace: &mut [u8], out: &mut [u8]) {
     let mut turns = u64::MAX;
-    while turns > 0 && answer_next(trace, area, out) {
+    while turns > 0 && answer_next(trace, out) {
         turns -= 1;
     }
 }
 
 // The buffer has one byte more than a trace may have, so that a longer one shows.
-fn answer_one(trace: &mut [u8], area: &mut [u8], out: &mut [u8])
-    requires { ⌜ length (now area) ≡ 65536 ⌝ }
-{
+fn answer_one(trace: &mut [u8], out: &mut [u8]) {
     let n = io::read_full(STDIN_FILENO, trace);
-    answer_trace(&trace[..n], area, out);
+    answer_trace(&trace[..n], out);
 }
 
 fn asked_many() -> bool {
@@ -86,12 +80,11 @@ fn asked_many() -> bool {
 }
 
 fn main() {
-    let mut area = io::large_buffer();
     let mut out = [0u8; 65564];
     let mut trace = [0u8; 262145];
     if asked_many() {
-        answer_many(&mut trace, &mut area, &mut out);
+        answer_many(&mut trace, &mut out);
     } else {
-        answer_one(&mut trace, &mut area, &mut out);
+        answer_one(&mut trace, &mut out);
     }
 }

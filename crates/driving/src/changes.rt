@@ -10,6 +10,7 @@ ghost use Rattle.lines.specs.View.{boxOf};
 ghost use Rattle.showing.specs.Told.{told};
 ghost use Rattle.showing.specs.Ran.{RunAsks, RanAs, TellsChange, longest};
 use calls::Changed;
+use lines::AREA;
 use lines::Store;
 use showing::Ran;
 use traces::Args;
@@ -31,7 +32,7 @@ fn tell_change(done: Changed, out: &mut [u8]) -> Ran
 // "prewrite | transaction, start, time to live, kind, primary, key, row"
 pub(crate) fn run_prewrite(
     store: Store,
-    area: &mut [u8],
+    area: &mut [u8; AREA],
     call: &[u8],
     args: Args,
     out: &mut [u8],
@@ -62,7 +63,7 @@ pub(crate) fn run_prewrite(
 // "prewrite of a batch | transaction, start, time to live, primary, batch"
 pub(crate) fn run_prewrites(
     store: Store,
-    area: &mut [u8],
+    area: &mut [u8; AREA],
     call: &[u8],
     args: Args,
     out: &mut [u8],
@@ -87,9 +88,15 @@ pub(crate) fn run_prewrites(
 }
 
 // "commit | transaction, start, commit, key"
-pub(crate) fn run_commit(store: Store, area: &[u8], call: &[u8], args: Args, out: &mut [u8]) -> Ran
+pub(crate) fn run_commit(
+    store: Store,
+    area: &mut [u8; AREA],
+    call: &[u8],
+    args: Args,
+    out: &mut [u8],
+) -> Ran
     requires { ⌜ RunAsks store (now area) (now call) args (now out) ⌝ }
-    ensures { λ r. ⌜ RanAs (told (Call.CommitBatch (record { txn = args .one; start = args .two; commit = args .three }) (oneKey (bytesAt (now (call .entry)) (args .keyat) (args .keylen)))) (boxOf store (now (area .entry)))) (now (out .entry)) r (now (area .entry)) (now (out .exit)) ⌝ }
+    ensures { λ r. ⌜ RanAs (told (Call.CommitBatch (record { txn = args .one; start = args .two; commit = args .three }) (oneKey (bytesAt (now (call .entry)) (args .keyat) (args .keylen)))) (boxOf store (now (area .entry)))) (now (out .entry)) r (now (area .exit)) (now (out .exit)) ⌝ }
 {
     let at = args.keyat;
     let end = at + args.keylen;
@@ -98,9 +105,15 @@ pub(crate) fn run_commit(store: Store, area: &[u8], call: &[u8], args: Args, out
 }
 
 // "commit of a key batch | transaction, start, commit, batch"
-pub(crate) fn run_commits(store: Store, area: &[u8], call: &[u8], args: Args, out: &mut [u8]) -> Ran
+pub(crate) fn run_commits(
+    store: Store,
+    area: &mut [u8; AREA],
+    call: &[u8],
+    args: Args,
+    out: &mut [u8],
+) -> Ran
     requires { ⌜ RunAsks store (now area) (now call) args (now out) ⌝ }
-    ensures { λ r. ⌜ RanAs (told (Call.CommitBatch (record { txn = args .one; start = args .two; commit = args .three }) (bytesAt (now (call .entry)) (args .restat) (args .restlen))) (boxOf store (now (area .entry)))) (now (out .entry)) r (now (area .entry)) (now (out .exit)) ⌝ }
+    ensures { λ r. ⌜ RanAs (told (Call.CommitBatch (record { txn = args .one; start = args .two; commit = args .three }) (bytesAt (now (call .entry)) (args .restat) (args .restlen))) (boxOf store (now (area .entry)))) (now (out .entry)) r (now (area .exit)) (now (out .exit)) ⌝ }
 {
     let at = args.restat;
     let end = at + args.restlen;
@@ -118,7 +131,7 @@ pub(crate) fn run_commits(store: Store, area: &[u8], call: &[u8], args: Args, ou
 // "rollback | transaction, start, key"
 pub(crate) fn run_rollback(
     store: Store,
-    area: &mut [u8],
+    area: &mut [u8; AREA],
     call: &[u8],
     args: Args,
     out: &mut [u8],
@@ -135,7 +148,7 @@ pub(crate) fn run_rollback(
 // "rollback of a key batch | transaction, start, batch"
 pub(crate) fn run_rollbacks(
     store: Store,
-    area: &mut [u8],
+    area: &mut [u8; AREA],
     call: &[u8],
     args: Args,
     out: &mut [u8],
@@ -152,7 +165,7 @@ pub(crate) fn run_rollbacks(
 // "one-step batch | transaction, start, commit, batch"
 pub(crate) fn run_step(
     store: Store,
-    area: &mut [u8],
+    area: &mut [u8; AREA],
     call: &[u8],
     args: Args,
     out: &mut [u8],
@@ -175,7 +188,7 @@ pub(crate) fn run_step(
 // "restore | image"
 pub(crate) fn run_restore(
     store: Store,
-    area: &mut [u8],
+    area: &mut [u8; AREA],
     call: &[u8],
     args: Args,
     out: &mut [u8],

@@ -14,6 +14,7 @@ use crate::changes::run_restore;
 use crate::changes::run_rollback;
 use crate::changes::run_rollbacks;
 use crate::changes::run_step;
+use lines::AREA;
 use lines::Store;
 use rules::Answer;
 use showing::Ran;
@@ -21,7 +22,7 @@ use traces::Args;
 use traces::Op;
 
 // A call that is not run: 6, and the same store.
-fn not_run(store: Store, area: &[u8], out: &mut [u8]) -> Ran
+fn not_run(store: Store, area: &[u8; AREA], out: &mut [u8]) -> Ran
     requires { ⌜ (Made store (now area)) × (longest ≤ length (now out)) ⌝ }
     ensures { λ r. ⌜ RanAs (notRun (boxOf store (now (area .entry)))) (now (out .entry)) r (now (area .entry)) (now (out .exit)) ⌝ }
 {
@@ -33,7 +34,7 @@ fn not_run(store: Store, area: &[u8], out: &mut [u8]) -> Ran
 }
 
 // The call that the arguments say, by its op: a function for each op that changes the store, and one for all that show something.
-fn run_args(store: Store, area: &mut [u8], call: &[u8], args: Args, out: &mut [u8]) -> Ran
+fn run_args(store: Store, area: &mut [u8; AREA], call: &[u8], args: Args, out: &mut [u8]) -> Ran
     requires { ⌜ RunAsks store (now area) (now call) args (now out) ⌝ }
     ensures { λ r. ⌜ RanAs (told (callOf (now (call .entry)) args) (boxOf store (now (area .entry)))) (now (out .entry)) r (now (area .exit)) (now (out .exit)) ⌝ }
 {
@@ -56,7 +57,7 @@ const LONGEST: usize = 65564;
 
 // Runs the call on the store, and writes its answer over the front of `out`. Bytes that are no call in form tell 6, and nothing is run; so
 // is nothing where `out` is shorter than the longest answer.
-pub fn run_call(store: Store, area: &mut [u8], call: &[u8], out: &mut [u8]) -> Ran
+pub fn run_call(store: Store, area: &mut [u8; AREA], call: &[u8], out: &mut [u8]) -> Ran
     requires { ⌜ Made store (now area) ⌝ }
     ensures { λ r. ⌜ RunCall store (now (area .entry)) (now (call .entry)) (now (out .entry)) r (now (area .exit)) (now (out .exit)) ⌝ }
 {

@@ -1,7 +1,7 @@
 -- The laws of this crate.
 pub mod CloseLaws
 pub mod Chains
-pub mod WalkLaws
-pub mod SortedKeys
+pub mod RunLaws
+pub mod RowLaws
 pub mod StatLaws
 pub mod MarkLaws

@@ -1,4 +1,4 @@
-// "Statistics" and "High-water marks": what a store holds, counted in one walk over each of its tables.
+// "Statistics" and "High-water marks": what a store holds, counted in one walk over its table.
 pub mod marks;
 pub mod runs;
 pub mod statistics;

@@ -1,13 +1,17 @@
-// "High-water marks: largest lock transaction, largest stamp or start of any kind, each 0 if none."
+// "High-water marks: largest lock transaction, largest stamp or start of any kind, each 0 if none." A default's start is its line's, so the
+// lines tell.
 ghost use mathlib.Core.Path.{_≡_};
-ghost use Prim.Native.Nat.{max};
-ghost use Rattle.forms.specs.Bytes.{Bytes};
+ghost use Prim.Native.Nat.{_+_, _≤_, max};
+ghost use lib.ListN.{length};
 ghost use Rattle.rules.specs.Figures.{marks};
-ghost use Rattle.lines.specs.View.{boxOf, lineIn};
+ghost use Rattle.lines.specs.View.{boxOf, lineOf};
 ghost use Rattle.lines.specs.Made.{Made};
-ghost use Rattle.figures.specs.Lines.{addMark};
+ghost use Rattle.figures.specs.Walks.{addMark};
+use lines::AREA;
 use lines::Line;
+use lines::Slot;
 use lines::Store;
+use lines::views::eight_at;
 use rules::Marks;
 
 fn larger(a: u64, b: u64) -> u64
@@ -20,54 +24,45 @@ fn larger(a: u64, b: u64) -> u64
 }
 
 // One line more.
-fn mark_line(m: Marks, line: Line) -> Marks
-    ensures { λ r. ⌜ ((area : Bytes) → r ≡ addMark (lineIn area line) m) ⌝ }
+fn mark_line(m: Marks, s: Slot, area: &[u8]) -> Marks
+    requires { ⌜ s .at + s .len + 16 ≤ length (now area) ⌝ }
+    ensures { λ r. ⌜ r ≡ addMark (lineOf (now (area .entry)) s) m ⌝ }
 {
+    let at = s.at as usize + s.len as usize;
+    let first = eight_at(area, at);
+    let start = eight_at(area, at + 8);
+    let stamp = larger(start, m.stamp);
+    let line = s.line;
     match line {
-        Line::Standing(l) => {
-            let txn = larger(l.txn, m.txn);
-            let stamp = larger(l.start, m.stamp);
+        Line::Standing(_) => {
+            let txn = larger(first, m.txn);
             Marks {
                 txn: txn,
                 stamp: stamp,
             }
         }
-        Line::Finished(w) => {
-            let own = larger(w.stamp, w.start);
-            let stamp = larger(own, m.stamp);
+        Line::Finished(_) => {
+            let last = larger(first, stamp);
             Marks {
                 txn: m.txn,
-                stamp: stamp,
+                stamp: last,
             }
         }
     }
 }
 
-pub fn allocator_high_water_marks(store: Store, area: &[u8]) -> Marks
+pub fn allocator_high_water_marks(store: Store, area: &[u8; AREA]) -> Marks
     requires { ⌜ Made store (now area) ⌝ }
     ensures { λ r. ⌜ r ≡ marks (boxOf store (now (area .entry))) ⌝ }
 {
     let lines = store.lines;
-    let defaults = store.defaults;
     let load = store.load;
     let mut m = Marks { txn: 0, stamp: 0 };
     let mut i = load.lines;
     while 0 < i {
         i -= 1;
         let s = lines[i];
-        let line = s.line;
-        m = mark_line(m, line);
+        m = mark_line(m, s, area);
     }
-    let mut start: u64 = 0;
-    let mut j = load.defaults;
-    while 0 < j {
-        j -= 1;
-        let d = defaults[j];
-        start = larger(d.start, start);
-    }
-    let stamp = larger(m.stamp, start);
-    Marks {
-        txn: m.txn,
-        stamp: stamp,
-    }
+    m
 }

@@ -1,17 +1,16 @@
-// What a walk over keys keeps.
+// What the walk over lines keeps.
 use rules::Figures;
 
-// The key before, which is the `len` bytes of the area from `at`, the length of its run, and the figures of the runs that have ended. Before
-// the first key the length is 0.
-pub struct Runs {
-    pub at: u16,
-    pub len: u8,
+// The length of the run of one key, and the figures of the runs that have ended.
+pub struct Run {
     pub long: usize,
     pub closed: Figures,
 }
 
-// What a walk over lines keeps: the locks, and of the records the runs.
+// The key before, which is the `len` bytes of the area from `at`, and the runs of rows and of records. Before the first key the length is 0.
 pub struct Seen {
-    pub locks: usize,
-    pub runs: Runs,
+    pub at: usize,
+    pub len: usize,
+    pub rows: Run,
+    pub records: Run,
 }

@@ -1,53 +1,88 @@
 // "Statistics: keys with a default, defaults, locks, keys with a record, records; for defaults and for records apart, chains of 1, 2 to 4,
-// 5 to 16 and above 16, and the longest."
+// 5 to 16 and above 16, and the longest." A default is the row of a Put line, so both chains are counted over the lines.
 ghost use mathlib.Core.Path.{_≡_};
+ghost use Prim.Native.Nat.{_≤_};
 ghost use Rattle.rules.specs.Figures.{stats};
 ghost use Rattle.lines.specs.View.{boxOf};
 ghost use Rattle.lines.specs.Made.{Made};
-ghost use Rattle.figures.specs.Lines.{NextLine, LineCounted};
+ghost use Rattle.figures.specs.Walks.{ifRow, NextLine, LineCounted};
 use crate::runs::Seen;
 use crate::walks::close;
-use crate::walks::no_runs;
-use crate::walks::one_key;
+use crate::walks::next_run;
+use crate::walks::no_run;
+use lines::AREA;
 use lines::Line;
 use lines::Slot;
 use lines::Store;
+use rules::Kind;
 use rules::Stats;
 
-// One line more: a lock is counted, a record's key goes to the runs.
+// Only a Put has a row.
+fn if_row(kind: Kind) -> usize
+    ensures { λ r. ⌜ (r ≡ ifRow kind) × (r ≤ 1) ⌝ }
+{
+    match kind {
+        Kind::Put => 1,
+        Kind::Delete => 0,
+        Kind::Rollback => 0,
+    }
+}
+
+// One line more.
 fn one_line(seen: Seen, s: Slot, area: &[u8]) -> Seen
     requires { ⌜ NextLine (now area) seen s ⌝ }
     ensures { λ q. ⌜ LineCounted (now (area .entry)) seen s q ⌝ }
 {
-    let runs = seen.runs;
+    let a = seen.at;
+    let e = a + seen.len;
+    let at = s.at as usize;
+    let len = s.len as usize;
+    let f = at + len;
+    let same = forms::same(&area[a..e], &area[at..f]);
+    let old_rows = seen.rows;
+    let old_records = seen.records;
     let line = s.line;
     match line {
-        Line::Standing(_) => Seen {
-            locks: seen.locks + 1,
-            runs: runs,
-        },
-        Line::Finished(_) => {
-            let more = one_key(runs, area, s.at, s.len);
+        Line::Standing(l) => {
+            let kind = l.kind;
+            let row = if_row(kind);
+            let rows = next_run(old_rows, same, row);
+            let records = next_run(old_records, same, 0);
             Seen {
-                locks: seen.locks,
-                runs: more,
+                at: at,
+                len: len,
+                rows: rows,
+                records: records,
+            }
+        }
+        Line::Finished(w) => {
+            let kind = w.kind;
+            let row = if_row(kind);
+            let rows = next_run(old_rows, same, row);
+            let records = next_run(old_records, same, 1);
+            Seen {
+                at: at,
+                len: len,
+                rows: rows,
+                records: records,
             }
         }
     }
 }
 
-// Both tables are walked from the last entry to the first: equal keys stand together there.
-pub fn stats(store: Store, area: &[u8]) -> Stats
+// The table is walked from the last line to the first: equal keys stand together there.
+pub fn stats(store: Store, area: &[u8; AREA]) -> Stats
     requires { ⌜ Made store (now area) ⌝ }
     ensures { λ r. ⌜ r ≡ stats (boxOf store (now (area .entry))) ⌝ }
 {
     let lines = store.lines;
-    let defaults = store.defaults;
     let load = store.load;
-    let none = no_runs();
+    let none = no_run();
     let mut seen = Seen {
-        locks: 0,
-        runs: none,
+        at: 0,
+        len: 0,
+        rows: none,
+        records: none,
     };
     let mut i = load.lines;
     while 0 < i {
@@ -55,21 +90,15 @@ pub fn stats(store: Store, area: &[u8]) -> Stats
         let s = lines[i];
         seen = one_line(seen, s, area);
     }
-    let mut held = none;
-    let mut j = load.defaults;
-    while 0 < j {
-        j -= 1;
-        let d = defaults[j];
-        held = one_key(held, area, d.at, d.len);
-    }
-    let runs = seen.runs;
-    let line_figures = runs.closed;
-    let of_records = close(runs.long, line_figures);
-    let held_figures = held.closed;
-    let of_defaults = close(held.long, held_figures);
+    let rows = seen.rows;
+    let row_figures = rows.closed;
+    let of_rows = close(rows.long, row_figures);
+    let records = seen.records;
+    let record_figures = records.closed;
+    let of_records = close(records.long, record_figures);
     Stats {
-        defaults: of_defaults,
-        locks: seen.locks,
+        defaults: of_rows,
+        locks: load.locks,
         records: of_records,
     }
 }

@@ -1,11 +1,11 @@
-// A walk over keys, one key at a time: which class a run falls in when it ends, and what one key more changes.
+// Runs of equal keys: which class a run falls in when it ends, and what one line more changes.
 ghost use mathlib.Core.Path.{_≡_};
-ghost use mathlib.Core.Bool.{_&&_, not};
+ghost use mathlib.Core.Bool.{_&&_};
 ghost use Prim.Native.Nat.{_≤_, max};
 ghost use lib.Dec.{leb};
 ghost use Rattle.rules.specs.Figures.{sucIf};
-ghost use Rattle.figures.specs.Runs.{Few, ended, noRuns, NextKey, KeyCounted};
-use crate::runs::Runs;
+ghost use Rattle.figures.specs.Walks.{Few, ended, noRun, nextRun};
+use crate::runs::Run;
 use rules::Figures;
 
 // One more, where `n` is from `a` to `e`.
@@ -17,17 +17,6 @@ fn from_to(a: usize, e: usize, n: usize, count: usize) -> usize
         return count;
     }
     if e < n {
-        return count;
-    }
-    count + 1
-}
-
-// One more, where `n` is above `a`.
-fn over(a: usize, n: usize, count: usize) -> usize
-    requires { ⌜ count ≤ 1024 ⌝ }
-    ensures { λ r. ⌜ r ≡ sucIf (not (leb n a)) count ⌝ }
-{
-    if n <= a {
         return count;
     }
     count + 1
@@ -53,7 +42,7 @@ pub fn close(n: usize, f: Figures) -> Figures
     let one = from_to(1, 1, n, f.one);
     let four = from_to(2, 4, n, f.four);
     let sixteen = from_to(5, 16, n, f.sixteen);
-    let above = over(16, n, f.above);
+    let above = from_to(17, 1024, n, f.above);
     let longest = longer(n, f.longest);
     Figures {
         keys: f.keys + 1,
@@ -67,12 +56,10 @@ pub fn close(n: usize, f: Figures) -> Figures
 }
 
 // No key yet.
-pub fn no_runs() -> Runs
-    ensures { λ r. ⌜ r ≡ noRuns ⌝ }
+pub fn no_run() -> Run
+    ensures { λ r. ⌜ r ≡ noRun ⌝ }
 {
-    Runs {
-        at: 0,
-        len: 0,
+    Run {
         long: 0,
         closed: Figures {
             keys: 0,
@@ -86,29 +73,21 @@ pub fn no_runs() -> Runs
     }
 }
 
-// One key more, the `len` bytes of the area from `at`: the run goes on, or ends and another begins.
-pub fn one_key(r: Runs, area: &[u8], at: u16, len: u8) -> Runs
-    requires { ⌜ NextKey (now area) r at len ⌝ }
-    ensures { λ q. ⌜ KeyCounted (now (area .entry)) r at len q ⌝ }
+// One line more, which adds `more` to the run of its key: the run goes on, or ends and another begins.
+pub fn next_run(r: Run, same: bool, more: usize) -> Run
+    requires { ⌜ (Few (r .long) (r .closed)) × (more ≤ 1) ⌝ }
+    ensures { λ q. ⌜ q ≡ nextRun same more r ⌝ }
 {
-    let a = r.at as usize;
-    let e = a + r.len as usize;
-    let b = at as usize;
-    let f = b + len as usize;
     let closed = r.closed;
-    if forms::same(&area[a..e], &area[b..f]) {
-        return Runs {
-            at: r.at,
-            len: r.len,
-            long: r.long + 1,
+    if same {
+        return Run {
+            long: more + r.long,
             closed: closed,
         };
     }
-    let more = close(r.long, closed);
-    Runs {
-        at: at,
-        len: len,
-        long: 1,
-        closed: more,
+    let done = close(r.long, closed);
+    Run {
+        long: more,
+        closed: done,
     }
 }

@@ -1,5 +1,6 @@
 pub mod Orders
 pub mod CompareLaws
+pub mod SameLaws
 pub mod ReadLaws
 pub mod NumberLaws
 pub mod KeyLaws

@@ -35,15 +35,21 @@ pub fn compare(a: &[u8], b: &[u8]) -> Order
     }
 }
 
+// From the last byte to the first: keys of one table begin alike.
 pub fn same(a: &[u8], b: &[u8]) -> bool
     ensures { λ r. ⌜ r ≡ eqBytes (now (a .entry)) (now (b .entry)) ⌝ }
 {
-    let o = compare(a, b);
-    match o {
-        Order::Less => false,
-        Order::Equal => true,
-        Order::Greater => false,
+    let mut n = a.len();
+    if n != b.len() {
+        return false;
     }
+    while 0 < n {
+        n -= 1;
+        if a[n] != b[n] {
+            return false;
+        }
+    }
+    true
 }
 
 pub fn below(a: &[u8], b: &[u8]) -> bool

@@ -108,7 +108,7 @@ abbrev pub Few : {B : Type 0} → List B → Type 0
 Few {B} xs = (xs ≡ []) ⊎ ((z : B) × (xs ≡ z ∷ []))
 
 module _ {A B : Type 0} (p : A → Bool) (f : A → B) (like : A → A → Bool) (alike : (x y : A) → p x ≡ true → p y ≡ true → like x y ≡ true) where
-  none-chosen : (x : A) (ys : List A) → p x ≡ true → noneLike like x ys ≡ true → chosen p f ys ≡ []
+  pub none-chosen : (x : A) (ys : List A) → p x ≡ true → noneLike like x ys ≡ true → chosen p f ys ≡ []
   unfolding noneLike chosen consIf
   none-chosen x [] h n = refl
   none-chosen x (y ∷ ys) h n =

@@ -1,30 +1,31 @@
 -- One record more: what a history says then, and what a key has in two lists of lines, one after the other.
 -- Assumes nothing.
-use Prim.Native.Nat.{ℕ}
+use Prim.Native.Nat.{ℕ, _≤_, _<_}
 use mathlib.Core.Path.{_≡_, refl, sym, ap, _∙_}
 use mathlib.Core.Bool.{Bool, true, false, _&&_, not, and-true, and-assoc}
 use mathlib.Core.List.{List, [], _∷_, _++_, reverse, reverse-append}
 use mathlib.Core.Option.{Option, none, some}
 use lib.Dec.{ltb, leb, eqb}
-use Rattle.forms.specs.Bytes.{eqBytes}
+use borrow.Author.Tests.{le-leb, lt-leb}
+use Rattle.forms.specs.Bytes.{Bytes, eqBytes}
 use Rattle.forms.specs.Key.{Key}
-use Rattle.rules.specs.declared.answers.Answer.{Answer}
-use Rattle.rules.specs.declared.answers.Answer.the-variants.{Accepted, No, Held}
+use Rattle.rules.specs.declared.records.Kind.{Kind}
 use Rattle.rules.specs.declared.records.Kind.the-variants.{Rollback}
 use Rattle.rules.specs.declared.records.Record.{Record}
-use Rattle.rules.specs.Answers.{_▸_, need}
 use Rattle.rules.specs.Box as box
-use Rattle.rules.specs.Sound.{soundRecord, allSound}
-use Rattle.rules.specs.Calls as calls
-use Rattle.rules.specs.Calls.{allBelow, stampedAt}
+use Rattle.rules.specs.Calls.{allBelow, stampedAt, foundIf}
 use Rattle.rules.specs.Commit.{withStart}
-use Rattle.rules.specs.Rollback.{rollbackRecords}
 use Rattle.rules.specs.Read.{newestFirst, atOrBelow, keepIf}
-use Rattle.laws.proofs.StepLaws.{then-assoc}
+use Rattle.lines.specs.declared.views.Written.{Written}
 use Rattle.lines.specs.declared.keys.Found.{Found}
-use Rattle.lines.specs.declared.keys.Newest.{Newest}
+use Rattle.lines.specs.declared.keys.Found.the-variants.{Nothing, Is}
 use Rattle.lines.specs.declared.keys.History.{History}
-use Rattle.lines.specs.Looks.{foundOf, seesIf, sees, historyOf, foundIf, orFound, rollsBy, olderIf, newerBy, moreHistory}
+use Rattle.lines.specs.declared.keys.Locked.the-variants.{By}
+use Rattle.lines.specs.declared.keys.Looked.{Looked}
+use Rattle.lines.specs.declared.views.Intent.{Intent}
+use Rattle.lines.specs.declared.views.Told.{Told}
+use Rattle.lines.specs.declared.views.Told.the-variants as told
+use Rattle.lines.specs.Looks.{recordIn, said, isIf, orFound, newerBy, noHistory, moreHistory, either, seeLine, notRolled, RowThere, FoundThere, HistoryAt}
 
 -- a test of each
 module _ (t : Record → Bool) (all : List Record → Bool) (nil : all [] ≡ true) (cons : (w : Record) (ws : List Record) → all (w ∷ ws) ≡ t w && all ws) where
@@ -33,48 +34,22 @@ module _ (t : Record → Bool) (all : List Record → Bool) (nil : all [] ≡ tr
   each-snoc (v ∷ ws) w =
       cons v (ws ++ w ∷ []) ∙ ap (λ (b : Bool). t v && b) (each-snoc ws w) ∙ sym (and-assoc (t v) (all ws) (t w)) ∙ ap (λ (b : Bool). b && t w) (sym (cons v ws))
 
+abbrev orSome : Option Record → Bool → Record → Option Record
+orSome (some v) hit w = some v
+orSome none hit w = foundIf hit w none
+
 -- the first that passes a test
-module _ (t : Record → Bool) (first : List Record → Option Record) (nil : first [] ≡ none) (cons : (w : Record) (ws : List Record) → first (w ∷ ws) ≡ calls.foundIf (t w) w (first ws)) where
-  first-snoc : (ws : List Record) (w : Record) → foundOf (first (ws ++ w ∷ [])) ≡ orFound (foundOf (first ws)) (t w) w
-  unfolding calls.foundIf
-  first-snoc [] w = ap foundOf (cons w [] ∙ ap (calls.foundIf (t w) w) nil) ∙ go (t w) ∙ ap (λ (o : Option Record). orFound (foundOf o) (t w) w) (sym nil)
+module _ (t : Record → Bool) (first : List Record → Option Record) (nil : first [] ≡ none) (cons : (w : Record) (ws : List Record) → first (w ∷ ws) ≡ foundIf (t w) w (first ws)) where
+  first-snoc : (ws : List Record) (w : Record) → first (ws ++ w ∷ []) ≡ orSome (first ws) (t w) w
+  unfolding foundIf
+  first-snoc [] w = cons w [] ∙ ap (foundIf (t w) w) nil ∙ ap (λ (o : Option Record). orSome o (t w) w) (sym nil)
+  first-snoc (v ∷ ws) w = cons v (ws ++ w ∷ []) ∙ go (t v) (first-snoc ws w) ∙ ap (λ (o : Option Record). orSome o (t w) w) (sym (cons v ws))
     where
-      go : (b : Bool) → foundOf (calls.foundIf b w none) ≡ foundIf b w
-      go true = refl
-      go false = refl
-  first-snoc (v ∷ ws) w = ap foundOf (cons v (ws ++ w ∷ [])) ∙ go (t v) (first-snoc ws w) ∙ ap (λ (o : Option Record). orFound (foundOf o) (t w) w) (sym (cons v ws))
-    where
-      go : (b : Bool) → foundOf (first (ws ++ w ∷ [])) ≡ orFound (foundOf (first ws)) (t w) w → foundOf (calls.foundIf b v (first (ws ++ w ∷ []))) ≡ orFound (foundOf (calls.foundIf b v (first ws))) (t w) w
+      go : (b : Bool) → first (ws ++ w ∷ []) ≡ orSome (first ws) (t w) w → foundIf b v (first (ws ++ w ∷ [])) ≡ orSome (foundIf b v (first ws)) (t w) w
       go true h = refl
       go false h = h
 
-then-last : (a b : Answer) → a ▸ b ▸ Accepted ≡ a ▸ b
-unfolding _▸_
-then-last Accepted Accepted = refl
-then-last Accepted (No n) = refl
-then-last Accepted (Held h) = refl
-then-last (No n) b = refl
-then-last (Held h) b = refl
-
--- a record's two steps of a rollback
-abbrev one : Record → Answer
-one w = need (soundRecord w) 9
-
-abbrev two : ℕ → Record → Answer
-two s w = need (not (eqb s (w .start) && not (box.eqKind (w .kind) Rollback))) 8
-
-then-first : (a : Answer) → a ≡ Accepted ▸ a
-unfolding _▸_
-then-first a = refl
-
-rolls-snoc : (s : ℕ) (ws : List Record) (w : Record) → rollbackRecords s (ws ++ w ∷ []) ≡ rollsBy (rollbackRecords s ws) (soundRecord w) s w
-unfolding rollbackRecords
-rolls-snoc s [] w = then-last (one w) (two s w) ∙ then-first (one w ▸ two s w)
-rolls-snoc s (v ∷ ws) w =
-    ap (λ (a : Answer). one v ▸ two s v ▸ a) (rolls-snoc s ws w)
-    ∙ sym (then-assoc (one v) (two s v ▸ rollbackRecords s ws) (one w ▸ two s w) ∙ ap (λ (a : Answer). one v ▸ a) (then-assoc (two s v) (rollbackRecords s ws) (one w ▸ two s w)))
-
-kept-snoc : (m : ℕ) (ws : List Record) (w : Record) → atOrBelow m (ws ++ w ∷ []) ≡ atOrBelow m ws ++ keepIf (leb (w .stamp) m) w []
+pub kept-snoc : (m : ℕ) (ws : List Record) (w : Record) → atOrBelow m (ws ++ w ∷ []) ≡ atOrBelow m ws ++ keepIf (leb (w .stamp) m) w []
 unfolding atOrBelow keepIf
 kept-snoc m [] w = refl
 kept-snoc m (v ∷ ws) w = go (leb (v .stamp) m) (kept-snoc m ws w)
@@ -83,29 +58,75 @@ kept-snoc m (v ∷ ws) w = go (leb (v .stamp) m) (kept-snoc m ws w)
     go true h = ap (λ (l : List Record). v ∷ l) h
     go false h = h
 
-newest-snoc : (m : ℕ) (ws : List Record) (w : Record) → sees (newestFirst m (ws ++ w ∷ [])) ≡ newerBy (sees (newestFirst m ws)) (soundRecord w) m w
-unfolding newestFirst keepIf sees
-newest-snoc m ws w =
-    ap (λ (l : List Record). sees (reverse l)) (kept-snoc m ws w)
-    ∙ ap sees (reverse-append (atOrBelow m ws) (keepIf (leb (w .stamp) m) w []))
-    ∙ go (leb (w .stamp) m)
+newest-snoc : (m : ℕ) (ws : List Record) (w : Record) → notRolled (newestFirst m (ws ++ w ∷ [])) ≡ foundIf (leb (w .stamp) m && not (box.eqKind (w .kind) Rollback)) w (notRolled (newestFirst m ws))
+unfolding newestFirst keepIf notRolled foundIf
+newest-snoc m ws w = ap (λ (l : List Record). notRolled (reverse l)) (kept-snoc m ws w) ∙ ap notRolled (reverse-append (atOrBelow m ws) (keepIf (leb (w .stamp) m) w [])) ∙ go (leb (w .stamp) m)
   where
-    go : (b : Bool) → sees (reverse (keepIf b w []) ++ reverse (atOrBelow m ws)) ≡ olderIf b (seesIf (soundRecord w) (w .kind) (w .start) (sees (reverse (atOrBelow m ws)))) (sees (reverse (atOrBelow m ws)))
+    go : (b : Bool) → notRolled (reverse (keepIf b w []) ++ reverse (atOrBelow m ws)) ≡ foundIf (b && not (box.eqKind (w .kind) Rollback)) w (notRolled (reverse (atOrBelow m ws)))
     go true = refl
     go false = refl
 
-pub history-snoc : (start stamp : ℕ) (ws : List Record) (w : Record) → historyOf start stamp (ws ++ w ∷ []) ≡ moreHistory start stamp (historyOf start stamp ws) w
-unfolding historyOf moreHistory
-history-snoc start stamp ws w =
-    cc (
-      each-snoc soundRecord allSound (unfold allSound in refl) (λ v vs. unfold allSound in refl) ws w,
-      each-snoc (λ (v : Record). ltb (v .stamp) start) (allBelow start) (unfold allBelow in refl) (λ v vs. unfold allBelow in refl) ws w,
-      each-snoc (λ (v : Record). ltb (v .stamp) stamp) (allBelow stamp) (unfold allBelow in refl) (λ v vs. unfold allBelow in refl) ws w,
-      first-snoc (λ (v : Record). eqb start (v .start)) (withStart start) (unfold withStart in refl) (λ v vs. unfold withStart in refl) ws w,
-      first-snoc (λ (v : Record). eqb stamp (v .stamp)) (stampedAt stamp) (unfold stampedAt in refl) (λ v vs. unfold stampedAt in refl) ws w,
-      rolls-snoc start ws w,
-      newest-snoc stamp ws w,
-    )
+said-or : (f : Found) (hit : Bool) (w : Written) → said (orFound f hit w) ≡ orSome (said f) hit (recordIn w)
+unfolding foundIf
+said-or (Is v) hit w = refl
+said-or Nothing true w = refl
+said-or Nothing false w = refl
+
+said-if : (hit : Bool) (w : Written) (old : Found) → said (isIf hit w old) ≡ foundIf hit (recordIn w) (said old)
+unfolding foundIf
+said-if true w old = refl
+said-if false w old = refl
+
+module _ {top : ℕ} {area : Bytes} {ds : List box.Default} {key : Key} where
+  pub history-none : {start stamp : ℕ} → HistoryAt top area ds key start stamp [] noHistory
+  unfolding allBelow withStart stampedAt newestFirst atOrBelow notRolled
+  history-none = record { below = refl; newer = refl; with = refl; at = refl; newest = refl; with-row = tt; at-row = tt; newest-row = tt }
+
+  module _ (w : Written) (r : RowThere top area ds key (w .start) (w .kind) (w .rowat) (w .rowlen)) where
+    if-there : (hit : Bool) (old : Found) → FoundThere top area ds key old → FoundThere top area ds key (isIf hit w old)
+    if-there true old f = r
+    if-there false old f = f
+
+    or-there : (f : Found) (hit : Bool) → FoundThere top area ds key f → FoundThere top area ds key (orFound f hit w)
+    or-there (Is v) hit f = f
+    or-there Nothing hit f = if-there hit Nothing f
+
+    pub history-more : {start stamp : ℕ} {ws : List Record} {h : History} → HistoryAt top area ds key start stamp ws h → HistoryAt top area ds key start stamp (ws ++ recordIn w ∷ []) (moreHistory start stamp h w)
+    history-more {start} {stamp} {ws} {h} v = record {
+      below = ap (λ (b : Bool). b && ltb (w .stamp) start) (v .below) ∙ sym (each-snoc (λ (u : Record). ltb (u .stamp) start) (allBelow start) (unfold allBelow in refl) (λ u us. unfold allBelow in refl) ws (recordIn w));
+      newer = ap (λ (b : Bool). b && ltb (w .stamp) stamp) (v .newer) ∙ sym (each-snoc (λ (u : Record). ltb (u .stamp) stamp) (allBelow stamp) (unfold allBelow in refl) (λ u us. unfold allBelow in refl) ws (recordIn w));
+      with =
+          said-or (h .with) (eqb start (w .start)) w ∙ ap (λ (o : Option Record). orSome o (eqb start (w .start)) (recordIn w)) (v .with)
+          ∙ sym (first-snoc (λ (u : Record). eqb start (u .start)) (withStart start) (unfold withStart in refl) (λ u us. unfold withStart in refl) ws (recordIn w));
+      at =
+          said-or (h .at) (eqb stamp (w .stamp)) w ∙ ap (λ (o : Option Record). orSome o (eqb stamp (w .stamp)) (recordIn w)) (v .at)
+          ∙ sym (first-snoc (λ (u : Record). eqb stamp (u .stamp)) (stampedAt stamp) (unfold stampedAt in refl) (λ u us. unfold stampedAt in refl) ws (recordIn w));
+      newest =
+          said-if (leb (w .stamp) stamp && not (box.eqKind (w .kind) Rollback)) w (h .newest) ∙ ap (foundIf (leb (w .stamp) stamp && not (box.eqKind (w .kind) Rollback)) (recordIn w)) (v .newest)
+          ∙ sym (newest-snoc stamp ws (recordIn w));
+      with-row = or-there (h .with) (eqb start (w .start)) (v .with-row);
+      at-row = or-there (h .at) (eqb stamp (w .stamp)) (v .at-row);
+      newest-row = if-there (leb (w .stamp) stamp && not (box.eqKind (w .kind) Rollback)) (h .newest) (v .newest-row);
+    }
+
+-- ---- `newer_by`
+
+module _ (old : Found) (moment : ℕ) (w : Written) where
+  pub newer-late : moment < w .stamp → old ≡ newerBy old moment w
+  newer-late h = rw (lt-leb (w .stamp) moment h)
+
+  pub newer-kind : {k : Kind} → w .stamp ≤ moment → w .kind ≡ k → isIf (not (box.eqKind k Rollback)) w old ≡ newerBy old moment w
+  newer-kind {k} h q = rw (le-leb (w .stamp) moment h, q)
+
+-- ---- `see`
+
+module _ (start stamp next : ℕ) (seen : Looked) {line : Told} where
+  pub see-standing : {l : Intent} → line ≡ told.Standing l → record { first = seen .first; place = next; lock = By l; history = seen .history } ≡ seeLine start stamp next seen line
+  see-standing e = rw e
+
+  pub see-finished : {w : Written} {h : History} {t : Bool} → line ≡ told.Finished w → h ≡ moreHistory start stamp (seen .history) w → ltb (w .stamp) stamp ≡ t
+      → record { first = seen .first; place = either t next (seen .place); lock = seen .lock; history = h } ≡ seeLine start stamp next seen line
+  see-finished e p q = rw (e, p, ← q)
 
 -- ---- two lists of lines, one after the other
 

@@ -1,8 +1,9 @@
-pub mod HistoryLaws
-pub mod OrderLaws
-pub mod FindLaws
-pub mod SeeLaws
-pub mod LookLaws
-pub mod WalkLaws
+pub mod MemberLaws
+pub mod StoredLaws
 pub mod FreshLaws
-pub mod MadeLaws
+pub mod ViewLaws
+pub mod HistoryLaws
+pub mod LookLaws
+pub mod SoundLaws
+pub mod NeedLaws
+pub mod TidyLaws

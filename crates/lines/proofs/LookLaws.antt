@@ -1,223 +1,270 @@
--- The walk of `look` over the lines of a key: what was seen is what the lines up to the place say.
+-- The walk of `look`: the places are the lesser of the walk's own and those looked for, lock and history are those of the lines passed.
 -- Assumes nothing.
 use Prim.Native.Nat.{ℕ, suc, _+_, _≤_, _<_}
 use native.Mathlib.Omega.{arith}
 use native.Mathlib.Numerals.{add-one}
 use mathlib.Core.Path.{_≡_, refl, sym, ap, ap₂, _∙_, subst}
-use mathlib.Core.Bool.{Bool, true, false, _&&_, true≢false, false≢true}
+use mathlib.Core.Logic.{inl, inr}
+use mathlib.Core.Bool.{Bool, true, false}
 use mathlib.Core.List.{List, [], _∷_, _++_, append-nil}
 use mathlib.Core.Option.{Option, none, some}
 use lib.Dec.{ltb}
 use lib.ListN.{length, getD, take, drop, take-append-drop}
-use lib.Seq.{take-suc}
-use Rattle.seqs.specs.Tables.{All, shown, leading, moreIf}
-use Rattle.seqs.proofs.Alls.{all-tail, all-none, all-weaken}
-use Rattle.seqs.proofs.Tables.{shown-length, shown-at}
-use Rattle.seqs.proofs.Leading.{Leading, leading-more, leading-here, leading-all, leading-after}
-use Rattle.forms.specs.Bytes.{Bytes, eqBytes, ltBytes}
+use lib.Seq.{take-suc, getD-take, length-take-le}
+use borrow.Author.Tests.{ltb-true, ltb-false}
+use Rattle.seqs.specs.Tables.{All, shown}
+use Rattle.seqs.proofs.Alls.{all-at}
+use Rattle.seqs.proofs.Tables.{table-at, table-long, shown-length, shown-at, shown-drop, shown-past}
+use Rattle.forms.specs.Bytes.{Bytes, cmp, isLess, isEqual, eqBytes, ltBytes}
 use Rattle.forms.specs.Key.{Key}
-use Rattle.forms.proofs.Orders.{eqBytes-sym}
-use Rattle.rules.specs.Box as box
-use Rattle.rules.specs.Calls.{allBelow}
+use Rattle.forms.specs.declared.key.Order.the-variants.{Less, Equal, Greater}
+use Rattle.forms.proofs.Orders.{eqBytes-sym, eqBytes-true, ltBytes-else, ltBytes-not-eq′}
 use Rattle.rules.specs.declared.records.Record.{Record}
+use Rattle.rules.specs.Box as box
+use Rattle.rules.specs.Box.{startOf, kindIn}
 use Rattle.laws.specs.Places.{linesBefore}
-use Rattle.laws.proofs.BoxOrder.{before-same, before-less}
-use Rattle.lines.specs.declared.store.Intent.{Intent}
+use Rattle.laws.proofs.Sorted.{In, fewer-drop, ordered-fewer}
+use Rattle.laws.proofs.BoxOrder.{before-trans, before-irrefl, before-same, before-less, before-not-above, order-lines}
+use Rattle.laws.proofs.PlaceLaws.{howMany-le, at-place, before-down}
+use Rattle.laws.proofs.LinePlaces.{line-below, past-lines}
+use Rattle.lines.proofs.MemberLaws.{fewer-take, lock-shown}
 use Rattle.lines.specs.declared.store.Slot.{Slot}
+use Rattle.lines.specs.declared.store.Stood.{Stood}
+use Rattle.lines.specs.declared.store.Store.{Store}
 use Rattle.lines.specs.declared.store.Line.{Line}
 use Rattle.lines.specs.declared.store.Line.the-variants.{Standing, Finished}
-use Rattle.lines.specs.declared.store.Store.{Store}
+use Rattle.lines.specs.declared.views.Told.{Told}
+use Rattle.lines.specs.declared.keys.Locked.the-variants.{Nobody}
 use Rattle.lines.specs.declared.keys.History.{History}
-use Rattle.lines.specs.declared.keys.Locked.{Locked}
-use Rattle.lines.specs.declared.keys.Locked.the-variants.{Nobody, By}
 use Rattle.lines.specs.declared.keys.Looked.{Looked}
-use Rattle.lines.specs.View.{lockIn, lineIn, keyOf, lineOf, boxOf, noSlot}
-use Rattle.lines.specs.Made.{Built, LineBelow}
-use Rattle.lines.specs.Looks.{stampLine, historyOf, moreHistory, orLocked, either, seeLine, lockedBy, LockBelow, LookedAt, ofLines, LinesOf}
-use Rattle.lines.proofs.HistoryLaws.{history-snoc, records-append, orLock, lock-append}
-use Rattle.lines.proofs.OrderLaws.{ordered-drop, keyBelow, key-place, stampBelow, stamp-place, NotBelow, Above, all-not-below, all-above, below-other, records-none, lock-none, records-above, lock-above, place-above}
-use Rattle.lines.proofs.FindLaws.{Finding, slot-in, line-here, lines-past, lines-order, finding-here, finding-end}
+use Rattle.lines.specs.View.{lineIn, past, rowLen, rowIf, keyOf, lineOf, rowIn, defaultIn, stored, boxOf, noSlot}
+use Rattle.lines.specs.Made.{SlotBelow, Built}
+use Rattle.lines.specs.Looks.{toldIn, toldOf, lockedBy, noHistory, either, seeLine, RowThere, LockThere, HistoryAt, stampLine, recordPlace, LookedAt}
+use Rattle.lines.proofs.ViewLaws.{past-row, lean-row}
+use Rattle.lines.proofs.StoredLaws.{row-held}
+use Rattle.lines.proofs.HistoryLaws.{history-none, history-more, records-append, orLock, lock-append}
+
+-- p is the lesser of i and n
+pub record Lesser (i n p : ℕ) : Type 0 where
+  pub before : i ≤ n → p ≡ i
+  pub after : n ≤ i → p ≡ n
+
+lesser-more : {i n : ℕ} → i < n → Lesser (i + 1) n (i + 1)
+lesser-more h = record { before = λ _. refl; after = λ g. omega arith }
+
+lesser-same : {i n p : ℕ} → n ≤ i → Lesser i n p → Lesser (i + 1) n p
+lesser-same h l = record { before = λ g. absurd (omega arith); after = λ g. l .after h }
+
+lesser-either : {i n p : ℕ} (t : Bool) → t ≡ ltb i n → Lesser i n p → Lesser (i + 1) n (either t (i + 1) p)
+lesser-either true e l = lesser-more (ltb-true _ _ (sym e))
+lesser-either false e l = lesser-same (ltb-false _ _ (sym e)) l
 
 pub record Looking (area key : Bytes) (start stamp : ℕ) (slots : List Slot) (n i : ℕ) (seen : Looked) : Type 0 where
   pub low : i ≤ n
-  pub first-is : seen .first ≡ linesBefore key (shown (lineOf area) n slots)
-  pub history-is : seen .history ≡ historyOf start stamp (box.recordsOf key (take i (shown (lineOf area) n slots)))
+  pub first-is : Lesser i (linesBefore key (shown (lineOf area) n slots)) (seen .first)
+  pub place-is : Lesser i (recordPlace key stamp (shown (lineOf area) n slots)) (seen .place)
   pub lock-is : lockedBy area (seen .lock) ≡ box.lockOf key (take i (shown (lineOf area) n slots))
-  pub lock-in : LockBelow 65536 (seen .lock)
-  pub place-is : leading (stampBelow key stamp) (shown (lineOf area) n slots) ≡ either (seen .history .newer) (i + leading (stampBelow key stamp) (drop i (shown (lineOf area) n slots))) (seen .place)
-  pub place-at : seen .history .newer ≡ true → seen .place ≡ i
-  pub past : All (NotBelow key) (drop i (shown (lineOf area) n slots))
+  pub lock-there : (t : ℕ) → All (SlotBelow t) (take n slots) → LockThere t area (stored (shown (defaultIn area) n slots)) key (seen .lock)
+  pub history : (t : ℕ) → All (SlotBelow t) (take n slots) → HistoryAt t area (stored (shown (defaultIn area) n slots)) key start stamp (box.recordsOf key (take i (shown (lineOf area) n slots))) (seen .history)
+
+module _ {st : Store} {area : Bytes} (b : Built st area) where
+  abbrev es : List box.KeyLine
+  es = boxOf st area .lines
+
+  abbrev ds : List box.Default
+  ds = boxOf st area .defaults
+
+  abbrev slot : ℕ → Slot
+  slot i = getD (st .lines) i noSlot
+
+  pub lines-order : box.ordered box.before es ≡ true
+  lines-order = order-lines (boxOf st area) (b .kept .sorted)
+
+  pub slot-in : (i : ℕ) → i < st .load .lines → slot i .at + slot i .len + past (slot i .line) ≤ length area
+  slot-in i h = omega (arith, table-at (b .lines) i h .below, b .top-in, b .area-long)
+
+  module _ (i : ℕ) (h : i < st .load .lines) where
+    same : getD (take (st .load .lines) (st .lines)) i noSlot ≡ slot i
+    same = getD-take (st .load .lines) (st .lines) i noSlot h
+
+    inside : i < length (take (st .load .lines) (st .lines))
+    inside = omega (arith, length-take-le (st .load .lines) (st .lines) (table-long (b .lines)))
+
+    -- the row of a line's pair is the one that it carries
+    pub row-there : (t : ℕ) → All (SlotBelow t) (take (st .load .lines) (st .lines)) → RowThere t area ds (keyOf area (slot i)) (startOf (lineOf area (slot i) .line)) (kindIn (lineOf area (slot i) .line)) (slot i .at + slot i .len + 8 + 8) (rowLen (slot i .line))
+    unfolding shown
+    row-there t a =
+        let p : SlotBelow t (slot i) = subst (SlotBelow t) same (all-at (SlotBelow t) noSlot (take (st .load .lines) (st .lines)) i a inside) in
+        record {
+          within = omega (arith, p .below, past-row (slot i .line));
+          lean = lean-row area (slot i .at + slot i .len) (slot i .line) (p .lean);
+          is =
+              subst (λ (s : Slot). box.rowOf (keyOf area s) (startOf (lineOf area s .line)) ds ≡ rowIf (kindIn (lineOf area s .line)) (rowIn area s)) same
+              (row-held (lineOf area) (rowIn area) (take (st .load .lines) (st .lines)) i noSlot inside (b .kept .once));
+        }
 
 or-none : (o : Option box.Lock) → orLock o none ≡ o
 or-none none = refl
 or-none (some l) = refl
 
-line-wide : (a b : ℕ) → a ≤ b → (x : Line) → LineBelow a x → LineBelow b x
-line-wide a b h (Standing i) p = omega arith
-line-wide a b h (Finished w) p = tt
+in-last : {A : Type 0} (x : A) (xs : List A) → In x (xs ++ x ∷ [])
+in-last x [] = inl refl
+in-last x (y ∷ ys) = inr (in-last x ys)
 
-newer-more : (start stamp : ℕ) (h : History) (v : Record) → moreHistory start stamp h v .newer ≡ h .newer && ltb (v .stamp) stamp
-unfolding moreHistory
-newer-more start stamp h v = refl
-
-order-here : {st : Store} {area : Bytes} (m : Built st area) (i : ℕ) → i < st .load .lines
-    → box.ordered box.before (lineOf area (getD (st .lines) i noSlot) ∷ drop (suc i) (boxOf st area .lines)) ≡ true
-order-here {st} {area} m i l = subst (λ (v : List box.KeyLine). box.ordered box.before v ≡ true) (line-here m i l) (ordered-drop box.before i (boxOf st area .lines) (lines-order m))
-
--- ---- where the walk starts
-
-module _ {st : Store} {area : Bytes} (m : Built st area) (k : Key) (start stamp : ℕ) where
-  abbrev es : List box.KeyLine
-  es = boxOf st area .lines
-
-  -- the place where `find` stops: all before it are below, and none from it on
-  stopped : {i : ℕ} {h : History} → Finding area k (st .lines) (st .load .lines) i → i ≡ linesBefore k es → All (NotBelow k) (drop i es) → ((s t : ℕ) → h ≡ historyOf s t [])
-      → Looking area k start stamp (st .lines) (st .load .lines) i (record { first = i; place = i; lock = Nobody; history = h })
-  unfolding historyOf allBelow
-  stopped {i} {h} w e past e₀ =
-      let few : i ≤ length es = omega (arith, w .low, shown-length (m .lines) (lineOf area)) in
-      let below : All (λ (x : box.KeyLine). ltBytes (x .key) k ≡ true) (take i es) = leading-all (keyBelow k) es i (omega (arith, e, key-place k es (lines-order m))) in
-      let before : All (λ (x : box.KeyLine). stampBelow k stamp x ≡ true) (take i es)
-      = all-weaken (λ (x : box.KeyLine). ltBytes (x .key) k ≡ true) (λ (x : box.KeyLine). stampBelow k stamp x ≡ true) (take i es) (λ x b. before-less x (stampLine k stamp) b) below in
-      record {
-        low = w .low;
-        first-is = e;
-        history-is = e₀ start stamp ∙ ap (historyOf start stamp) (sym (records-none k (take i es) (below-other k (take i es) below)));
-        lock-is = sym (lock-none k (take i es) (below-other k (take i es) below));
-        lock-in = tt;
-        place-is = leading-after (stampBelow k stamp) es i few before .is ∙ sym (ap (λ (h : History). either (h .newer) (i + leading (stampBelow k stamp) (drop i es)) i) (e₀ start stamp));
-        place-at = λ q. refl;
-        past = past;
-      }
-
-  -- the next is not below, or there is none
-  pub looking-here : {i : ℕ} {h : History} → Finding area k (st .lines) (st .load .lines) i → i < st .load .lines → ltBytes (keyOf area (getD (st .lines) i noSlot)) k ≡ false → ((s t : ℕ) → h ≡ historyOf s t [])
-      → Looking area k start stamp (st .lines) (st .load .lines) i (record { first = i; place = i; lock = Nobody; history = h })
-  looking-here {i} w l e e₀ = stopped w (finding-here m k w l e) (subst (All (NotBelow k)) (sym (line-here m i l)) (all-not-below k (lineOf area (getD (st .lines) i noSlot)) (drop (suc i) es) (order-here m i l) e)) e₀
-
-  pub looking-none : {i : ℕ} {h : History} → Finding area k (st .lines) (st .load .lines) i → st .load .lines ≤ i → ((s t : ℕ) → h ≡ historyOf s t [])
-      → Looking area k start stamp (st .lines) (st .load .lines) i (record { first = i; place = i; lock = Nobody; history = h })
-  looking-none {i} w l e₀ = stopped w (finding-end m k w l) (subst (All (NotBelow k)) (sym (lines-past m i l)) (all-none (NotBelow k))) e₀
-
-  -- ---- one line more of the key
+module _ {st : Store} {area : Bytes} (b : Built st area) (k : Key) (start stamp : ℕ) where
+  pub looking-start : {h : History} → h ≡ noHistory → Looking area k start stamp (st .lines) (st .load .lines) 0 (record { first = 0; place = 0; lock = Nobody; history = h })
+  unfolding box.lockOf box.recordsOf
+  looking-start {h} e = record {
+    low = omega arith;
+    first-is = record { before = λ _. refl; after = λ h. omega arith };
+    place-is = record { before = λ _. refl; after = λ h. omega arith };
+    lock-is = refl;
+    lock-there = λ t a. tt;
+    history = λ t a. subst (HistoryAt t area (ds b) k start stamp []) (sym e) history-none;
+  }
 
   module _ {i : ℕ} {seen : Looked} (w : Looking area k start stamp (st .lines) (st .load .lines) i seen) where
-    -- the walk ends: what follows is above the key
-    pub ended : All (Above k) (drop i es) → LookedAt st area k start stamp seen
-    ended a = record {
-      first-is = w .first-is;
-      place-is = sym (sym (stamp-place k stamp es (lines-order m)) ∙ w .place-is ∙ go (seen .history .newer) (w .place-at));
-      lock-is = w .lock-is ∙ sym (ap (box.lockOf k) (sym (take-append-drop i es)) ∙ lock-append k (take i es) (drop i es) ∙ ap (orLock (box.lockOf k (take i es))) (lock-above k (drop i es) a) ∙ or-none (box.lockOf k (take i es)));
-      lock-in = subst (λ (n : ℕ). LockBelow n (seen .lock)) (sym (m .area-long)) (w .lock-in);
-      history-is =
-          w .history-is
-          ∙ ap (historyOf start stamp) (sym (ap (box.recordsOf k) (sym (take-append-drop i es)) ∙ records-append k (take i es) (drop i es) ∙ ap (λ (l : List Record). box.recordsOf k (take i es) ++ l) (records-above k (drop i es) a) ∙ append-nil (box.recordsOf k (take i es))));
+    -- the walk ends: what follows says nothing of the key
+    ended : linesBefore k (es b) ≤ i → recordPlace k stamp (es b) ≤ i → (box.lockOf k (drop i (es b)) ≡ none) × (box.recordsOf k (drop i (es b)) ≡ []) → LookedAt st area k start stamp seen
+    ended f p n = record {
+      first-is = w .first-is .after f;
+      place-is = w .place-is .after p;
+      lock-is = w .lock-is ∙ sym (ap (box.lockOf k) (sym (take-append-drop i (es b))) ∙ lock-append k (take i (es b)) (drop i (es b)) ∙ ap (orLock (box.lockOf k (take i (es b)))) (n .0) ∙ or-none (box.lockOf k (take i (es b))));
+      lock-there = w .lock-there (st .top) (b .lines .holds);
+      history =
+          subst (λ (ws : List Record). HistoryAt (st .top) area (ds b) k start stamp ws (seen .history))
+          (sym (ap (box.recordsOf k) (sym (take-append-drop i (es b))) ∙ records-append k (take i (es b)) (drop i (es b)) ∙ ap (λ (l : List Record). box.recordsOf k (take i (es b)) ++ l) (n .1) ∙ append-nil (box.recordsOf k (take i (es b)))))
+          (w .history (st .top) (b .lines .holds));
     }
-      where
-        go : (t : Bool) → (t ≡ true → seen .place ≡ i) → either t (i + leading (stampBelow k stamp) (drop i es)) (seen .place) ≡ seen .place
-        go true at = omega (arith, place-above k stamp (drop i es) a, at refl)
-        go false at = refl
-
-    pub looking-other : i < st .load .lines → eqBytes k (keyOf area (getD (st .lines) i noSlot)) ≡ false → LookedAt st area k start stamp seen
-    unfolding All
-    looking-other l e =
-        ended (subst (All (Above k)) (sym (line-here m i l))
-        (all-above k (lineOf area (getD (st .lines) i noSlot)) (drop (suc i) es) (order-here m i l) (subst (All (NotBelow k)) (line-here m i l) (w .past) .0) e))
 
     pub looking-end : st .load .lines ≤ i → LookedAt st area k start stamp seen
-    looking-end l = ended (subst (All (Above k)) (sym (lines-past m i l)) (all-none (Above k)))
+    unfolding box.lockOf box.recordsOf
+    looking-end h =
+        let n = shown-length (b .lines) (lineOf area) in
+        ended (omega (arith, howMany-le (λ (e : box.KeyLine). ltBytes (e .key) k) (es b))) (omega (arith, howMany-le (λ (e : box.KeyLine). box.before e (stampLine k stamp)) (es b)))
+        (ap (box.lockOf k) (shown-past (b .lines) (lineOf area) i h), ap (box.recordsOf k) (shown-past (b .lines) (lineOf area) i h))
 
-    -- the walk goes on: one more line of the key
-    module _ (l : i < st .load .lines) (e : eqBytes k (keyOf area (getD (st .lines) i noSlot)) ≡ true) where
+    module _ (l : i < st .load .lines) where
       abbrev here : Slot
-      here = getD (st .lines) i noSlot
+      here = slot b i
 
-      one-more : take (i + 1) es ≡ take i es ++ lineOf area here ∷ []
-      one-more =
-          let few : i < length es = omega (arith, shown-length (m .lines) (lineOf area)) in
-          ap (λ (n : ℕ). take n es) (add-one i) ∙ take-suc es i (lineOf area noSlot) few ∙ ap (λ (x : box.KeyLine). take i es ++ x ∷ []) (shown-at (m .lines) (lineOf area) i l)
+      abbrev e : box.KeyLine
+      e = lineOf area here
 
-      records-more : (x : Line) → here .line ≡ x → box.recordsOf k (take (i + 1) es) ≡ box.recordsOf k (take i es) ++ box.addRecord true (lineIn area x) []
+      within : i < length (es b)
+      within = omega (arith, shown-length (b .lines) (lineOf area))
+
+      at-here : getD (es b) i (lineOf area noSlot) ≡ e
+      at-here = shown-at (b .lines) (lineOf area) i l
+
+      below-here : ltBytes (e .key) k ≡ ltb i (linesBefore k (es b))
+      below-here = ap (λ (x : box.KeyLine). ltBytes (x .key) k) (sym at-here) ∙ line-below k (es b) (lines-order b) i (lineOf area noSlot) within
+
+      stamp-here : box.before e (stampLine k stamp) ≡ ltb i (recordPlace k stamp (es b))
+      stamp-here =
+          ap (λ (x : box.KeyLine). box.before x (stampLine k stamp)) (sym at-here)
+          ∙ at-place box.before (λ (x : box.KeyLine). box.before x (stampLine k stamp)) (before-down box.before before-trans before-irrefl (stampLine k stamp)) (es b) i (lineOf area noSlot) (lines-order b) within
+
+      one-more : take (i + 1) (es b) ≡ take i (es b) ++ e ∷ []
+      one-more = ap (λ (n : ℕ). take n (es b)) (add-one i) ∙ take-suc (es b) i (lineOf area noSlot) within ∙ ap (λ (x : box.KeyLine). take i (es b) ++ x ∷ []) at-here
+
+      records-more : (t : Bool) (x : box.Line) → eqBytes k (e .key) ≡ t → e .line ≡ x → box.recordsOf k (take (i + 1) (es b)) ≡ box.recordsOf k (take i (es b)) ++ box.addRecord t x []
       unfolding box.recordsOf
-      records-more x q =
-          ap (box.recordsOf k) one-more ∙ records-append k (take i es) (lineOf area here ∷ [])
-          ∙ ap₂ (λ (t : Bool) (y : Line). box.recordsOf k (take i es) ++ box.addRecord t (lineIn area y) []) e q
+      records-more t x p q = ap (box.recordsOf k) one-more ∙ records-append k (take i (es b)) (e ∷ []) ∙ ap₂ (λ (t : Bool) (y : box.Line). box.recordsOf k (take i (es b)) ++ box.addRecord t y []) p q
 
-      lock-more : (x : Line) → here .line ≡ x → box.lockOf k (take (i + 1) es) ≡ orLock (box.lockOf k (take i es)) (box.addLock true (lineIn area x) none)
+      lock-more : (t : Bool) (x : box.Line) → eqBytes k (e .key) ≡ t → e .line ≡ x → box.lockOf k (take (i + 1) (es b)) ≡ orLock (box.lockOf k (take i (es b))) (box.addLock t x none)
       unfolding box.lockOf
-      lock-more x q =
-          ap (box.lockOf k) one-more ∙ lock-append k (take i es) (lineOf area here ∷ [])
-          ∙ ap₂ (λ (t : Bool) (y : Line). orLock (box.lockOf k (take i es)) (box.addLock t (lineIn area y) none)) e q
+      lock-more t x p q = ap (box.lockOf k) one-more ∙ lock-append k (take i (es b)) (e ∷ []) ∙ ap₂ (λ (t : Bool) (y : box.Line). orLock (box.lockOf k (take i (es b))) (box.addLock t y none)) p q
 
-      -- what of the place is left
-      place-left : (x : Line) → here .line ≡ x → leading (stampBelow k stamp) (drop i es) ≡ moreIf (box.lineBefore (lineIn area x) (stampLine k stamp .line)) (leading (stampBelow k stamp) (drop (i + 1) es))
-      unfolding leading
-      place-left x q =
-          ap (leading (stampBelow k stamp)) (line-here m i l)
-          ∙ ap (λ (b : Bool). moreIf b (leading (stampBelow k stamp) (drop (suc i) es))) (before-same (lineOf area here) (stampLine k stamp) (eqBytes-sym (keyOf area here) k ∙ e) ∙ ap (λ (y : Line). box.lineBefore (lineIn area y) (stampLine k stamp .line)) q)
-          ∙ rw add-one
+      -- a line that brings no record, and one that brings no lock
+      same-history : (t : Bool) (x : box.Line) → eqBytes k (e .key) ≡ t → e .line ≡ x → box.addRecord t x [] ≡ [] → (top : ℕ) → All (SlotBelow top) (take (st .load .lines) (st .lines))
+          → HistoryAt top area (ds b) k start stamp (box.recordsOf k (take (i + 1) (es b))) (seen .history)
+      same-history t x p q n top a =
+          subst (λ (ws : List Record). HistoryAt top area (ds b) k start stamp ws (seen .history))
+          (sym (records-more t x p q ∙ ap (λ (ws : List Record). box.recordsOf k (take i (es b)) ++ ws) n ∙ append-nil (box.recordsOf k (take i (es b))))) (w .history top a)
 
-      past-more : All (NotBelow k) (drop (i + 1) es)
-      past-more = rw add-one (all-tail (NotBelow k) (lineOf area here) (drop (suc i) es) (subst (All (NotBelow k)) (line-here m i l) (w .past)))
+      same-lock : (t : Bool) (x : box.Line) → eqBytes k (e .key) ≡ t → e .line ≡ x → box.addLock t x none ≡ none → lockedBy area (seen .lock) ≡ box.lockOf k (take (i + 1) (es b))
+      same-lock t x p q n = w .lock-is ∙ sym (lock-more t x p q ∙ ap (orLock (box.lockOf k (take i (es b)))) n ∙ or-none (box.lockOf k (take i (es b))))
 
-      own : (x : Line) → here .line ≡ x → LineBelow 65536 x → Looking area k start stamp (st .lines) (st .load .lines) (i + 1) (seeLine start stamp (i + 1) seen x)
-      unfolding box.addRecord box.addLock
-      own (Standing j) q b = record {
-        low = omega arith;
-        first-is = w .first-is;
-        history-is = w .history-is ∙ ap (historyOf start stamp) (sym (records-more (Standing j) q ∙ append-nil (box.recordsOf k (take i es))));
-        lock-is = first-lock (seen .lock) j ∙ ap (λ (o : Option box.Lock). orLock o (some (lockIn area j))) (w .lock-is) ∙ sym (lock-more (Standing j) q);
-        lock-in = lock-either (seen .lock) (w .lock-in);
-        place-is = w .place-is ∙ ap (λ (r : ℕ). either (seen .history .newer) (i + r) (seen .place)) (place-left (Standing j) q) ∙ still (seen .history .newer);
-        place-at = λ h. ap (λ (t : Bool). either t (i + 1) (seen .place)) h;
-        past = past-more;
-      }
+      pub looking-less : cmp (keyOf area (slot b i)) k ≡ Less → Looking area k start stamp (st .lines) (st .load .lines) (i + 1) (record { first = i + 1; place = i + 1; lock = seen .lock; history = seen .history })
+      unfolding ltBytes box.addLock box.addRecord
+      looking-less c =
+          let p : ltBytes (e .key) k ≡ true = ap isLess c in
+          let n : eqBytes k (e .key) ≡ false = ltBytes-not-eq′ (e .key) k p in
+          record {
+            low = omega arith;
+            first-is = lesser-more (ltb-true _ _ (sym below-here ∙ p));
+            place-is = lesser-more (ltb-true _ _ (sym stamp-here ∙ before-less e (stampLine k stamp) p));
+            lock-is = same-lock false (e .line) n refl refl;
+            lock-there = w .lock-there;
+            history = same-history false (e .line) n refl refl;
+          }
+
+      pub looking-greater : cmp (keyOf area (slot b i)) k ≡ Greater → LookedAt st area k start stamp seen
+      unfolding ltBytes eqBytes
+      looking-greater c =
+          let p : ltBytes (e .key) k ≡ false = ap isLess c in
+          let a : ltBytes k (e .key) ≡ true = ltBytes-else (e .key) k (ap isEqual c) p in
+          ended (ltb-false _ _ (sym below-here ∙ p)) (ltb-false _ _ (sym stamp-here ∙ not-before a (box.before e (stampLine k stamp)) refl))
+          (rw (shown-drop (b .lines) (lineOf area) i l) (past-lines k e (drop (suc i) (es b)) (subst (λ (v : List box.KeyLine). box.ordered box.before v ≡ true) (shown-drop (b .lines) (lineOf area) i l) (ordered-fewer box.before (fewer-drop i (es b)) (lines-order b))) a))
         where
-          first-lock : (o : Locked) (j : Intent) → lockedBy area (orLocked o j) ≡ orLock (lockedBy area o) (some (lockIn area j))
-          first-lock Nobody j = refl
-          first-lock (By h) j = refl
+          not-before : ltBytes k (e .key) ≡ true → (t : Bool) → box.before e (stampLine k stamp) ≡ t → t ≡ false
+          not-before a true h = sym a ∙ before-not-above e (stampLine k stamp) h
+          not-before a false h = refl
 
-          lock-either : (o : Locked) → LockBelow 65536 o → LockBelow 65536 (orLocked o j)
-          lock-either Nobody p = b
-          lock-either (By h) p = p
+      module _ (c : cmp (keyOf area (slot b i)) k ≡ Equal) where
+        own : eqBytes (e .key) k ≡ true
+        unfolding eqBytes
+        own = ap isEqual c
 
-          still : (t : Bool) → either t (i + suc (leading (stampBelow k stamp) (drop (i + 1) es))) (seen .place) ≡ either t (i + 1 + leading (stampBelow k stamp) (drop (i + 1) es)) (either t (i + 1) (seen .place))
-          still true = omega arith
-          still false = refl
-      own (Finished v) q b = record {
-        low = omega arith;
-        first-is = w .first-is;
-        history-is = ap (λ (h : History). moreHistory start stamp h v) (w .history-is) ∙ sym (history-snoc start stamp (box.recordsOf k (take i es)) v) ∙ ap (historyOf start stamp) (sym (records-more (Finished v) q));
-        lock-is = w .lock-is ∙ sym (lock-more (Finished v) q ∙ or-none (box.lockOf k (take i es)));
-        lock-in = w .lock-in;
-        place-is =
-            w .place-is ∙ ap (λ (r : ℕ). either (seen .history .newer) (i + r) (seen .place)) (place-left (Finished v) q)
-            ∙ moved (seen .history .newer) (ltb (v .stamp) stamp) (w .place-at)
-            ∙ ap (λ (t : Bool). either t (i + 1 + leading (stampBelow k stamp) (drop (i + 1) es)) (either t (i + 1) (seen .place))) (sym newer-is);
-        place-at = λ h. ap (λ (t : Bool). either t (i + 1) (seen .place)) h;
-        past = past-more;
-      }
-        where
-          newer-is : moreHistory start stamp (seen .history) v .newer ≡ seen .history .newer && ltb (v .stamp) stamp
-          newer-is = newer-more start stamp (seen .history) v
+        own′ : eqBytes k (e .key) ≡ true
+        own′ = eqBytes-sym k (e .key) ∙ own
 
-          moved : (t b : Bool) → (t ≡ true → seen .place ≡ i)
-              → either t (i + moreIf b (leading (stampBelow k stamp) (drop (i + 1) es))) (seen .place) ≡ either (t && b) (i + 1 + leading (stampBelow k stamp) (drop (i + 1) es)) (either (t && b) (i + 1) (seen .place))
-          moved true true at = omega arith
-          moved true false at = omega (arith, at refl)
-          moved false b at = refl
+        not-below : linesBefore k (es b) ≤ i
+        unfolding ltBytes
+        not-below = ltb-false _ _ (sym below-here ∙ ap isLess c)
 
-      pub looking-own : {r : Looked} → r ≡ seeLine start stamp (i + 1) seen (getD (st .lines) i noSlot .line) → Looking area k start stamp (st .lines) (st .load .lines) (i + 1) r
-      looking-own q = subst (Looking area k start stamp (st .lines) (st .load .lines) (i + 1)) (sym q) (own (here .line) refl (line-wide (st .top) 65536 (m .top-in) (here .line) (slot-in m i l .line-below)))
+        -- how the line stands to a record with the stamp
+        stands : (x : box.Line) → e .line ≡ x → box.lineBefore x (stampLine k stamp .line) ≡ ltb i (recordPlace k stamp (es b))
+        stands x q = sym (before-same e (stampLine k stamp) own ∙ ap (λ (y : box.Line). box.lineBefore y (stampLine k stamp .line)) q) ∙ stamp-here
 
--- ---- only the lines count
+        module _ (top : ℕ) (a : All (SlotBelow top) (take (st .load .lines) (st .lines))) where
+          row-here : (x : Line) → here .line ≡ x → RowThere top area (ds b) k (startOf (lineIn area (here .at + here .len) x)) (kindIn (lineIn area (here .at + here .len) x)) (here .at + here .len + 8 + 8) (rowLen x)
+          row-here x q =
+              subst (λ (j : Key). RowThere top area (ds b) j (startOf (lineIn area (here .at + here .len) x)) (kindIn (lineIn area (here .at + here .len) x)) (here .at + here .len + 8 + 8) (rowLen x)) (eqBytes-true (e .key) k own)
+              (subst (λ (y : Line). RowThere top area (ds b) (e .key) (startOf (lineIn area (here .at + here .len) y)) (kindIn (lineIn area (here .at + here .len) y)) (here .at + here .len + 8 + 8) (rowLen y)) q (row-there b i l top a))
 
-pub lines-of : {st : Store} {area : Bytes} → Built st area → LinesOf (st .lines) (st .load .lines) area
-lines-of {st} m = record { defaults = st .defaults; locks = st .load .locks; rows = st .load .defaults; bytes = st .load .bytes; top = st .top; built = m }
+          primary-here : (h : Stood) → here .line ≡ Standing h → here .at + here .len + 8 + 8 + h .rowlen + 8 + h .plen ≤ top
+          primary-here h q =
+              let s : SlotBelow top (slot b i) = subst (SlotBelow top) (same b i l) (all-at (SlotBelow top) noSlot (take (st .load .lines) (st .lines)) i a (inside b i l)) in
+              omega (arith, s .below, ap past q)
 
-module _ {st : Store} {area k : Bytes} {start stamp : ℕ} {seen : Looked} where
-  pub of-store : LookedAt (ofLines (st .lines) (st .load .lines)) area k start stamp seen → LookedAt st area k start stamp seen
-  of-store f = record { first-is = f .first-is; place-is = f .place-is; lock-is = f .lock-is; lock-in = f .lock-in; history-is = f .history-is }
+        seen-line : (x : Line) → here .line ≡ x → Looking area k start stamp (st .lines) (st .load .lines) (i + 1) (seeLine start stamp (i + 1) seen (toldIn area (here .at + here .len) x))
+        unfolding box.addLock box.addRecord
+        seen-line (Standing h) q =
+            let y : box.Line = lineIn area (here .at + here .len) (Standing h) in
+            let q′ : e .line ≡ y = ap (lineIn area (here .at + here .len)) q in
+            record {
+              low = omega arith;
+              first-is = lesser-same not-below (w .first-is);
+              place-is = lesser-more (ltb-true _ _ (sym (stands y q′)));
+              lock-is = sym (lock-shown k (take (i + 1) (es b)) _ (ordered-fewer box.before (fewer-take (i + 1) (es b)) (lines-order b)) (rw one-more (subst (λ (x : box.KeyLine). In x (take i (es b) ++ e ∷ [])) (λ j. record { key = eqBytes-true (e .key) k own j; line = q′ j }) (in-last e (take i (es b))))));
+              lock-there = λ t a. record { primary-in = primary-here t a h q; row = row-here t a (Standing h) q };
+              history = same-history true y own′ q′ refl;
+            }
+        seen-line (Finished v) q =
+            let y : box.Line = lineIn area (here .at + here .len) (Finished v) in
+            let q′ : e .line ≡ y = ap (lineIn area (here .at + here .len)) q in
+            record {
+              low = omega arith;
+              first-is = lesser-same not-below (w .first-is);
+              place-is = lesser-either _ (stands y q′) (w .place-is);
+              lock-is = same-lock true y own′ q′ refl;
+              lock-there = w .lock-there;
+              history = λ t a.
+                  subst (λ (ws : List Record). HistoryAt t area (ds b) k start stamp ws (seeLine start stamp (i + 1) seen (toldIn area (here .at + here .len) (Finished v)) .history)) (sym (records-more true y own′ q′))
+                  (history-more _ (row-here t a (Finished v) q) (w .history t a));
+            }
 
-  pub of-lines : LookedAt st area k start stamp seen → LookedAt (ofLines (st .lines) (st .load .lines)) area k start stamp seen
-  of-lines f = record { first-is = f .first-is; place-is = f .place-is; lock-is = f .lock-is; lock-in = f .lock-in; history-is = f .history-is }
+        pub looking-equal : {t : Told} {r : Looked} → t ≡ toldOf area (slot b i) → r ≡ seeLine start stamp (i + 1) seen t → Looking area k start stamp (st .lines) (st .load .lines) (i + 1) r
+        looking-equal p q = subst (Looking area k start stamp (st .lines) (st .load .lines) (i + 1)) (sym (q ∙ ap (seeLine start stamp (i + 1) seen) p)) (seen-line (here .line) refl)

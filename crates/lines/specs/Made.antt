@@ -1,66 +1,72 @@
--- What every call asks of a store, and leaves: the only premise of any public call.
+-- What every call asks of a store, and leaves: the only premise of any public call. Lines and rows are sound and in form, and no two lines
+-- share key and start; that each Put line has its row and each row its Put line is the form of the store itself (View).
 -- Assumes nothing.
 use mathlib.Core.Path.{_≡_}
-use mathlib.Core.Bool.{Bool, true, false}
-use mathlib.Core.List.{List}
+use mathlib.Core.Bool.{Bool, true}
 use Prim.Native.Nat.{ℕ, _+_, _≤_}
 use lib.ListN.{length}
 use Rattle.seqs.specs.Tables.{Table}
 use Rattle.forms.specs.Bytes.{Bytes}
-use Rattle.forms.specs.Key.{keyForm}
+use Rattle.forms.specs.Row.{rowForm}
+use Rattle.rules.specs.declared.records.Kind.{Kind}
+use Rattle.rules.specs.declared.records.Kind.the-variants.{Put, Delete, Rollback}
 use Rattle.rules.specs.Box as box
 use Rattle.rules.specs.Room.{loadOf, Fits}
-use Rattle.rules.specs.Restore.{allGood}
+use Rattle.rules.specs.Restore.{allGood, noSecond, likeLine}
 use Rattle.rules.specs.declared.room.Load.{Load}
-use Rattle.ledger.specs.Tidy.{Tidy}
-use Rattle.lines.specs.View.{boxOf, noSlot, noHeld}
+pub use Rattle.ledger.specs.Tidy.{soundLine, goodLine}
+use Rattle.lines.specs.View.{past, boxOf, noSlot}
 use Rattle.lines.specs.declared.store.Line.{Line}
 use Rattle.lines.specs.declared.store.Line.the-variants.{Standing, Finished}
 use Rattle.lines.specs.declared.store.Slot.{Slot}
-use Rattle.lines.specs.declared.store.Held.{Held}
 use Rattle.lines.specs.declared.store.Store.{Store}
 
--- a slot in use: its stretches lie below `top`
-abbrev pub LineBelow : ℕ → Line → Type 0
-LineBelow top (Standing i) = i .at + i .len ≤ top
-LineBelow top (Finished w) = Unit {0}
+-- only a Put has a row
+abbrev pub LeanRow : Kind → ℕ → Type 0
+LeanRow Put n = Unit {0}
+LeanRow Delete n = n ≡ 0
+LeanRow Rollback n = n ≡ 0
 
+abbrev pub Lean : Line → Type 0
+Lean (Standing l) = LeanRow (l .kind) (l .rowlen)
+Lean (Finished w) = LeanRow (w .kind) (w .rowlen)
+
+-- a slot in use: its stretch lies below `top`
 pub record SlotBelow (top : ℕ) (s : Slot) : Type 0 where
-  pub key-below : s .at + s .len ≤ top
-  pub line-below : LineBelow top (s .line)
+  pub below : s .at + s .len + past (s .line) ≤ top
+  pub lean : Lean (s .line)
   pub in-use : s .used ≡ true
 
-pub record HeldBelow (top : ℕ) (d : Held) : Type 0 where
-  pub key-below : d .at + d .len ≤ top
-  pub row-below : d .rowat + d .rowlen ≤ top
-  pub in-use : d .used ≡ true
+abbrev pub goodRow : box.Default → Bool
+goodRow d = rowForm (d .row)
 
--- every key is in form
-pub record KeysIn (b : box.Box) : Type 0 where
-  pub lines : allGood (λ (e : box.KeyLine). keyForm (e .key)) (b .lines) ≡ true
-  pub defaults : allGood (λ (d : box.Default). keyForm (d .key)) (b .defaults) ≡ true
-
--- a box in order, with its tallies
+-- a box in order and sound, with its tallies
 pub record Kept (b : box.Box) (l : Load) : Type 0 where
   pub load-is : l ≡ loadOf b
   pub sorted : box.inOrder b ≡ true
-  pub keys : KeysIn b
+  pub good : allGood goodLine (b .lines) ≡ true
+  pub rows : allGood goodRow (b .defaults) ≡ true
+  pub once : noSecond likeLine (b .lines) ≡ true
 
 -- a store that shows such a box: what every step of a call keeps. A call that frees room in one entry and takes it in another may pass the
 -- four limits between the two.
 pub record Built (s : Store) (area : Bytes) : Type 0 where
-  pub area-long : length area ≡ 65536
-  pub top-in : s .top ≤ 65536
-  pub live-in : s .load .bytes ≤ s .top
+  pub area-long : length area ≡ 131072
+  pub top-in : s .top ≤ 131072
   pub lines : Table (SlotBelow (s .top)) noSlot 1024 (s .load .lines) (s .lines)
-  pub defaults : Table (HeldBelow (s .top)) noHeld 1024 (s .load .defaults) (s .defaults)
   pub kept : Kept (boxOf s area) (s .load)
 
--- within the four limits, and tidy: what every call asks, and leaves
+-- within the four limits: what every call asks, and leaves
 pub record Made (s : Store) (area : Bytes) : Type 0 where
   pub built : Built s area
   pub fit : Fits (s .load)
-  pub tidy : Tidy (boxOf s area)
+
+-- tallies so small that none of their sums overflows
+pub record Counted (l : Load) : Type 0 where
+  pub lines : l .lines ≤ 1024
+  pub locks : l .locks ≤ l .lines
+  pub defaults : l .defaults ≤ l .lines
+  pub bytes : l .bytes ≤ 536870912
 
 pub record FreshStore (s : Store) (area : Bytes) : Type 0 where
   pub made : Made s area

@@ -1,6 +1,5 @@
--- The laws of `commit_batch`.
--- Assumes nothing.
-pub mod EntryLaws
-pub mod WriteLaws
-pub mod SpotLaws
-pub mod CallLaws
+pub mod MeetLaws
+pub mod PassLaws
+pub mod LaterLaws
+pub mod ApplyLaws
+pub mod BatchLaws

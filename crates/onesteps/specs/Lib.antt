@@ -1,5 +1,3 @@
--- What `commit_batch` promises, and what its applying pass asks and leaves.
--- Assumes nothing.
-pub mod Writes
+pub mod Meets
 pub mod Applies
 pub mod Counts

@@ -2,17 +2,22 @@
 ghost use mathlib.Core.Path.{_≡_};
 ghost use Rattle.seqs.specs.Tables.{shown};
 ghost use Rattle.forms.specs.Places.{mutationOf};
-ghost use Rattle.rules.specs.OneStep.{countIf, oneStep};
+ghost use Rattle.rules.specs.declared.answers.Answer.the-variants.{Accepted};
+ghost use Rattle.rules.specs.Commit.{endingStep};
+ghost use Rattle.rules.specs.OneStep.{oneStep};
 ghost use Rattle.lines.specs.View.{boxOf};
 ghost use Rattle.lines.specs.Made.{Made};
-ghost use Rattle.calls.specs.Walks.{endingOf};
-ghost use Rattle.onesteps.specs.Counts.{StepAsks, laterCounted, Counting, Counts};
-use crate::writes::apply_all;
+ghost use Rattle.calls.specs.Walks.{endingOf, AllAsks};
+ghost use Rattle.onesteps.specs.Counts.{laterCounted, Counts};
+use crate::passes::judge;
+use crate::passes::meet_all;
+use crate::writing::apply_all;
 use calls::Terms;
 use forms::Entry;
+use lines::AREA;
 use lines::Store;
 use rules::Answer;
-use stepchecks::Verdict;
+use stretches::make_place;
 
 // The store after a one-step batch, what the call answers, and "The count is the number of entries".
 pub struct Stepped {
@@ -21,19 +26,8 @@ pub struct Stepped {
     pub count: usize,
 }
 
-// "a refusal's counts are 0"
-fn count_if(answer: Answer, n: usize) -> usize
-    ensures { λ r. ⌜ r ≡ countIf answer n ⌝ }
-{
-    match answer {
-        Answer::Accepted => n,
-        Answer::No(_) => 0,
-        Answer::Held(_) => 0,
-    }
-}
-
-// The steps of a batch in form whose head and arguments have passed: what its keys meet in the store as it came, the checks, and the
-// applying pass.
+// The steps of a batch in form whose head has passed, and the applying pass, after a repack where the area wants one for the entries'
+// bytes: a key of 48, a row of 255 and two numbers, 319 an entry.
 fn step_all(
     store: Store,
     area: &mut [u8],
@@ -42,39 +36,41 @@ fn step_all(
     n: usize,
     list: [Entry; 32],
 ) -> Stepped
-    requires { ⌜ StepAsks store (now area) (now batch) n list ⌝ }
-    ensures { λ r. ⌜ Counting store (now (area .entry)) (laterCounted (endingOf terms) (shown (mutationOf (now (batch .entry))) n list) (boxOf store (now (area .entry)))) r (now (area .exit)) ⌝ }
+    requires { ⌜ (AllAsks store (now area) (now batch) n list) × (endingStep (endingOf terms) ≡ Accepted) ⌝ }
+    ensures { λ r. ⌜ Counts store (now (area .entry)) (laterCounted (endingOf terms) (shown (mutationOf (now (batch .entry))) n list) (boxOf store (now (area .entry)))) r (now (area .exit)) ⌝ }
 {
-    let founds = surveys::look_all(store, area, batch, list, n, terms.start, terms.commit);
-    let stored = surveys::find_rows(store, area, batch, list, n, terms.start);
+    let met = meet_all(store, area, terms, batch, n, list);
     let load = store.load;
-    let verdict = stepchecks::judge(area, terms, batch, n, list, founds, stored, load);
-    match verdict {
-        Verdict::Stays(answer) => {
-            let count = count_if(answer, n);
-            Stepped {
-                store: store,
-                answer: answer,
-                count: count,
-            }
-        }
-        Verdict::Applies(room) => {
-            let placed = areas::make_place(store, area, room.need);
-            let after = room.after;
-            let applied = apply_all(placed, area, terms, batch, n, list, founds, stored, after);
-            Stepped {
-                store: applied,
-                answer: Answer::Accepted,
-                count: n,
-            }
-        }
+    let answer = judge(met, load);
+    if !calls::accepted(answer) {
+        return Stepped {
+            store: store,
+            answer: answer,
+            count: 0,
+        };
+    }
+    let tally = met.tally;
+    if tally.all {
+        return Stepped {
+            store: store,
+            answer: answer,
+            count: n,
+        };
+    }
+    let need = n * 319;
+    let placed = make_place(store, area, need);
+    let applied = apply_all(placed, area, terms, batch, n, list);
+    Stepped {
+        store: applied,
+        answer: answer,
+        count: n,
     }
 }
 
 // "One-step batch: 6; 3; each entry in turn 1, 2; empty, accepted with count 0. .. The count is the number of entries."
 pub fn commit_batch(
     store: Store,
-    area: &mut [u8],
+    area: &mut [u8; AREA],
     txn: u64,
     start: u64,
     commit: u64,
@@ -105,14 +101,5 @@ pub fn commit_batch(
         };
     }
     let list = entries.list;
-    let n = entries.count;
-    let answer = stepchecks::check_arguments(batch, n, list);
-    if !calls::accepted(answer) {
-        return Stepped {
-            store: store,
-            answer: answer,
-            count: 0,
-        };
-    }
-    step_all(store, area, terms, batch, n, list)
+    step_all(store, area, terms, batch, entries.count, list)
 }

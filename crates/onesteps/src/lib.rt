@@ -1,7 +1,9 @@
-// "One-step batch": `commit_batch`. The checks of crate stepchecks over what the keys met in the store as it came; then the entries' bytes
-// go into the area and each entry is written down as an edit of each table, and one walk over each table makes all edits.
+// "One-step batch": `commit_batch`. A checking pass looks each key up once, in the store as it came, and gathers what the entries meet
+// there; then the room that the whole call would leave, and an applying pass, after a repack where the area wants one.
 pub mod batch;
-pub mod writes;
+pub mod meets;
+pub mod passes;
+pub mod writing;
 
 pub use batch::Stepped;
 pub use batch::commit_batch;

@@ -1,103 +1,85 @@
--- The entries of a page: their bytes, and how many.
+-- The entry of a line: a key's piece, and a row's or a lock.
 -- Assumes nothing.
 use Prim.Native.Nat.{ℕ, _+_, _-_, _≤_}
 use native.Mathlib.Nat.{add-sub-cancel-left}
 use native.Mathlib.Omega.{arith}
 use mathlib.Core.Path.{_≡_, sym, ap, _∙_, subst}
-use mathlib.Core.List.{[], _∷_, _++_, append-assoc}
+use mathlib.Core.List.{[], _∷_, _++_}
 use lib.ListN.{length, take, drop, length-append}
-use Rattle.forms.specs.Bytes.{Bytes, bytesAt}
+use borrow.Rule.Slice.PartMut.{putMid}
+use Rattle.forms.specs.Bytes.{Bytes, bytesAt, pieceBytes}
 use Rattle.forms.specs.Numbers.{digits}
-use Rattle.forms.proofs.NumberLaws.{length-digits}
-use Rattle.rules.specs.Written.{pieceBytes, kindByte, lockBytes, keyRowBytes, keyLockBytes}
-use Rattle.lines.specs.declared.store.Intent.{Intent}
+use Rattle.rules.specs.Written.{kindByte, lockBytes}
 use Rattle.lines.specs.declared.store.Line.{Line}
 use Rattle.lines.specs.declared.store.Line.the-variants.{Standing, Finished}
 use Rattle.lines.specs.declared.store.Slot.{Slot}
-use Rattle.lines.specs.View.{keyOf, lockIn}
-use Rattle.lines.specs.Made.{LineBelow}
-use Rattle.walks.specs.declared.walked.Spot.{Spot}
-use Rattle.walks.specs.Walked.{intentOf}
-use Rattle.walks.proofs.ReadLaws.{part-long}
-use Rattle.pages.specs.Fronts.{Fronted}
-use Rattle.pages.specs.Sections.{RowAsks, LockAsks, rowOn, lockOn}
-use Rattle.pages.proofs.FrontLaws.{front-as}
+use Rattle.lines.specs.declared.views.Intent.{Intent}
+use Rattle.lines.specs.declared.views.Told.{Told}
+use Rattle.lines.specs.declared.views.Told.the-variants as told
+use Rattle.lines.specs.View.{keyOf, past}
+use Rattle.lines.specs.Looks.{lockIn, toldIn, toldOf}
+use Rattle.walks.specs.Walked.{lineBytes, entryBytes, partLen}
+use Rattle.walks.proofs.EntryLaws.{part-long, lock-long, intentIn}
+use Rattle.pages.specs.Laid.{Laid, PieceAsks, EntryAsks}
+use Rattle.pages.proofs.LaidLaws.{laid-as, laid-then, laid-lent, laid-copy, rest-long}
 
 -- ---- "a length byte and its bytes"
 
-pub piece-long : (area : Bytes) (at len : ℕ) → at + len ≤ length area → length (pieceBytes (bytesAt area at len)) ≡ len + 1
-piece-long area at len h = omega (arith, part-long area at len h)
+module _ (area : Bytes) (from len : ℕ) (h : from + len ≤ length area) where
+  stretch : take (from + len - from) (drop from area) ≡ bytesAt area from len
+  stretch = ap (λ (n : ℕ). take n (drop from area)) (add-sub-cancel-left from len)
 
-pub stretch-long : (area : Bytes) (at len : ℕ) → at + len ≤ length area → length (take (at + len - at) (drop at area)) ≡ len
-stretch-long area at len h = ap (λ (n : ℕ). length (take n (drop at area))) (add-sub-cancel-left at len) ∙ part-long area at len h
+  stretch-long : length (take (from + len - from) (drop from area)) ≡ len
+  stretch-long = ap length stretch ∙ part-long area from len h
 
-pub piece-as : (area : Bytes) (at len : ℕ) {s t : Bytes} {r : ℕ} → at + len ≤ length area → Fronted ((len ∷ []) ++ take (at + len - at) (drop at area)) s r t → Fronted (pieceBytes (bytesAt area at len)) s r t
-piece-as area at len h v =
-    front-as v
-    (ap (λ (n : ℕ). len ∷ take n (drop at area)) (add-sub-cancel-left at len) ∙ ap (λ (n : ℕ). n ∷ bytesAt area at len) (sym (part-long area at len h)))
+  module _ {at a : ℕ} {s t : Bytes} (v : Laid at 1 (len ∷ []) s a t) (room : at + (len + 1) ≤ length s) where
+    pub copy-room : length (take (from + len - from) (drop from area)) ≤ length (take (length t - a) (drop a t))
+    copy-room = omega (arith, stretch-long, rest-long t a)
 
--- ---- a lock
+    pub piece-laid : {k : ℕ} {part : Bytes} → k ≡ length (take (from + len - from) (drop from area))
+        → part ≡ take (length (take (from + len - from) (drop from area))) (take (from + len - from) (drop from area)) ++ drop (length (take (from + len - from) (drop from area))) (take (length t - a) (drop a t))
+        → Laid at (len + 1) (pieceBytes (bytesAt area from len)) s (a + k) (putMid a (length t - a) t part)
+    piece-laid {k} {part} e f =
+        let w = laid-lent t a (omega arith) (laid-copy e f copy-room) in
+        subst (λ (n : ℕ). Laid at n (pieceBytes (bytesAt area from len)) s (a + k) (putMid a (length t - a) t part)) (omega (arith, part-long area from len h))
+        (laid-as (laid-then v w) (ap (λ (b : Bytes). len ∷ b) stretch ∙ ap (λ (n : ℕ). n ∷ bytesAt area from len) (sym (part-long area from len h))))
 
--- the pieces in the order of the paper
-pub lock-as : (area : Bytes) (l : Intent) {k : ℕ} {s t : Bytes} {r : ℕ} → k ≡ kindByte (l .kind)
-    → Fronted ((((digits 8 (l .txn) ++ pieceBytes (bytesAt area (l .at) (l .len))) ++ digits 8 (l .start)) ++ digits 8 (l .ttl)) ++ (k ∷ [])) s r t → Fronted (lockBytes (lockIn area l)) s r t
+-- ---- a lock, its pieces in the order of the paper
+
+pub lock-laid : (area : Bytes) (l : Intent) {k at a b c d r : ℕ} {s t u v w x : Bytes} → Laid at 8 (digits 8 (l .txn)) s a t → Laid a (l .len + 1) (pieceBytes (bytesAt area (l .at) (l .len))) t b u → Laid b 8 (digits 8 (l .start)) u c v
+    → Laid c 8 (digits 8 (l .ttl)) v d w → Laid d 1 (k ∷ []) w r x → k ≡ kindByte (l .kind) → Laid at (l .len + 26) (lockBytes (lockIn area l)) s r x
 unfolding lockBytes
-lock-as area l {k} e v =
-    front-as v
-    (ap (λ (x : ℕ). (((digits 8 (l .txn) ++ pieceBytes (bytesAt area (l .at) (l .len))) ++ digits 8 (l .start)) ++ digits 8 (l .ttl)) ++ (x ∷ [])) e
-    ∙ simp append-assoc)
+lock-laid area l {k} {at} {r = r} {s = s} {x = x} p q y z f e =
+    let g : Laid at (8 + (l .len + 1 + (8 + (8 + 1)))) (digits 8 (l .txn) ++ (pieceBytes (bytesAt area (l .at) (l .len)) ++ (digits 8 (l .start) ++ (digits 8 (l .ttl) ++ (k ∷ []))))) s r x
+    = laid-then p (laid-then q (laid-then y (laid-then z f))) in
+    subst (λ (i : ℕ). Laid at (l .len + 26) (digits 8 (l .txn) ++ (pieceBytes (bytesAt area (l .at) (l .len)) ++ (digits 8 (l .start) ++ (digits 8 (l .ttl) ++ (i ∷ []))))) s r x) e
+    (subst (λ (n : ℕ). Laid at n (digits 8 (l .txn) ++ (pieceBytes (bytesAt area (l .at) (l .len)) ++ (digits 8 (l .start) ++ (digits 8 (l .ttl) ++ (k ∷ []))))) s r x) (omega arith) g)
 
-pub lock-long : (area : Bytes) (l : Intent) → l .at + l .len ≤ length area → length (lockBytes (lockIn area l)) ≡ l .len + 26
-unfolding lockBytes
-lock-long area i g =
-    length-append (digits 8 (i .txn)) (pieceBytes (lockIn area i .primary) ++ (digits 8 (i .start) ++ (digits 8 (i .ttl) ++ (kindByte (i .kind) ∷ []))))
-    ∙ omega (
-      arith,
-      part-long area (i .at) (i .len) g,
-      length-digits 8 (i .txn),
-      length-digits 8 (i .start),
-      length-digits 8 (i .ttl),
-      length-append (pieceBytes (lockIn area i .primary)) (digits 8 (i .start) ++ (digits 8 (i .ttl) ++ (kindByte (i .kind) ∷ []))),
-      length-append (digits 8 (i .start)) (digits 8 (i .ttl) ++ (kindByte (i .kind) ∷ [])),
-      length-append (digits 8 (i .ttl)) (kindByte (i .kind) ∷ []),
-    )
+-- ---- a key, and its row or lock
 
--- ---- a key and its row
+-- what the writer of a row or a lock asks
+abbrev ToldAsks : Bytes → ℕ → Bytes → Told → Type 0
+ToldAsks area at out (told.Standing i) = PieceAsks area (i .at) (i .len) (i .len + 26) at out
+ToldAsks area at out (told.Finished w) = PieceAsks area (w .rowat) (w .rowlen) (w .rowlen + 1) at out
 
-module _ {area : Bytes} {s : Slot} {p : Spot} {out : Bytes} (q : RowAsks area s p out) where
-  pub row-room : s .len + 1 + (p .rowlen + 1) ≤ length out
-  unfolding keyRowBytes
-  row-room = omega (arith, q .room, length-append (pieceBytes (keyOf area s)) (pieceBytes (bytesAt area (p .rowat) (p .rowlen))), part-long area (s .at) (s .len) (q .key-in), part-long area (p .rowat) (p .rowlen) (q .row-in))
+module _ {area : Bytes} {s : Slot} {at : ℕ} {out : Bytes} (q : EntryAsks area s at out) where
+  entry-long : length (entryBytes area s) ≡ s .len + 1 + length (lineBytes area (toldOf area s))
+  entry-long = length-append (pieceBytes (keyOf area s)) (lineBytes area (toldOf area s)) ∙ omega (arith, part-long area (s .at) (s .len) (omega (arith, q .line .within)))
 
-  pub row-as : {r : ℕ} {t : Bytes} → Fronted (pieceBytes (keyOf area s) ++ pieceBytes (bytesAt area (p .rowat) (p .rowlen))) out r t → Fronted (keyRowBytes (rowOn area s p)) out r t
-  unfolding keyRowBytes
-  row-as v = v
+  pub key-asks : s .len ≤ 255 → PieceAsks area (s .at) (s .len) (s .len + 1) at out
+  key-asks h = record { within = omega (arith, q .line .within); short = h; room = omega (arith, q .room, entry-long) }
 
--- ---- a key and its lock
+  module _ {a : ℕ} {t : Bytes} (k : Laid at (s .len + 1) (pieceBytes (keyOf area s)) out a t) where
+    line-asks : ToldAsks area a t (toldOf area s)
+    line-asks = go (s .line) (q .line .within) (q .line .short) (omega (arith, q .room, entry-long))
+      where
+        go : (x : Line) → s .at + s .len + past x ≤ length area → partLen x ≤ 255 → a + length (lineBytes area (toldIn area (s .at + s .len) x)) ≤ length t → ToldAsks area a t (toldIn area (s .at + s .len) x)
+        go (Standing l) f g h = record { within = omega arith; short = g; room = omega (arith, lock-long (lockIn area (intentIn area (s .at + s .len) l)), part-long area (s .at + s .len + 8 + 8 + l .rowlen + 8) (l .plen) (omega arith)) }
+        go (Finished w) f g h = record { within = omega arith; short = g; room = omega (arith, part-long area (s .at + s .len + 8 + 8) (w .rowlen) (omega arith)) }
 
-intent-in : (area : Bytes) (x : Line) → LineBelow (length area) x → intentOf x .at + intentOf x .len ≤ length area
-intent-in area (Standing i) h = h
-intent-in area (Finished w) h = omega arith
+    module _ {line : Told} (e : line ≡ toldOf area s) where
+      pub told-asks : {x : Told} → line ≡ x → ToldAsks area a t x
+      told-asks f = subst (ToldAsks area a t) (sym e ∙ f) line-asks
 
-module _ {area : Bytes} {s : Slot} {out : Bytes} (q : LockAsks area s out) where
-  primary-in : intentOf (s .line) .at + intentOf (s .line) .len ≤ length area
-  primary-in = intent-in area (s .line) (q .line-in)
-
-  lock-room : s .len + 1 + (intentOf (s .line) .len + 26) ≤ length out
-  unfolding keyLockBytes
-  lock-room =
-      omega (arith, q .room, length-append (pieceBytes (keyOf area s)) (lockBytes (lockIn area (intentOf (s .line)))), part-long area (s .at) (s .len) (q .key-in), lock-long area (intentOf (s .line)) primary-in)
-
-  pub key-room : s .len + 1 ≤ length out
-  key-room = omega (arith, lock-room)
-
-  module _ {l : Intent} (e : l ≡ intentOf (s .line)) where
-    pub intent-in-area : l .at + l .len ≤ length area
-    intent-in-area = subst (λ (x : Intent). x .at + x .len ≤ length area) (sym e) primary-in
-
-    pub intent-room : s .len + 1 + (l .len + 26) ≤ length out
-    intent-room = subst (λ (x : Intent). s .len + 1 + (x .len + 26) ≤ length out) (sym e) lock-room
-
-    pub key-lock-as : {r : ℕ} {t : Bytes} → Fronted (pieceBytes (keyOf area s) ++ lockBytes (lockIn area l)) out r t → Fronted (keyLockBytes (lockOn area s)) out r t
-    unfolding keyLockBytes
-    key-lock-as v = front-as v (ap (λ (x : Intent). pieceBytes (keyOf area s) ++ lockBytes (lockIn area x)) e)
+      pub entry-laid : {x : Told} {n r : ℕ} {u : Bytes} → line ≡ x → Laid a n (lineBytes area x) t r u → Laid at (length (entryBytes area s)) (entryBytes area s) out r u
+      entry-laid {x} f v = laid-as (laid-then k v) (ap (λ (y : Told). pieceBytes (keyOf area s) ++ lineBytes area y) (sym f ∙ e))

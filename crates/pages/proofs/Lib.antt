@@ -1,6 +1,5 @@
 -- Laws of pages.
 -- Assumes nothing.
-pub mod FrontLaws
+pub mod LaidLaws
 pub mod EntryLaws
-pub mod SectionLaws
 pub mod PageLaws

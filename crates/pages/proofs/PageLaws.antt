@@ -1,114 +1,176 @@
--- From a judged page to the answer, the count and the whole buffer; and that no second answer fits.
+-- The sections of a page; from a judged page to the answer, the count and the whole buffer; and that no second answer fits.
 -- Assumes nothing.
-use Prim.Native.Nat.{ℕ, _≤_, _<_}
+use Prim.Native.Nat.{ℕ, _+_, _-_, _≤_, _<_}
+use native.Mathlib.Numerals.{add-one}
 use native.Mathlib.Omega.{arith}
-use mathlib.Core.Path.{_≡_, refl, sym, ap, _∙_, subst}
+use mathlib.Core.Path.{_≡_, refl, sym, ap, ap₂, _∙_, subst}
 use mathlib.Core.Bool.{Bool, true, false}
-use lib.ListN.{length}
+use mathlib.Core.List.{List, [], _∷_, _++_, append-assoc, map}
+use lib.ListN.{length, getD, take, drop, length-append, length-map, take-append-drop}
+use lib.Seq.{take-suc, take-all}
 use lib.Dec.{leb}
-use borrow.Author.Tests.{leb-true, le-leb, lt-leb}
+use borrow.Author.Tests.{le-leb, lt-leb}
+use borrow.Rule.Slice.PartMut.{putMid}
+use Rattle.seqs.specs.Tables.{Table}
+use Rattle.seqs.proofs.Tables.{table-at, shown-length, shown-at}
 use Rattle.forms.specs.Bytes.{Bytes}
+use Rattle.forms.specs.Numbers.{digits}
 use Rattle.rules.specs.declared.answers.Holder.{Holder}
 use Rattle.rules.specs.declared.answers.Answer.{Answer}
 use Rattle.rules.specs.declared.answers.Answer.the-variants.{Accepted, No, Held}
-use Rattle.rules.specs.Answers.{_▸_, need, Reply, shown, ifPassed}
+use Rattle.rules.specs.Answers.{Reply, nothing, shown, refused, ifPassed}
 use Rattle.rules.specs.Page.{Page}
-use Rattle.rules.specs.Written.{Written, pageBytes, writeIf, written}
-use Rattle.laws.proofs.StepLaws.{then-left, then-right, need-true}
-use Rattle.laws.proofs.ChainLaws.{call-on, call-no, call-held, last-on, last-out}
-use Rattle.lines.specs.declared.store.Store.{Store}
-use Rattle.lines.specs.Made.{Built}
-use Rattle.walks.specs.declared.walked.Spot.{Spot}
+use Rattle.rules.specs.Written.{Written, allBytes, moreByte, pageBytes, writeIf, written}
+use Rattle.lines.specs.View.{noSlot}
 use Rattle.walks.specs.declared.walked.Walked.{Walked}
-use Rattle.walks.specs.Walked.{pageOf, WalkedAs}
-use Rattle.walks.specs.Turns.{Refusal}
+use Rattle.walks.specs.Walked.{same, pageOn, entryBytes, SlotIn, pageOf, WalkedAs}
+use Rattle.walks.proofs.WalkLaws.{bytes-snoc, page-long}
 use Rattle.pages.specs.declared.calls.Paged.{Paged}
-use Rattle.pages.specs.Fronts.{Fronted}
-use Rattle.pages.specs.Sections.{PageAsks}
-use Rattle.pages.specs.Paged.{PagedAs, replyOf, FinishAsks}
+use Rattle.pages.specs.Laid.{Laid, EntryAsks, WriteAsks}
+use Rattle.pages.specs.Paged.{PagedAs}
+use Rattle.pages.proofs.LaidLaws.{laid-as, laid-then, laid-lent, laid-none, rest-long}
 
-module _ {A : Type 0} (f : Spot → A) (bytes : A → Bytes) (w : Walked) (out : Bytes) where
+-- ---- the entries, one after the other
+
+bytes-split : (xs ys : List Bytes) → allBytes same (xs ++ ys) ≡ allBytes same xs ++ allBytes same ys
+unfolding allBytes
+bytes-split [] ys = refl
+bytes-split (x ∷ xs) ys = ap (λ (b : Bytes). x ++ b) (bytes-split xs ys) ∙ sym (append-assoc x (allBytes same xs) (allBytes same ys))
+
+-- those of the first i
+abbrev firstBytes : Bytes → Walked → ℕ → Bytes
+firstBytes area w i = allBytes same (take i (pageOf area w .rows))
+
+pub record Listing (area : Bytes) (w : Walked) (s : Bytes) (at i : ℕ) (t : Bytes) : Type 0 where
+  pub low : i ≤ w .count
+  pub laid : Laid 0 (length (firstBytes area w i)) (firstBytes area w i) s at t
+
+module _ {area : Bytes} {w : Walked} {s : Bytes} (q : WriteAsks area w (allBytes same (pageOf area w .rows)) s) where
+  next-bytes : (i : ℕ) → i < w .count → firstBytes area w (i + 1) ≡ firstBytes area w i ++ entryBytes area (getD (w .slots) i noSlot)
+  next-bytes i h =
+      ap (λ (n : ℕ). firstBytes area w n) (add-one i)
+      ∙ ap (allBytes same) (take-suc (pageOf area w .rows) i (entryBytes area noSlot) (omega (arith, shown-length (q .table) (entryBytes area))))
+      ∙ bytes-snoc (take i (pageOf area w .rows)) (getD (pageOf area w .rows) i (entryBytes area noSlot))
+      ∙ ap (λ (b : Bytes). firstBytes area w i ++ b) (shown-at (q .table) (entryBytes area) i h)
+
+  first-room : (i : ℕ) → length (firstBytes area w i) ≤ length s
+  first-room i =
+      omega (
+        arith,
+        q .room,
+        ap length (ap (allBytes same) (sym (take-append-drop i (pageOf area w .rows))) ∙ bytes-split (take i (pageOf area w .rows)) (drop i (pageOf area w .rows))),
+        length-append (firstBytes area w i) (allBytes same (drop i (pageOf area w .rows))),
+      )
+
+  pub listing-start : Listing area w s 0 0 s
+  unfolding allBytes
+  listing-start = record { low = omega arith; laid = laid-none s }
+
+  module _ {at i : ℕ} {t : Bytes} (v : Listing area w s at i t) where
+    pub listing-asks : i < w .count → EntryAsks area (getD (w .slots) i noSlot) at t
+    listing-asks h = record {
+      line = table-at (q .table) i h;
+      room = omega (arith, v .laid .next, v .laid .long, first-room (i + 1), ap length (next-bytes i h), length-append (firstBytes area w i) (entryBytes area (getD (w .slots) i noSlot)));
+    }
+
+    pub listing-more : i < w .count → {n r : ℕ} {u : Bytes} → Laid at n (entryBytes area (getD (w .slots) i noSlot)) t r u → Listing area w s r (i + 1) u
+    listing-more h x = record { low = omega arith; laid = laid-as (laid-then (v .laid) x) (sym (next-bytes i h)) }
+
+    pub listing-end : w .count ≤ i → Laid 0 (length (allBytes same (pageOf area w .rows))) (allBytes same (pageOf area w .rows)) s at t
+    listing-end h = laid-as (v .laid) (ap (allBytes same) (take-all i (pageOf area w .rows) (omega (arith, shown-length (q .table) (entryBytes area)))))
+
+-- ---- the page: count, entries, the more byte
+
+module _ {area : Bytes} {w : Walked} {s : Bytes} (q : WriteAsks area w (pageBytes same (pageOf area w)) s) where
+  pub page-room : length (allBytes same (pageOf area w .rows)) + 3 ≤ length s
+  page-room = omega (arith, q .room, page-long (pageOf area w))
+
+  module _ {a : ℕ} {t : Bytes} (v : Laid 0 2 (digits 2 (w .count)) s a t) where
+    pub entries-asked : WriteAsks area w (allBytes same (pageOf area w .rows)) (take (length t - a) (drop a t))
+    entries-asked = record { table = q .table; room = omega (arith, page-room, rest-long t a, v .next, v .long) }
+
+    module _ {k : ℕ} {part : Bytes} (x : Laid 0 (length (allBytes same (pageOf area w .rows))) (allBytes same (pageOf area w .rows)) (take (length t - a) (drop a t)) k part) where
+      -- the buffer after them
+      abbrev after : Bytes
+      after = putMid a (length t - a) t part
+
+      entries-laid : Laid a (length (allBytes same (pageOf area w .rows))) (allBytes same (pageOf area w .rows)) t (a + k) after
+      entries-laid = laid-lent t a (omega arith) x
+
+      pub more-room : 0 < length (take (length after - (a + k)) (drop (a + k) after))
+      more-room = omega (arith, page-room, rest-long after (a + k), entries-laid .next, entries-laid .long)
+
+      pub page-laid : {n m : ℕ} {rest : Bytes} → m ≡ moreByte (w .more) → Laid 0 1 (m ∷ []) (take (length after - (a + k)) (drop (a + k) after)) n rest
+          → Laid 0 (length (pageBytes same (pageOf area w))) (pageBytes same (pageOf area w)) s (a + k + n) (putMid (a + k) (length after - (a + k)) after rest)
+      unfolding pageBytes
+      page-laid e y =
+          laid-as (laid-then v (laid-then entries-laid (laid-lent after (a + k) (omega (arith, entries-laid .within, entries-laid .long)) y)))
+          (ap₂ (λ (i j : ℕ). digits 2 i ++ (allBytes same (pageOf area w .rows) ++ (j ∷ []))) (sym (shown-length (q .table) (entryBytes area))) e)
+
+-- ---- the answer
+
+module _ {area : Bytes} {want : Reply (Page Bytes)} {w : Walked} (v : WalkedAs area want w) (out : Bytes) where
   -- what the call leaves, by the walk's answer
-  by-answer : {v : Answer} → w .answer ≡ v → written bytes (ifPassed v (shown (pageOf f w))) out ≡ written bytes (replyOf f w) out
-  by-answer e = ap (λ (x : Answer). written bytes (ifPassed x (shown (pageOf f w))) out) (sym e)
+  by : {u : Answer} → w .answer ≡ u → {r : Paged} {out′ : Bytes} → PagedAs (written same (ifPassed u (shown (pageOf area w))) out) r out′ → PagedAs (written same want out) r out′
+  by e {r} {out′} p = subst (λ (x : Reply (Page Bytes)). PagedAs (written same x out) r out′) (ap (λ (u : Answer). ifPassed u (shown (pageOf area w))) (sym e) ∙ v .is) p
 
-  taken : {x : Written} {r : Paged} {out′ : Bytes} → x ≡ written bytes (replyOf f w) out → PagedAs x r out′ → PagedAs (written bytes (replyOf f w) out) r out′
-  taken {r = r} {out′ = out′} e p = subst (λ (x : Written). PagedAs x r out′) e p
-
-  module _ {st : Store} {area : Bytes} (q : FinishAsks st area f bytes w) where
-    size : w .answer ≡ Accepted → w .size ≡ length (pageBytes bytes (pageOf f w))
-    size e = q .walked .size-is e
-
-    accepted : w .answer ≡ Accepted → {t : Bool} → leb (length (pageBytes bytes (pageOf f w))) (length out) ≡ t → writeIf t (pageBytes bytes (pageOf f w)) out ≡ written bytes (replyOf f w) out
+  -- "A refusal changes nothing in store or buffers"
+  module _ {r : Paged} where
+    pub paged-no : {n : ℕ} → w .answer ≡ No n → r ≡ record { answer = No n; count = 0 } → PagedAs (written same want out) r out
     unfolding ifPassed written
-    accepted e h = ap (λ (t : Bool). writeIf t (pageBytes bytes (pageOf f w)) out) (sym h) ∙ by-answer e
+    paged-no e p = by e (record { answer-is = ap (λ (x : Paged). x .answer) p; count-is = ap (λ (x : Paged). x .count) p; out-is = refl })
 
-    -- "A refusal changes nothing in store or buffers", 12 among them
-    refused-by : (v : Answer) → w .answer ≡ v → {u : Answer} → u ≡ v ▸ need (leb (w .size) (length out)) 12 → Refusal u → PagedAs (written bytes (replyOf f w) out) (record { answer = u; count = 0 }) out
-    unfolding ifPassed written writeIf _▸_ need
-    refused-by (No n) e p g = taken (by-answer e) (record { answer-is = p; count-is = refl; out-is = refl })
-    refused-by (Held h) e p g = taken (by-answer e) (record { answer-is = p; count-is = refl; out-is = refl })
-    refused-by Accepted e {u} p g = go (leb (w .size) (length out)) refl p
-      where
-        go : (t : Bool) → leb (w .size) (length out) ≡ t → u ≡ need t 12 → PagedAs (written bytes (replyOf f w) out) (record { answer = u; count = 0 }) out
-        go true h p = absurd (subst Refusal p g)
-        go false h p = taken (accepted e (ap (λ (n : ℕ). leb n (length out)) (sym (size e)) ∙ h)) (record { answer-is = p; count-is = refl; out-is = refl })
+    pub paged-held : {h : Holder} → w .answer ≡ Held h → r ≡ record { answer = Held h; count = 0 } → PagedAs (written same want out) r out
+    unfolding ifPassed written
+    paged-held e p = by e (record { answer-is = ap (λ (x : Paged). x .answer) p; count-is = ap (λ (x : Paged). x .count) p; out-is = refl })
 
-    module _ {u : Answer} (p : u ≡ w .answer ▸ need (leb (w .size) (length out)) 12) where
-      pub paged-no : {n : ℕ} → u ≡ No n → PagedAs (written bytes (replyOf f w) out) (record { answer = No n; count = 0 }) out
-      paged-no {n} e = refused-by (w .answer) refl (sym e ∙ p) tt
+  module _ (e : w .answer ≡ Accepted) where
+    size : w .size ≡ length (pageBytes same (pageOf area w))
+    size = v .size-is e
 
-      pub paged-held : {h : Holder} → u ≡ Held h → PagedAs (written bytes (replyOf f w) out) (record { answer = Held h; count = 0 }) out
-      paged-held {h} e = refused-by (w .answer) refl (sym e ∙ p) tt
+    accepted : (t : Bool) → leb (length (pageBytes same (pageOf area w))) (length out) ≡ t → {r : Paged} {out′ : Bytes} → PagedAs (writeIf t (pageBytes same (pageOf area w)) out) r out′ → PagedAs (written same want out) r out′
+    unfolding ifPassed written
+    accepted t h {r} {out′} p = by e (subst (λ (x : Bool). PagedAs (writeIf x (pageBytes same (pageOf area w)) out) r out′) (sym h) p)
 
-      module _ (e : u ≡ Accepted) where
-        judged : w .answer ≡ Accepted
-        judged = then-left (w .answer) (need (leb (w .size) (length out)) 12) (sym p ∙ e)
+    -- "Last, 12"
+    pub paged-short : {r : Paged} → length out < w .size → r ≡ record { answer = No 12; count = 0 } → PagedAs (written same want out) r out
+    unfolding writeIf
+    paged-short h p =
+        accepted false (lt-leb (length (pageBytes same (pageOf area w))) (length out) (omega (arith, size)))
+        (record { answer-is = ap (λ (x : Paged). x .answer) p; count-is = ap (λ (x : Paged). x .count) p; out-is = refl })
 
-        room : w .size ≤ length out
-        room = leb-true (w .size) (length out) (need-true (leb (w .size) (length out)) 12 (then-right (w .answer) (need (leb (w .size) (length out)) 12) (sym p ∙ e)))
+    module _ (h : w .size ≤ length out) where
+      pub page-asked : WriteAsks area w (pageBytes same (pageOf area w)) out
+      page-asked = record { table = v .table; room = omega (arith, size) }
 
-        pub page-asked : PageAsks st area f bytes w out
-        page-asked = record {
-          built = q .built;
-          few = q .walked .few;
-          long = q .walked .long;
-          good = q .walked .good;
-          room = omega (arith, size judged, room);
-        }
+      pub paged-put : {n : ℕ} {out′ : Bytes} → Laid 0 (length (pageBytes same (pageOf area w))) (pageBytes same (pageOf area w)) out n out′ → PagedAs (written same want out) (record { answer = Accepted; count = n }) out′
+      unfolding writeIf
+      paged-put {n} x =
+          accepted true (le-leb (length (pageBytes same (pageOf area w))) (length out) (omega (arith, size)))
+          (record { answer-is = refl; count-is = all; out-is = x .is ∙ ap (λ (k : ℕ). pageBytes same (pageOf area w) ++ drop k out) all })
+        where
+          all : n ≡ length (pageBytes same (pageOf area w))
+          all = omega (arith, x .next)
 
-        pub paged-put : {n : ℕ} {out′ : Bytes} → Fronted (pageBytes bytes (pageOf f w)) out n out′ → PagedAs (written bytes (replyOf f w) out) (record { answer = Accepted; count = n }) out′
-        unfolding writeIf
-        paged-put v =
-            taken (accepted judged (le-leb (length (pageBytes bytes (pageOf f w))) (length out) (omega (arith, size judged, room))))
-            (record { answer-is = refl; count-is = v .count; out-is = v .is })
+-- ---- the calls: what is written of entries as their bytes
 
--- ---- "Last, 12"
+all-on : {A : Type 0} (f : A → Bytes) (xs : List A) → allBytes same (map f xs) ≡ allBytes f xs
+unfolding allBytes
+all-on f [] = refl
+all-on f (x ∷ xs) = ap (λ (b : Bytes). f x ++ b) (all-on f xs)
 
-module _ {judged : Answer} (size room : ℕ) where
-  pub last-short : judged ≡ Accepted → room < size → No 12 ≡ judged ▸ need (leb size room) 12
-  last-short e h = call-on (No 12) judged judged (need (leb size room) 12) refl e (last-out (leb size room) 12 (lt-leb size room h))
+page-on : {A : Type 0} (f : A → Bytes) (p : Page A) → pageBytes same (record { rows = map f (p .rows); more = p .more }) ≡ pageBytes f p
+unfolding pageBytes
+page-on f p = ap₂ (λ (n : ℕ) (b : Bytes). digits 2 n ++ (b ++ (moreByte (p .more) ∷ []))) (length-map (p .rows) f) (all-on f (p .rows))
 
-  pub last-room : judged ≡ Accepted → size ≤ room → Accepted ≡ judged ▸ need (leb size room) 12
-  last-room e h = call-on Accepted judged judged (need (leb size room) 12) refl e (last-on (leb size room) 12 (le-leb size room h))
+written-on : {A : Type 0} (f : A → Bytes) (r : Reply (Page A)) (out : Bytes) → written same (pageOn f r) out ≡ written f r out
+unfolding written pageOn
+written-on f nothing out = refl
+written-on f (refused v) out = refl
+written-on f (shown p) out = ap (λ (b : Bytes). writeIf (leb (length b) (length out)) b out) (page-on f p)
 
-  pub last-no : {n : ℕ} → judged ≡ No n → No n ≡ judged ▸ need (leb size room) 12
-  last-no {n} e = call-no n judged judged (need (leb size room) 12) refl e
-
-  pub last-held : {h : Holder} → judged ≡ Held h → Held h ≡ judged ▸ need (leb size room) 12
-  last-held {h} e = call-held h judged judged (need (leb size room) 12) refl e
-
--- ---- the calls
-
-pub finish-asked : {A : Type 0} (st : Store) {area : Bytes} {f : Spot → A} {bytes : A → Bytes} {want : Reply (Page A)} {w : Walked} → Built st area → WalkedAs (st .load .lines) area f bytes want w → FinishAsks st area f bytes w
-finish-asked st b v = record {
-  built = b;
-  walked = record { is = refl; size-is = v .size-is; few = v .few; long = v .long; good = v .good };
-}
-
-pub finished : {A : Type 0} {n : ℕ} {area : Bytes} {f : Spot → A} {bytes : A → Bytes} {want : Reply (Page A)} {w : Walked} (out : Bytes) {r : Paged} {out′ : Bytes} → WalkedAs n area f bytes want w
-    → PagedAs (written bytes (replyOf f w) out) r out′ → PagedAs (written bytes want out) r out′
-finished {A} {bytes = bytes} out {r} {out′} v p = subst (λ (x : Reply (Page A)). PagedAs (written bytes x out) r out′) (v .is) p
+pub paged-on : {A : Type 0} (f : A → Bytes) (r : Reply (Page A)) (out : Bytes) {p : Paged} {out′ : Bytes} → PagedAs (written same (pageOn f r) out) p out′ → PagedAs (written f r out) p out′
+paged-on f r out {p} {out′} x = subst (λ (w : Written). PagedAs w p out′) (written-on f r out) x
 
 -- ---- no second answer fits
 

@@ -1,18 +1,18 @@
 // The three calls: what the walk judged, "Last, 12", and then the writing. "A refusal changes nothing in store or buffers."
 ghost use mathlib.Core.Path.{_≡_};
-ghost use lib.Dec.{leb};
-ghost use Rattle.rules.specs.Answers.{_▸_, need};
-ghost use Rattle.rules.specs.Written.{keyRowBytes, keyLockBytes, written, scanPage, scanIntentPage, scanConflictingIntents};
+ghost use Rattle.rules.specs.Written.{written, scanPage, scanIntentPage, scanConflictingIntents};
 ghost use Rattle.lines.specs.View.{boxOf};
 ghost use Rattle.lines.specs.Made.{Made};
 ghost use Rattle.bounds.specs.Bounds.{boundsOf};
-ghost use Rattle.walks.specs.Walked.{rowAt, lockAt};
-ghost use Rattle.pages.specs.Paged.{replyOf, FinishAsks, PagedAs};
-use crate::sections::put_lock_page;
-use crate::sections::put_row_page;
+ghost use Rattle.walks.specs.Walked.{same, pageAsked, WalkAsks};
+ghost use Rattle.pages.specs.Paged.{PagedAs};
+use crate::sections::put_page;
+use lines::AREA;
 use lines::Store;
 use rules::Answer;
-use walks::Walked;
+use walks::Asked;
+use walks::Scan;
+use walks::judge_page;
 
 // "A writing call also gives the bytes written; a refusal's counts are 0."
 pub struct Paged {
@@ -20,78 +20,53 @@ pub struct Paged {
     pub count: usize,
 }
 
-// "Last, 12."
-fn last_step(judged: Answer, size: usize, room: usize) -> Answer
-    ensures { λ r. ⌜ r ≡ judged ▸ need (leb size room) 12 ⌝ }
+fn refusal(answer: Answer) -> Paged
+    ensures { λ r. ⌜ r ≡ record { answer = answer; count = 0 } ⌝ }
 {
+    Paged {
+        answer: answer,
+        count: 0,
+    }
+}
+
+// Any of the three.
+fn scan(
+    store: Store,
+    area: &[u8],
+    asks: Asked,
+    starts: bool,
+    start: &[u8],
+    ends: bool,
+    end: &[u8],
+    resumes: bool,
+    resume: &[u8],
+    out: &mut [u8],
+) -> Paged
+    requires { ⌜ WalkAsks store (now area) asks ⌝ }
+    ensures { λ r. ⌜ PagedAs (written same (pageAsked asks (boundsOf starts (now (start .entry)) ends (now (end .entry)) resumes (now (resume .entry))) (boxOf store (now (area .entry)))) (now (out .entry))) r (now (out .exit)) ⌝ }
+{
+    let w = judge_page(store, area, asks, starts, start, ends, end, resumes, resume);
+    let judged = w.answer;
     match judged {
         Answer::Accepted => {
-            if room < size {
-                return Answer::No(12);
+            if out.len() < w.size {
+                return refusal(Answer::No(12));
             }
-            Answer::Accepted
-        }
-        Answer::No(n) => Answer::No(n),
-        Answer::Held(h) => Answer::Held(h),
-    }
-}
-
-// A judged page of rows: 12, or its bytes.
-fn finish_rows(store: Store, area: &[u8], w: Walked, out: &mut [u8]) -> Paged
-    requires { ⌜ FinishAsks store (now area) (rowAt (store .lines) (now area)) keyRowBytes w ⌝ }
-    ensures { λ r. ⌜ PagedAs (written keyRowBytes (replyOf (rowAt (store .lines) (now (area .entry))) w) (now (out .entry))) r (now (out .exit)) ⌝ }
-{
-    let judged = w.answer;
-    let answer = last_step(judged, w.size, out.len());
-    match answer {
-        Answer::Accepted => {
-            let n = put_row_page(out, area, store, w);
+            let n = put_page(out, area, w);
             Paged {
                 answer: Answer::Accepted,
                 count: n,
             }
         }
-        Answer::No(n) => Paged {
-            answer: Answer::No(n),
-            count: 0,
-        },
-        Answer::Held(h) => Paged {
-            answer: Answer::Held(h),
-            count: 0,
-        },
-    }
-}
-
-// A judged page of locks: 12, or its bytes.
-fn finish_locks(store: Store, area: &[u8], w: Walked, out: &mut [u8]) -> Paged
-    requires { ⌜ FinishAsks store (now area) (lockAt (store .lines) (now area)) keyLockBytes w ⌝ }
-    ensures { λ r. ⌜ PagedAs (written keyLockBytes (replyOf (lockAt (store .lines) (now (area .entry))) w) (now (out .entry))) r (now (out .exit)) ⌝ }
-{
-    let judged = w.answer;
-    let answer = last_step(judged, w.size, out.len());
-    match answer {
-        Answer::Accepted => {
-            let n = put_lock_page(out, area, store, w);
-            Paged {
-                answer: Answer::Accepted,
-                count: n,
-            }
-        }
-        Answer::No(n) => Paged {
-            answer: Answer::No(n),
-            count: 0,
-        },
-        Answer::Held(h) => Paged {
-            answer: Answer::Held(h),
-            count: 0,
-        },
+        Answer::No(n) => refusal(Answer::No(n)),
+        Answer::Held(h) => refusal(Answer::Held(h)),
     }
 }
 
 // "Page": the rows shown at a moment, up to a limit of rows and one of bytes.
 pub fn scan_page(
     store: Store,
-    area: &[u8],
+    area: &[u8; AREA],
     moment: u64,
     rows: u64,
     bytes: u64,
@@ -106,26 +81,30 @@ pub fn scan_page(
     requires { ⌜ Made store (now area) ⌝ }
     ensures { λ r. ⌜ PagedAs (scanPage (boundsOf starts (now (start .entry)) ends (now (end .entry)) resumes (now (resume .entry))) moment (record { rows = rows; bytes = bytes }) (boxOf store (now (area .entry))) (now (out .entry))) r (now (out .exit)) ⌝ }
 {
-    let w = walks::judge_page(
+    let asks = Asked {
+        scan: Scan::Rows,
+        moment: moment,
+        limit: rows,
+        bytes: bytes,
+    };
+    scan(
         store,
         area,
-        moment,
-        rows,
-        bytes,
+        asks,
         starts,
         start,
         ends,
         end,
         resumes,
         resume,
-    );
-    finish_rows(store, area, w, out)
+        out,
+    )
 }
 
 // "Intent page": the locks, up to a limit.
 pub fn scan_intent_page(
     store: Store,
-    area: &[u8],
+    area: &[u8; AREA],
     limit: u64,
     starts: bool,
     start: &[u8],
@@ -138,24 +117,30 @@ pub fn scan_intent_page(
     requires { ⌜ Made store (now area) ⌝ }
     ensures { λ r. ⌜ PagedAs (scanIntentPage (boundsOf starts (now (start .entry)) ends (now (end .entry)) resumes (now (resume .entry))) limit (boxOf store (now (area .entry))) (now (out .entry))) r (now (out .exit)) ⌝ }
 {
-    let w = walks::judge_intents(
+    let asks = Asked {
+        scan: Scan::Intents,
+        moment: 0,
+        limit: limit,
+        bytes: 1048576,
+    };
+    scan(
         store,
         area,
-        limit,
+        asks,
         starts,
         start,
         ends,
         end,
         resumes,
         resume,
-    );
-    finish_locks(store, area, w, out)
+        out,
+    )
 }
 
 // "Conflicting intents": the locks that stand in the way of a read at a moment, up to a limit of locks and one of bytes.
 pub fn scan_conflicting_intents(
     store: Store,
-    area: &[u8],
+    area: &[u8; AREA],
     moment: u64,
     locks: u64,
     bytes: u64,
@@ -170,18 +155,22 @@ pub fn scan_conflicting_intents(
     requires { ⌜ Made store (now area) ⌝ }
     ensures { λ r. ⌜ PagedAs (scanConflictingIntents (boundsOf starts (now (start .entry)) ends (now (end .entry)) resumes (now (resume .entry))) moment (record { rows = locks; bytes = bytes }) (boxOf store (now (area .entry))) (now (out .entry))) r (now (out .exit)) ⌝ }
 {
-    let w = walks::judge_conflicts(
+    let asks = Asked {
+        scan: Scan::Conflicts,
+        moment: moment,
+        limit: locks,
+        bytes: bytes,
+    };
+    scan(
         store,
         area,
-        moment,
-        locks,
-        bytes,
+        asks,
         starts,
         start,
         ends,
         end,
         resumes,
         resume,
-    );
-    finish_locks(store, area, w, out)
+        out,
+    )
 }

@@ -1,148 +1,126 @@
--- The applying pass, whole: the area has place, the entries are written down, and the edits make the definition's box.
+-- The batch of a prewrite: what its entries add, what each asks of the store as it is then, and the definition by one entry's steps.
 -- Assumes nothing.
-use Prim.Native.Nat.{ℕ, _+_, _*_, _≤_}
+use Prim.Native.Nat.{ℕ, _+_, _≤_, _<_}
 use native.Mathlib.Omega.{arith}
-use mathlib.Core.Path.{_≡_, refl, sym, ap, _∙_, subst}
-use mathlib.Core.Bool.{true}
-use mathlib.Core.List.{List}
+use mathlib.Core.Path.{_≡_, refl, sym, ap, ap₂, _∙_, subst}
+use mathlib.Core.List.{List, [], _∷_}
 use mathlib.Core.Option.{Option, none, some}
-use lib.ListN.{length, getD}
+use lib.ListN.{getD, drop}
 use Rattle.seqs.specs.Tables.{shown}
-use Rattle.seqs.proofs.Tables.{shown-length, shown-past}
 use Rattle.forms.specs.Bytes.{Bytes}
-use Rattle.forms.specs.Key.{Key, keyForm}
 use Rattle.forms.specs.Row.{Row}
-use Rattle.forms.specs.Readers.{isSome}
-use Rattle.forms.specs.Batch.{Mutation, keyIn, ascend}
+use Rattle.forms.specs.Batch.{Mutation, keyIn}
 use Rattle.forms.specs.Places.{keyAt, mutationOf, noEntry}
 use Rattle.forms.specs.declared.batch.Entry.{Entry}
 use Rattle.forms.proofs.BatchLaws.{mutations-by-keys}
+use Rattle.rules.specs.declared.answers.Answer.{Answer}
 use Rattle.rules.specs.declared.answers.Answer.the-variants.{Accepted}
 use Rattle.rules.specs.declared.room.Load.{Load}
-use Rattle.rules.specs.Box.{Box, Lock, Standing, KeyLine, Default, before, rowBefore, lockOf}
-use Rattle.rules.specs.Room.{loadOf, Fits}
-use Rattle.rules.specs.Restore.{allGood}
-use Rattle.rules.specs.Calls.{kindOf}
-use Rattle.rules.specs.Prewrite.{Head, prewriteEntry, prewriteEntries, lockFor, lockLine, storeIf, unlessLocked, applyPrewrite, applyPrewrites}
-use Rattle.laws.specs.Adds.{sumLoads, prewriteAdds}
-use Rattle.laws.proofs.Sorted.{all-insert}
-use Rattle.laws.proofs.LoadLaws.{load-fields}
-use Rattle.laws.proofs.PrewriteLaws.{prewrite-passed, prewrites-keep, prewrites-order, applyPrewrites-all}
+use Rattle.rules.specs.Answers.{_▸_, need}
+use Rattle.rules.specs.Box.{Box, Lock, lockOf}
+use Rattle.rules.specs.Room.{loadOf, roomFor}
+use Rattle.rules.specs.Calls.{settle, nonEmpty}
+use Rattle.rules.specs.Prewrite.{Head, headStep, prewriteEntry, unlessLocked, lockLine, applyPrewrite, prewriteRoom, prewriteSteps, prewriteAll}
+use Rattle.laws.specs.Adds.{noLoad, plus, sumLoads, lockLoad, ofRow, prewriteAdds}
+use Rattle.laws.proofs.LoadLaws.{none-plus}
+use Rattle.laws.proofs.BatchLaws.{applyAll}
+use Rattle.laws.proofs.PrewriteLaws.{prewrite-passed, prewrite-depends, prewrite-only, prewriteEntries-all, applyPrewrites-all}
 use Rattle.laws.proofs.PrewriteLoad.{prewrites-load}
-use Rattle.lines.specs.declared.keys.Locked.{Locked}
-use Rattle.lines.specs.declared.keys.Locked.the-variants.{Nobody, By}
-use Rattle.lines.specs.declared.keys.Looked.{Looked}
-use Rattle.lines.specs.declared.places.FoundRow.{FoundRow}
 use Rattle.lines.specs.declared.store.Store.{Store}
 use Rattle.lines.specs.View.{boxOf}
-use Rattle.lines.specs.Made.{KeysIn, Kept, Built}
-use Rattle.lines.specs.Looks.{lockedBy}
-use Rattle.areas.specs.Packs.{Placed}
-use Rattle.calls.specs.Walks.{noLook, noFound, Met, Surveyed, AllAsks}
-use Rattle.calls.proofs.PassLaws.{met-at}
-use Rattle.edits.specs.Seen as seen
-use Rattle.edits.specs.declared.edit.Plan.{Plan}
-use Rattle.edits.proofs.BuiltLaws.{Planned, planned-asks, planned-leaves}
-use Rattle.edits.proofs.WrittenLaws.{written-planned}
-use Rattle.prewrites.specs.Drafts.{Spot, DraftFor, DraftsAsk, Drafting, AllDrafted}
+use Rattle.stretches.specs.Changes.{entryFor, Leaves}
+use Rattle.applies.specs.Applies.{PrewriteAsks, Applied}
+use Rattle.calls.specs.Walks.{rowAt}
+use Rattle.calls.specs.Passes.{ApplyAsks}
+use Rattle.calls.proofs.EntryLaws.{parts-are, row-fits}
+use Rattle.calls.proofs.ApplyLaws.{Changes, Applying, applying-passed, applying-room, ChangingAll, changing-start, changing-here, changing-more}
+use Rattle.calls.proofs.JudgeLaws.{Weighed, changing-free}
+use Rattle.calls.proofs.DoneLaws.{ByEntries}
+use Rattle.prewrites.specs.Checks.{stepsOf}
 
--- every entry has passed, and the load is that of the box that they leave, which has room
-pub record ApplyAsks (st : Store) (area : Bytes) (h : Head) (s : Bytes) (n : ℕ) (es : List Entry) (founds : List Looked) (rows : List FoundRow) (load : Load) : Type 0 where
-  pub asks : AllAsks st area s n es
-  pub surveyed : Surveyed st area s (h .start) 0 n es founds rows
-  pub primary-ok : keyForm (h .primary) ≡ true
-  pub passes : prewriteEntries h (boxOf st area) (shown (mutationOf s) n es) ≡ Accepted
-  pub load-is : load ≡ loadOf (applyPrewrites h (shown (mutationOf s) n es) (boxOf st area))
-  pub fit : Fits load
+-- ---- what an entry adds
 
--- every key stays in form
-store-keys : (k : Key) (s : ℕ) (row : Option Row) (ds : List Default) → keyForm k ≡ true → allGood (λ (d : Default). keyForm (d .key)) ds ≡ true → allGood (λ (d : Default). keyForm (d .key)) (storeIf k s row ds) ≡ true
-unfolding storeIf
-store-keys k s none ds f g = g
-store-keys k s (some r) ds f g = all-insert rowBefore (record { key = k; start = s; row = r }) (λ (d : Default). keyForm (d .key)) ds f g
+-- nothing is freed
+none-freed : (ms : List Mutation) → sumLoads (λ (m : Mutation). noLoad) ms ≡ noLoad
+unfolding sumLoads
+none-freed [] = refl
+none-freed (m ∷ ms) = ap (plus noLoad) (none-freed ms)
 
-prewrite-keys : (h : Head) (m : Mutation) (b : Box) → prewriteEntry h b m ≡ Accepted → KeysIn b → KeysIn (applyPrewrite h m b)
-unfolding applyPrewrite unlessLocked lockLine
-prewrite-keys h m b p k = go (lockOf (m .key) (b .lines))
+pub weighed : (h : Head) → Weighed (stepsOf h) keyIn (applyPrewrite h)
+unfolding prewriteAdds applyPrewrite unlessLocked ofRow
+weighed h = record {
+  load = λ ms b a o.
+      sym (ap (λ (l : Load). plus l (loadOf (applyAll (applyPrewrite h) ms b))) (none-freed ms) ∙ none-plus _ ∙ ap loadOf (sym (applyPrewrites-all h ms b)) ∙ prewrites-load h ms b a);
+  replay = λ m b e. replay m b (lockOf (m .key) (b .lines)) e;
+  lines = λ m b. omega arith;
+  locks = λ m b. omega (arith, locks m (lockOf (m .key) (b .lines)));
+}
   where
-    form : keyForm (m .key) ≡ true
-    form = prewrite-passed h b m p .key
+    added : Mutation → Load
+    added m = plus (lockLoad (m .key) (h .primary)) (ofRow (m .key) (m .row))
 
-    go : (o : Option Lock) → KeysIn (unlessLocked o (lockLine h m b) b)
-    go none = record {
-      lines = all-insert before (record { key = m .key; line = Standing (lockFor h (kindOf (m .row))) }) (λ (e : KeyLine). keyForm (e .key)) (b .lines) form (k .lines);
-      defaults = store-keys (m .key) (h .start) (m .row) (b .defaults) form (k .defaults);
-    }
-    go (some l) = k
+    replay : (m : Mutation) (b : Box) (o : Option Lock) → unlessLocked o (added m) noLoad .lines ≡ 0 → unlessLocked o (lockLine h m b) b ≡ b
+    replay m b none q = absurd (omega arith)
+    replay m b (some l) q = refl
 
--- what was found, told of the box
-spot-of : {st : Store} {area : Bytes} {k : Key} {start : ℕ} {found : Looked} {stored : FoundRow} → Met st area k start 0 found stored → Spot start (boxOf st area) k found stored
-spot-of {st} {area} {found = found} v = record { first-is = v .looked .first-is; lock-is = λ x. same (found .lock) x ∙ ap isSome (v .looked .lock-is); row-is = v .row .place-is }
-  where
-    same : (l : Locked) (x : Bytes) → isSome (lockedBy x l) ≡ isSome (lockedBy area l)
-    same Nobody x = refl
-    same (By i) x = refl
+    locks : (m : Mutation) (o : Option Lock) → unlessLocked o (added m) noLoad .locks ≤ unlessLocked o (added m) noLoad .lines
+    locks m none = row-locks (m .row)
+      where
+        row-locks : (r : Option Row) → 1 + ofRow (m .key) r .locks ≤ 1 + ofRow (m .key) r .lines
+        row-locks none = omega arith
+        row-locks (some r) = omega arith
+    locks m (some l) = omega arith
 
-module _ {st : Store} {area : Bytes} {h : Head} {s : Bytes} {n : ℕ} {es : List Entry} {founds : List Looked} {rows : List FoundRow} {load : Load} (a : ApplyAsks st area h s n es founds rows load) where
-  pub apply-small : n ≤ 32
-  apply-small = a .asks .form .listed .few
+-- an entry that is not yet locked adds a line
+one-more : (h : Head) (b : Box) (m : Mutation) → lockOf (m .key) (b .lines) ≡ none → 0 < prewriteAdds h b m .lines
+unfolding prewriteAdds unlessLocked
+one-more h b m e = rw e (omega arith)
 
-  module _ {t : Store} {area′ : Bytes} (p : Placed st area (n * 399) t area′) where
+-- ---- one entry after the other
+
+abbrev pub changesOf : Head → Changes Mutation
+changesOf h = record { key = keyIn; start = h .start; check = prewriteEntry h; apply = applyPrewrite h; most = 375; depends = prewrite-depends h; only = prewrite-only h (h .start) }
+
+-- what is left to apply to the store as it is
+abbrev pub Locking : Head → Box → Bytes → Bytes → ℕ → List Entry → ℕ → Store → Type 0
+Locking h b area s n es i cur = ChangingAll (changesOf h) (mutationOf s) (applyAll (applyPrewrite h) (shown (mutationOf s) n es) b) area s n es i cur
+
+module _ (h : Head) {st : Store} {area s : Bytes} {n : ℕ} {es : List Entry} (asks : (ApplyAsks (prewriteEntry h) (applyPrewrite h) (mutationOf s) 375 st area s n es) × (headStep h ≡ Accepted)) where
+  pub locking-start : Locking h (boxOf st area) area s n es 0 st
+  locking-start = let a = asks .0 in changing-start (changesOf h) (mutationOf s) (a .form .listed) (a .built) (mutations-by-keys s n es ∙ a .form .ascends) (a .passed) refl (a .room)
+
+  module _ {area′ : Bytes} {i : ℕ} {cur : Store} (v : Locking h (boxOf st area) area′ s n es i cur) (more : i < n) where
+    abbrev e : Entry
+    e = getD es i noEntry
+
     abbrev b : Box
-    b = boxOf t area′
+    b = boxOf cur area′
 
-    abbrev ms : List Mutation
-    ms = shown (mutationOf s) n es
+    here : Applying (changesOf h) (applyAll (applyPrewrite h) (shown (mutationOf s) n es) (boxOf st area)) b (cur .top) (mutationOf s e ∷ drop (i + 1) (shown (mutationOf s) n es))
+    here = changing-here v more
 
-    asc : ascend keyIn ms ≡ true
-    asc = mutations-by-keys s n es ∙ a .asks .form .ascends
+    passed : prewriteEntry h b (entryFor (keyAt s e) (e .put) (rowAt s e)) ≡ Accepted
+    passed = ap (prewriteEntry h b) (parts-are s e) ∙ applying-passed here
 
-    passes : prewriteEntries h b ms ≡ Accepted
-    passes = ap (λ (x : Box). prewriteEntries h x ms) (p .shown) ∙ a .passes
-
-    draft-for : DraftFor h area′ (t .top) s n es founds rows t
-    draft-for = record {
-      top-is = refl;
-      built = p .made .built;
-      spots = λ j l. subst (λ (x : Box). Spot (h .start) x (keyAt s (getD es j noEntry)) (getD founds j noLook) (getD rows j noFound)) (sym (p .shown)) (spot-of (met-at (a .surveyed) l));
-      passes = passes;
+    pub locking-asks : PrewriteAsks cur area′ h (keyAt s (getD es i noEntry)) (getD es i noEntry .put) (rowAt s (getD es i noEntry))
+    locking-asks = record {
+      built = v .left .built;
+      head = asks .1;
+      passed = passed;
+      row-fits = row-fits s e (prewrite-passed h b _ passed .row);
+      slot-free = λ f. changing-free (weighed h) v more (asks .0 .fit) (one-more h b (mutationOf s e) f);
+      area-room = applying-room here;
     }
 
-    pub apply-drafts : DraftsAsk h area′ (t .top) s n es founds rows
-    apply-drafts = record { listed = a .asks .form .listed; primary-ok = a .primary-ok; room = p .room; st = t; for = draft-for }
+    pub locking-more : {r : Store} {area″ : Bytes} → Applied cur area′ (applyPrewrite h (entryFor (keyAt s (getD es i noEntry)) (getD es i noEntry .put) (rowAt s (getD es i noEntry))) (boxOf cur area′)) (cur .top + 375) r area″
+        → Locking h (boxOf st area) area″ s n es (i + 1) r
+    locking-more {r} {area″} l = changing-more v more (subst (λ (m : Mutation). Leaves (applyPrewrite h m b) (cur .top + 375) r area″) (parts-are s e) (l .leaves))
 
-    module _ {plan : Plan} {area″ : Bytes} (d : AllDrafted h area′ (t .top) s n es founds rows plan area″) where
-      drafted : Drafting h area′ ms t area″ (plan .top) n (plan .lines) (plan .rows)
-      drafted = d t draft-for
+-- ---- the call
 
-      load-is : load ≡ loadOf (applyPrewrites h ms b)
-      load-is = a .load-is ∙ ap (λ (x : Box). loadOf (applyPrewrites h ms x)) (sym (p .shown))
-
-      after : Kept (applyPrewrites h ms b) load
-      after = record {
-        load-is = load-is;
-        sorted = prewrites-order h ms b asc passes (p .made .built .kept .sorted);
-        keys = prewrites-keep h KeysIn (prewrite-keys h) ms b asc passes (p .made .built .kept .keys);
-      }
-
-      -- no byte is left to come
-      live : load .bytes ≤ plan .top
-      unfolding sumLoads
-      live =
-          let x = load-fields (load-is ∙ prewrites-load h ms b asc) in
-          let y = load-fields (p .made .built .kept .load-is) in
-          let z = ap (λ (l : List Mutation). sumLoads (prewriteAdds h b) l .bytes) (shown-past (a .asks .form .listed) (mutationOf s) n (omega arith)) in
-          omega (arith, x .bytes, y .bytes, p .made .built .live-in, drafted .bytes, z)
-
-      planned : Planned t area′ area″ (applyPrewrites h ms b) load (plan .top) n (plan .lines) (plan .rows)
-      planned =
-          written-planned (drafted .written) (p .made .built) (shown-length (a .asks .form .listed) (mutationOf s)) apply-small asc (applyPrewrites-all h ms b) after (a .fit .lines) (a .fit .defaults) live
-
-      pub apply-store : seen.StoreAsks t n (plan .lines) (plan .rows)
-      apply-store = planned-asks planned
-
-      pub apply-long : length area″ ≡ length area′
-      apply-long = drafted .written .above .long
-
-      pub apply-done : {r : Store} → seen.Applied t n (plan .lines) (plan .rows) load (plan .top) r → (Built r area″) × (boxOf r area″ ≡ applyPrewrites h (shown (mutationOf s) n es) (boxOf st area))
-      apply-done u = let l = planned-leaves planned u in (l .built, l .shown ∙ ap (applyPrewrites h ms) (p .shown))
+-- the definition, by the steps of one entry
+pub by-entries : (h : Head) → ByEntries (prewriteEntry h) (applyPrewrite h) (headStep h) (prewriteAll h)
+unfolding prewriteAll prewriteSteps prewriteRoom
+by-entries h = record {
+  is = λ ms b. ap₂ (λ (x : Answer) (c : Box). settle (need (nonEmpty ms) 5 ▸ headStep h ▸ x ▸ need (roomFor c) 11) c b) (prewriteEntries-all h b ms) (applyPrewrites-all h ms b);
+}

@@ -1,123 +1,179 @@
--- One entry of a prewrite: what it adds, and each way out of its check.
+-- One entry of a prewrite: what it adds, and each way out of its check. The definition passes where no store can fail: records are sound,
+-- the row that is stored for the key and the start is the lock's own, and without a lock there is none.
 -- Assumes nothing.
 use Prim.Native.Nat.{ℕ, _≤_}
 use native.Mathlib.Omega.{arith}
 use mathlib.Core.Path.{_≡_, refl, sym, ap, _∙_}
-use mathlib.Core.Bool.{true}
-use mathlib.Core.Option.{Option, none, some}
+use mathlib.Core.Bool.{Bool, true, false, _&&_}
+use mathlib.Core.List.{List}
+use mathlib.Core.Option.{Option, some}
+use lib.Dec.{eqb}
 use lib.ListN.{length}
-use Rattle.forms.specs.Bytes.{Bytes, bytesAt}
+use borrow.Author.Tests.{eqb-true}
+use Rattle.forms.specs.Bytes.{Bytes, bytesAt, eqBytes}
 use Rattle.forms.specs.Key.{Key, keyForm}
 use Rattle.forms.specs.Row.{Row}
 use Rattle.forms.specs.Readers.{when}
-use Rattle.forms.specs.Batch.{Mutation}
-use Rattle.forms.proofs.KeyLaws.{key-bounds}
-use Rattle.forms.proofs.RowLaws.{row-bounds}
+use Rattle.forms.specs.Places.{keyAt, EntryIn}
+use Rattle.forms.specs.declared.batch.Entry.{Entry}
 use Rattle.rules.specs.declared.answers.Answer.{Answer}
 use Rattle.rules.specs.declared.answers.Answer.the-variants.{Accepted}
+use Rattle.rules.specs.declared.answers.Holder.{Holder}
+use Rattle.rules.specs.declared.records.Kind.{Kind}
+use Rattle.rules.specs.declared.records.Kind.the-variants.{Put, Delete, Rollback}
 use Rattle.rules.specs.declared.room.Load.{Load}
-use Rattle.rules.specs.Box.{Box, Lock, recordsOf, rowOf}
+use Rattle.rules.specs.Answers.{_▸_, need, needOwn}
+use Rattle.rules.specs.Box as box
 use Rattle.rules.specs.Sound.{allSound}
-use Rattle.rules.specs.Calls.{allBelow, rowArgument}
-use Rattle.rules.specs.Prewrite.{Head, prewriteEntry, unlessLocked}
-use Rattle.laws.specs.Adds.{noLoad, plus, lockLoad, ofRow, prewriteAdds}
+use Rattle.rules.specs.Calls.{kindOf, owns, allBelow, rowArgument, rowStands}
+use Rattle.rules.specs.Prewrite.{Head, sameLock, lockStep, prewriteEntry, unlessLocked}
+use Rattle.laws.specs.Adds.{prewriteAdds}
 use Rattle.laws.proofs.LoadLaws.{load-fields}
-use Rattle.laws.proofs.StepLaws.{passed}
+use Rattle.laws.proofs.StepLaws.{need-true, and-right}
+use Rattle.ledger.proofs.Unmet.{records-sound, prewrite-free}
+use Rattle.lines.specs.declared.store.Store.{Store}
 use Rattle.lines.specs.declared.keys.Locked.{Locked}
 use Rattle.lines.specs.declared.keys.Locked.the-variants.{Nobody, By}
 use Rattle.lines.specs.declared.keys.Looked.{Looked}
-use Rattle.lines.specs.declared.keys.History.{History}
-use Rattle.lines.specs.declared.store.Intent.{Intent}
-use Rattle.lines.specs.declared.store.Store.{Store}
-use Rattle.lines.specs.declared.places.FoundRow.{FoundRow}
-use Rattle.lines.specs.View.{boxOf}
-use Rattle.lines.specs.Looks.{lockedBy, historyOf}
-use Rattle.calls.specs.Loads.{Summable}
-use Rattle.calls.specs.Walks.{Met}
-use Rattle.calls.specs.Weights.{Refused}
+use Rattle.lines.specs.declared.views.Intent.{Intent}
+use Rattle.lines.specs.View.{rowIf, boxOf}
+use Rattle.lines.specs.Made.{Built}
+use Rattle.lines.specs.Looks.{lockIn, lockedBy, LockThere, IntentThere, LookedAt}
+use Rattle.lines.proofs.ViewLaws.{bytes-long}
+use Rattle.lines.proofs.TidyLaws.{built-tidy}
+use Rattle.stretches.specs.Loads.{rowSize, lockSize}
+use Rattle.stretches.proofs.LoadLaws.{row-most}
+use Rattle.stretches.proofs.KeptLaws.{lock-size}
+use Rattle.calls.specs.Walks.{sizeIf, rowAt}
+use Rattle.calls.specs.Weights.{noWeight, Refused, EntryChecked}
 use Rattle.calls.specs.declared.weights.Weight.{Weight}
 use Rattle.calls.specs.declared.weights.Seen.{Seen}
-use Rattle.prewrites.specs.Checks.{addsOf, entrySteps, WeightAsks, Weighs, EntrySeen}
+use Rattle.calls.proofs.EntryLaws.{key-short, size-few}
+use Rattle.calls.proofs.AnswerLaws.{then-same}
+use Rattle.calls.proofs.SeenLaws.{checked-refused}
+use Rattle.prewrites.specs.Checks.{entryOf, stepsOf, addsOf, PartsShort, Weighs, LockIn, rowHeld, entrySteps}
 
 -- ---- what it adds
 
--- a Put's row, where it is short
-rows-small : (k : Key) (row : Option Row) → length k ≤ 48 → ((r : Row) → row ≡ some r → length r ≤ 255) → {b : Load} → b ≡ ofRow k row → (b .lines ≤ 0) × (b .locks ≤ 0) × (b .defaults ≤ 1) × (b .bytes ≤ 303)
-unfolding ofRow
-rows-small k none short h e = let z = load-fields e in (omega arith, omega arith, omega arith, omega arith)
-rows-small k (some r) short h e =
-    let z = load-fields e in
-    let s = h r refl in
-    (omega arith, omega arith, omega arith, omega arith)
+row-one : (k : Kind) (key row : ℕ) → rowSize k key row .defaults ≤ 1
+row-one Put key row = omega arith
+row-one Delete key row = omega arith
+row-one Rollback key row = omega arith
 
-module _ {key primary : Bytes} {row : Option Row} (p : WeightAsks key primary row) {a b : Load} (l : a ≡ lockLoad key primary) (m : b ≡ ofRow key row) where
-  pub parts-add : Summable a b
-  parts-add =
-      let z = load-fields l in
-      let s = rows-small key row (p .key-short) (p .row-short) m in
-      omega arith
-
-  pub new-weighs : {lock : Locked} {r free : Load} → free ≡ noLoad → lock ≡ Nobody → r ≡ plus a b → Weighs key primary row lock (record { added = r; freed = free })
+module _ {key primary row : Bytes} (p : PartsShort key primary row) {kind : Kind} (put : Bool) (k : (r : Row) → kind ≡ kindOf (when put r)) where
+  pub new-weighs : {lock : Locked} {r : Load} {w : Weight} → w ≡ noWeight → lock ≡ Nobody → r ≡ lockSize kind (length key) (length primary) (length row)
+      → Weighs key primary (when put row) lock (record { added = r; freed = w .freed })
   unfolding unlessLocked
-  new-weighs {lock} {r} f e q = record {
-    added-is = λ area. q ∙ ap (λ (x : Load). plus x b) l ∙ ap (plus (lockLoad key primary)) m ∙ ap (λ (x : Locked). addsOf key primary row (lockedBy area x)) (sym e);
-    freed-is = f;
+  new-weighs {lock} {r} {w} f e q = record {
+    added-is = λ area. q ∙ ap (λ (x : Kind). lockSize x (length key) (length primary) (length row)) (k row) ∙ lock-size key primary put row ∙ ap (λ (x : Locked). addsOf key primary (when put row) (lockedBy area x)) (sym e);
+    freed-is = ap (λ (x : Weight). x .freed) f;
     light =
-        let z = load-fields l in
         let y = load-fields q in
-        let x = load-fields f in
-        let s = rows-small key row (p .key-short) (p .row-short) m in
-        record { added = omega arith; freed = omega arith };
+        let x = load-fields (ap (λ (x : Weight). x .freed) f) in
+        record { added = omega (arith, y, p, row-one kind (length key) (length row), row-most kind (length key) (length row)); freed = omega (arith, x) };
   }
 
-pub old-weighs : {key primary : Bytes} {row : Option Row} {lock : Locked} {i : Intent} {free : Load} → free ≡ noLoad → lock ≡ By i → Weighs key primary row lock (record { added = free; freed = free })
+pub old-weighs : {key primary : Bytes} {row : Option Row} {lock : Locked} {i : Intent} {w : Weight} → w ≡ noWeight → lock ≡ By i → Weighs key primary row lock w
 unfolding unlessLocked
 old-weighs {key} {primary} {row} f e = record {
-  added-is = λ area. f ∙ ap (λ (x : Locked). addsOf key primary row (lockedBy area x)) (sym e);
-  freed-is = f;
-  light = let x = load-fields f in record { added = omega arith; freed = omega arith };
+  added-is = λ area. ap (λ (x : Weight). x .added) f ∙ ap (λ (x : Locked). addsOf key primary row (lockedBy area x)) (sym e);
+  freed-is = ap (λ (x : Weight). x .freed) f;
+  light =
+      let x = load-fields (ap (λ (x : Weight). x .added) f) in
+      let y = load-fields (ap (λ (x : Weight). x .freed) f) in
+      record { added = omega (arith, x); freed = omega (arith, y) };
 }
+
+-- the parts of an entry
+pub parts-short : {s : Bytes} (e : Entry) {primary : Bytes} → EntryIn s e → length primary ≤ 255 → PartsShort (keyAt s e) primary (rowAt s e)
+parts-short {s} e i p =
+    let few = size-few (e .put) (e .rowlen) in
+    let r = bytes-long s (e .rowat) (sizeIf (e .put) (e .rowlen)) (omega (arith, few, i .row-in)) in
+    record { key-short = key-short e i; primary-short = p; row-short = omega (arith, r, few, i .row-small) }
+
+-- ---- the steps that no store can fail
+
+drop-both : (x p q : Bool) → x && false && p ≡ x && false && q
+drop-both true p q = refl
+drop-both false p q = refl
+
+-- an own lock's row is the row that is stored
+module _ (h : Head) (put : Bool) (row : Row) (top : ℕ) (area : Bytes) (key : Key) (ds : List box.Default) (i : Intent) (there : IntentThere top area ds key i) where
+  abbrev held : Row
+  held = bytesAt area (i .rowat) (i .rowlen)
+
+  abbrev fields : Bool
+  fields = eqBytes (bytesAt area (i .at) (i .len)) (h .primary) && eqb (i .ttl) (h .ttl)
+
+  row-is : i .kind ≡ Put → i .start ≡ h .start → box.rowOf key (h .start) ds ≡ some held
+  row-is e s = ap (λ (n : ℕ). box.rowOf key n ds) (sym s) ∙ there .row .is ∙ ap (λ (k : Kind). rowIf k held) e
+
+  own-row : lockStep h (when put row) (some (bytesAt area (i .rowat) (i .rowlen))) (some (lockIn area i)) ≡ lockStep h (when put row) (box.rowOf key (h .start) ds) (some (lockIn area i))
+  unfolding lockStep needOwn _▸_
+  own-row = own (owns (h .txn) (h .start) (lockIn area i)) refl
+    where
+      holder : Holder
+      holder = record { txn = i .txn; start = i .start }
+
+      kinds : (k : Kind) → i .kind ≡ k → i .start ≡ h .start → (t : Bool)
+          → fields && box.eqKind k (kindOf (when t row)) && rowStands (when t row) (some held) ≡ fields && box.eqKind k (kindOf (when t row)) && rowStands (when t row) (box.rowOf key (h .start) ds)
+      kinds k e s false = refl
+      kinds Put e s true = rw (row-is e s)
+      kinds Delete e s true = drop-both fields _ _
+      kinds Rollback e s true = drop-both fields _ _
+
+      own : (t : Bool) → owns (h .txn) (h .start) (lockIn area i) ≡ t
+          → needOwn t holder ▸ need (sameLock h (kindOf (when put row)) (lockIn area i) && rowStands (when put row) (some held)) 9
+          ≡ needOwn t holder ▸ need (sameLock h (kindOf (when put row)) (lockIn area i) && rowStands (when put row) (box.rowOf key (h .start) ds)) 9
+      own false e = refl
+      own true e = ap (λ (x : Bool). need x 9) (kinds (i .kind) refl (eqb-true (i .start) (h .start) (and-right (eqb (i .txn) (h .txn)) _ e)) put)
+
+-- a step that passes
+no-step : (t : Bool) (n : ℕ) (x : Answer) → t ≡ true → x ≡ need t n ▸ x
+unfolding need _▸_
+no-step t n x e = sym (ap (λ (b : Bool). need b n ▸ x) e)
 
 -- ---- the ways out of its check
 
-module _ (h : Head) (area : Bytes) (m : Mutation) (found : Looked) (stored : FoundRow) {a : Answer}
-    (e : a ≡ entrySteps h m (found .history .sound) (found .history .below) (when (stored .ok) (bytesAt area (stored .at) (stored .len))) (lockedBy area (found .lock))) where
-  answer-is : (st : Store) → Met st area (m .key) (h .start) 0 found stored → a ≡ prewriteEntry h (boxOf st area) m
-  unfolding prewriteEntry historyOf
-  answer-is st f =
-      let b = boxOf st area in
-      let ws = recordsOf (m .key) (b .lines) in
-      e ∙ ap (λ (x : History). entrySteps h m (x .sound) (x .below) (when (stored .ok) (bytesAt area (stored .at) (stored .len))) (lockedBy area (found .lock))) (f .looked .history-is)
-      ∙ ap (λ (o : Option Row). entrySteps h m (allSound ws) (allBelow (h .start) ws) o (lockedBy area (found .lock))) (f .row .is)
-      ∙ ap (entrySteps h m (allSound ws) (allBelow (h .start) ws) (rowOf (m .key) (h .start) (b .defaults))) (f .looked .lock-is)
+module _ {st : Store} {area : Bytes} (b : Built st area) (h : Head) (key : Key) (put : Bool) (row : Row) {stamp : ℕ} {seen : Looked} (f : LookedAt st area key (h .start) stamp seen) where
+  pub lock-reach : LockIn (length area) (seen .lock)
+  lock-reach = go (seen .lock) (f .lock-there)
+    where
+      go : (o : Locked) → LockThere (st .top) area (boxOf st area .defaults) key o → LockIn (length area) o
+      go Nobody t = tt
+      go (By i) t =
+          let l = b .area-long in
+          let m = b .top-in in
+          record { primary-in = omega (arith, t .primary-in, l, m); row-in = omega (arith, t .row .within, l, m) }
 
-  pub entry-refused : (a ≡ Accepted → ⊥) → {r : Seen} → Refused a r → EntrySeen h area m found stored r
-  entry-refused n v st f =
-      let y = load-fields (ap (λ (w : Weight). w .added) (v .weight-is)) in
-      let z = load-fields (ap (λ (w : Weight). w .freed) (v .weight-is)) in
-      record {
-        answer-is = v .answer-is ∙ answer-is st f;
-        added-is = λ q. absurd (n (sym (v .answer-is) ∙ q));
-        freed-is = λ q. absurd (n (sym (v .answer-is) ∙ q));
-        light = record { added = omega arith; freed = omega arith };
-      }
+  by-lock : allBelow (h .start) (box.recordsOf key (boxOf st area .lines)) ≡ true
+      → lockStep h (when put row) (rowHeld area (seen .lock)) (lockedBy area (seen .lock)) ≡ lockStep h (when put row) (box.rowOf key (h .start) (boxOf st area .defaults)) (box.lockOf key (boxOf st area .lines))
+  unfolding lockStep need
+  by-lock below = go (seen .lock) (f .lock-is) (f .lock-there)
+    where
+      go : (o : Locked) → lockedBy area o ≡ box.lockOf key (boxOf st area .lines) → LockThere (st .top) area (boxOf st area .defaults) key o
+          → lockStep h (when put row) (rowHeld area o) (lockedBy area o) ≡ lockStep h (when put row) (box.rowOf key (h .start) (boxOf st area .defaults)) (box.lockOf key (boxOf st area .lines))
+      go Nobody q t = rw (← q, prewrite-free (boxOf st area) (built-tidy b) key (h .start) (sym q) below)
+      go (By i) q t = rw (← q) (own-row h put row (st .top) area key (boxOf st area .defaults) i t)
 
-  pub weight-asks : a ≡ Accepted → keyForm (h .primary) ≡ true → WeightAsks (m .key) (h .primary) (m .row)
-  weight-asks p k =
-      let s = sym e ∙ p in
-      let key : keyForm (m .key) ≡ true = search passed in
-      let row : rowArgument (m .row) ≡ true = search passed in
-      record {
-        key-short = key-bounds (m .key) key .short;
-        primary-short = key-bounds (h .primary) k .short;
-        row-short = λ q r. row-bounds q (ap rowArgument (sym r) ∙ row) .short;
-      }
+  module _ {a : Answer} (e : a ≡ entrySteps h (entryOf key put row) (seen .history .below) (rowHeld area (seen .lock)) (lockedBy area (seen .lock))) where
+    answer-is : a ≡ prewriteEntry h (boxOf st area) (entryOf key put row)
+    unfolding prewriteEntry
+    answer-is =
+        e
+        ∙ ap (λ (x : Answer). need (keyForm key) 1 ▸ need (rowArgument (when put row)) 2 ▸ x)
+        (ap (λ (t : Bool). need t 8 ▸ lockStep h (when put row) (rowHeld area (seen .lock)) (lockedBy area (seen .lock))) (f .history .below)
+        ∙ then-same (need (allBelow (h .start) (box.recordsOf key (boxOf st area .lines))) 8) _ _ (λ p. by-lock (need-true _ 8 p))
+        ∙ no-step (allSound (box.recordsOf key (boxOf st area .lines))) 9 _ (records-sound (boxOf st area) (built-tidy b) key))
 
-  pub entry-checked : {w : Weight} → Weighs (m .key) (h .primary) (m .row) (found .lock) w → EntrySeen h area m found stored (record { answer = a; weight = w })
-  unfolding prewriteAdds
-  entry-checked w st f = record {
-    answer-is = answer-is st f;
-    added-is = λ p. w .added-is area ∙ ap (addsOf (m .key) (h .primary) (m .row)) (f .looked .lock-is);
-    freed-is = λ p. w .freed-is;
-    light = w .light;
-  }
+    pub entry-refused : (a ≡ Accepted → ⊥) → {r : Seen} → Refused a r → EntryChecked (stepsOf h) (boxOf st area) (entryOf key put row) r
+    entry-refused n v = checked-refused (stepsOf h) (boxOf st area) (entryOf key put row) answer-is n v
+
+    pub entry-checked : {w : Weight} → Weighs key (h .primary) (when put row) (seen .lock) w → EntryChecked (stepsOf h) (boxOf st area) (entryOf key put row) (record { answer = a; weight = w })
+    unfolding prewriteAdds
+    entry-checked w = record {
+      answer-is = answer-is;
+      added-is = λ p. w .added-is area ∙ ap (addsOf key (h .primary) (when put row)) (f .lock-is);
+      freed-is = λ p. w .freed-is;
+      light = w .light;
+    }

@@ -1,14 +1,13 @@
 -- A lock on the way of an entry: what each way out of its tests says.
 -- Assumes nothing.
-use Prim.Native.Nat.{ℕ, _+_, _≤_}
+use Prim.Native.Nat.{ℕ}
 use mathlib.Core.Path.{_≡_, sym, ap, ap₂, _∙_, subst}
 use mathlib.Core.Bool.{Bool, true, false, not, _&&_}
-use mathlib.Core.Option.{Option}
+use mathlib.Core.Option.{Option, some}
 use lib.Dec.{eqb}
 use borrow.Author.Tests.{eq-eqb, ne-eqb}
 use Rattle.forms.specs.Bytes.{Bytes, bytesAt, eqBytes}
 use Rattle.forms.specs.Row.{Row}
-use Rattle.forms.specs.Readers.{when}
 use Rattle.rules.specs.declared.answers.Answer.{Answer}
 use Rattle.rules.specs.declared.answers.Answer.the-variants.{Accepted, No, Held}
 use Rattle.rules.specs.declared.records.Kind.{Kind}
@@ -18,11 +17,11 @@ use Rattle.rules.specs.Calls.{kindOf, owns, rowStands}
 use Rattle.rules.specs.Prewrite.{Head, sameLock, lockStep}
 use Rattle.laws.proofs.StepLaws.{and-both, and-false, and-false-right}
 use Rattle.laws.proofs.ChainLaws.{own-out, own-on, last-out, last-on, denied, granted}
-use Rattle.lines.specs.declared.store.Intent.{Intent}
+use Rattle.lines.specs.declared.views.Intent.{Intent}
 use Rattle.lines.specs.declared.keys.Locked.{Locked}
 use Rattle.lines.specs.declared.keys.Locked.the-variants.{Nobody, By}
-use Rattle.lines.specs.View.{lockIn}
-use Rattle.lines.specs.Looks.{lockedBy, LockBelow}
+use Rattle.lines.specs.Looks.{lockIn, lockedBy}
+use Rattle.prewrites.specs.Checks.{IntentIn, LockIn, rowHeld}
 
 -- ---- "own lock with any other field"
 
@@ -39,42 +38,41 @@ module _ (h : Head) (area : Bytes) (l : Intent) (kind : Kind) {f : Bool} (q : f 
 -- ---- the step
 
 module _ (h : Head) (row : Option Row) (area : Bytes) (lock : Locked) where
-  -- "a default without lock, 9"
-  pub free-stored : (q : Row) (ok : Bool) → lock ≡ Nobody → ok ≡ true → No 9 ≡ lockStep h row (when ok q) (lockedBy area lock)
+  pub free : lock ≡ Nobody → Accepted ≡ lockStep h row (rowHeld area lock) (lockedBy area lock)
   unfolding lockStep need
-  free-stored q ok e t = sym (ap₂ (λ (b : Bool) (x : Locked). lockStep h row (when b q) (lockedBy area x)) t e)
+  free e = sym (ap (λ (x : Locked). lockStep h row (rowHeld area x) (lockedBy area x)) e)
 
-  pub free : (q : Row) (ok : Bool) → lock ≡ Nobody → ok ≡ false → Accepted ≡ lockStep h row (when ok q) (lockedBy area lock)
-  unfolding lockStep need
-  free q ok e t = sym (ap₂ (λ (b : Bool) (x : Locked). lockStep h row (when b q) (lockedBy area x)) t e)
+  -- primary and row of the lock lie in the area
+  pub lock-within : (n : ℕ) {l : Intent} → lock ≡ By l → LockIn n lock → IntentIn n l
+  lock-within n e p = subst (LockIn n) e p
 
-  -- the primary of the lock lies in the area
-  pub lock-within : (n : ℕ) {l : Intent} → lock ≡ By l → LockBelow n lock → l .at + l .len ≤ n
-  lock-within n e p = subst (λ (x : Locked). LockBelow n x) e p
+  module _ (l : Intent) (e : lock ≡ By l) {o : Bool} (own : (area : Bytes) → o ≡ owns (h .txn) (h .start) (lockIn area l)) where
+    abbrev stored : Option Row
+    stored = some (bytesAt area (l .rowat) (l .rowlen))
 
-  module _ (stored : Option Row) (l : Intent) (e : lock ≡ By l) {o : Bool} (own : (area : Bytes) → o ≡ owns (h .txn) (h .start) (lockIn area l)) where
     abbrev rest : Answer
     rest = need (sameLock h (kindOf row) (lockIn area l) && rowStands row stored) 9
 
-    stands : needOwn (owns (h .txn) (h .start) (lockIn area l)) (holderOf (lockIn area l)) ▸ rest ≡ lockStep h row stored (lockedBy area lock)
+    stands : needOwn (owns (h .txn) (h .start) (lockIn area l)) (holderOf (lockIn area l)) ▸ rest ≡ lockStep h row (rowHeld area lock) (lockedBy area lock)
     unfolding lockStep
-    stands = sym (ap (λ (x : Locked). lockStep h row stored (lockedBy area x)) e)
+    stands = sym (ap (λ (x : Locked). lockStep h row (rowHeld area x) (lockedBy area x)) e)
 
     -- "a lock of another transaction or start, 7"
-    pub another's : {a : Answer} → not o ≡ true → ((area : Bytes) → a ≡ Held (holderOf (lockIn area l))) → a ≡ lockStep h row stored (lockedBy area lock)
+    pub another's : {a : Answer} → not o ≡ true → ((area : Bytes) → a ≡ Held (holderOf (lockIn area l))) → a ≡ lockStep h row (rowHeld area lock) (lockedBy area lock)
     another's n q = q area ∙ own-out _ _ rest (denied _ _ (own area) n) ∙ stands
 
     module _ (p : not o ≡ false) where
-      go-on : {a : Answer} → a ≡ rest → a ≡ lockStep h row stored (lockedBy area lock)
+      go-on : {a : Answer} → a ≡ rest → a ≡ lockStep h row (rowHeld area lock) (lockedBy area lock)
       go-on q = own-on _ (holderOf (lockIn area l)) _ rest (granted _ _ (own area) p) q ∙ stands
 
       module _ {s : Bool} (k : s ≡ sameLock h (kindOf row) (lockIn area l)) where
-        pub own-differs : not s ≡ true → No 9 ≡ lockStep h row stored (lockedBy area lock)
+        pub own-differs : not s ≡ true → No 9 ≡ lockStep h row (rowHeld area lock) (lockedBy area lock)
         own-differs n = go-on (last-out _ 9 (and-false _ _ (denied _ _ k n)))
 
-        pub row-differs : {t : Bool} → t ≡ rowStands row stored → not t ≡ true → No 9 ≡ lockStep h row stored (lockedBy area lock)
-        row-differs q n = go-on (last-out _ 9 (and-false-right (sameLock h (kindOf row) (lockIn area l)) _ (denied _ _ q n)))
+        module _ {t : Bool} (q : t ≡ rowStands row (some (bytesAt area (l .rowat) (l .rowlen)))) where
+          pub row-differs : not t ≡ true → No 9 ≡ lockStep h row (rowHeld area lock) (lockedBy area lock)
+          row-differs n = go-on (last-out _ 9 (and-false-right (sameLock h (kindOf row) (lockIn area l)) _ (denied _ _ q n)))
 
-        -- "own equal lock, accepted and unchanged"
-        pub own-same : {t : Bool} → t ≡ rowStands row stored → not s ≡ false → not t ≡ false → Accepted ≡ lockStep h row stored (lockedBy area lock)
-        own-same q m n = go-on (last-on _ 9 (and-both _ _ (granted _ _ k m) (granted _ _ q n)))
+          -- "own equal lock, accepted and unchanged"
+          pub own-same : not s ≡ false → not t ≡ false → Accepted ≡ lockStep h row (rowHeld area lock) (lockedBy area lock)
+          own-same m n = go-on (last-on _ 9 (and-both _ _ (granted _ _ k m) (granted _ _ q n)))

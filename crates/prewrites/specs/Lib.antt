@@ -1,3 +1,1 @@
 pub mod Checks
-pub mod Applies
-pub mod Drafts

@@ -1,27 +1,28 @@
 // Prewrite of a batch.
 ghost use mathlib.Core.Path.{_≡_};
-ghost use mathlib.Core.Bool.{true};
 ghost use Rattle.seqs.specs.Tables.{shown};
-ghost use Rattle.forms.specs.Key.{keyForm};
 ghost use Rattle.forms.specs.Places.{mutationOf};
-ghost use Rattle.rules.specs.Prewrite.{prewriteBatch};
+ghost use Rattle.rules.specs.declared.answers.Answer.the-variants.{Accepted};
+ghost use Rattle.rules.specs.Prewrite.{headStep, prewriteEntry, applyPrewrite, prewriteBatch};
 ghost use Rattle.lines.specs.View.{boxOf};
 ghost use Rattle.lines.specs.Made.{Made};
-ghost use Rattle.calls.specs.Settled.{Moved, Settled};
+ghost use Rattle.calls.specs.Settled.{Settled};
 ghost use Rattle.calls.specs.Walks.{AllAsks};
+ghost use Rattle.calls.specs.Passes.{allDone};
 ghost use Rattle.prewrites.specs.Checks.{headOf};
-ghost use Rattle.prewrites.specs.Applies.{allDone};
-use crate::applies::draft_all;
 use crate::heads::Terms;
 use crate::heads::head_step;
+use crate::locking::apply_all;
 use crate::passes::check_all;
 use calls::Changed;
 use forms::Entry;
+use lines::AREA;
 use lines::Store;
 use rules::Answer;
+use stretches::make_place;
 
-// The steps of a batch that is in form and not empty, its head passed: "per entry ascending ..; Then 11", and the applying pass:
-// the entries' edits, after a repack where the area wants one for their bytes, and one walk over each table that makes them all.
+// The steps of a batch that is in form and not empty, its head passed: "per entry ascending ..; Then 11", and the applying pass, after a
+// repack where the area wants one for the entries' bytes: two keys of 48, a row of 255 and three numbers, 375 an entry.
 fn prewrite_all(
     store: Store,
     area: &mut [u8],
@@ -31,13 +32,10 @@ fn prewrite_all(
     n: usize,
     list: [Entry; 32],
 ) -> Changed
-    requires { ⌜ (AllAsks store (now area) (now batch) n list) × (keyForm (now primary) ≡ true) ⌝ }
-    ensures { λ r. ⌜ Moved store (now (area .entry)) (allDone (headOf terms (now (primary .entry))) (shown (mutationOf (now (batch .entry))) n list) (boxOf store (now (area .entry)))) r (now (area .exit)) ⌝ }
+    requires { ⌜ (AllAsks store (now area) (now batch) n list) × (headStep (headOf terms (now primary)) ≡ Accepted) ⌝ }
+    ensures { λ r. ⌜ Settled store (now (area .entry)) (allDone (prewriteEntry (headOf terms (now (primary .entry)))) (applyPrewrite (headOf terms (now (primary .entry)))) (shown (mutationOf (now (batch .entry))) n list) (boxOf store (now (area .entry)))) r (now (area .exit)) ⌝ }
 {
-    let founds = surveys::look_all(store, area, batch, list, n, terms.start, 0);
-    let rows = surveys::find_rows(store, area, batch, list, n, terms.start);
-    let load = store.load;
-    let v = check_all(area, terms, primary, batch, n, list, founds, rows, load);
+    let v = check_all(store, area, terms, primary, batch, n, list);
     if !v.moves {
         let answer = v.answer;
         return Changed {
@@ -45,23 +43,9 @@ fn prewrite_all(
             answer: answer,
         };
     }
-    let after = v.load;
-    let need = n * 399;
-    let placed = areas::make_place(store, area, need);
-    let plan = draft_all(
-        area,
-        placed.top,
-        terms,
-        primary,
-        batch,
-        n,
-        list,
-        founds,
-        rows,
-    );
-    let ls = plan.lines;
-    let rs = plan.rows;
-    let applied = edits::apply_edits(placed, ls, rs, n, after, plan.top);
+    let need = n * 375;
+    let placed = make_place(store, area, need);
+    let applied = apply_all(placed, area, terms, primary, batch, n, list);
     Changed {
         store: applied,
         answer: Answer::Accepted,
@@ -71,7 +55,7 @@ fn prewrite_all(
 // "batch 6, 5; transaction, start 3; primary 1; time to live 3; then per entry ascending ..; Then 11."
 pub fn prewrite_batch(
     store: Store,
-    area: &mut [u8],
+    area: &mut [u8; AREA],
     txn: u64,
     start: u64,
     ttl: u64,

@@ -1,11 +1,9 @@
 // "Prewrite": a checking pass over the store as it came, the room that the whole call would leave, and an applying pass,
 // after a repack where the area wants one. The single form is a batch of one.
-pub mod applies;
 pub mod batch;
 pub mod checks;
-pub mod drafts;
 pub mod heads;
-pub mod parts;
+pub mod locking;
 pub mod passes;
 pub mod single;
 

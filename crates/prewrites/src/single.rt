@@ -6,12 +6,13 @@ ghost use Rattle.calls.specs.Settled.{Settled};
 ghost use Rattle.prewrites.specs.Checks.{headOf, entryOf};
 use crate::batch::prewrite_batch;
 use calls::Changed;
+use lines::AREA;
 use lines::Store;
 
 // "the single form disappears as a step of its own and is a batch of one"; "a Delete's row argument is ignored": it is not in the batch.
 pub fn prewrite(
     store: Store,
-    area: &mut [u8],
+    area: &mut [u8; AREA],
     txn: u64,
     start: u64,
     ttl: u64,

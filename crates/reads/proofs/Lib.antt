@@ -1,6 +1,6 @@
--- The laws of this crate that others cite, and its theorem.
+-- Laws of reading one key.
 -- Assumes nothing.
-pub mod RowLaws
+pub mod ReadLaws
 pub mod LockLaws
 pub mod PartLaws
 pub mod ShownLaws

@@ -1,42 +1,66 @@
 -- The part that an answer hands back: of one that lies in the area it is what its reply shows, and so what the definition shows.
 -- Assumes nothing.
-use Prim.Native.Nat.{ℕ, _+_, _≤_}
+use Prim.Native.Nat.{ℕ, _+_, _-_, _≤_, _<_}
 use native.Mathlib.Omega.{arith}
 use mathlib.Core.Path.{_≡_, refl, sym, ap, _∙_}
+use mathlib.Core.List.{[]}
 use lib.ListN.{length}
+use borrow.Author.Tests.{le-leb, lt-leb}
 use Rattle.forms.specs.Bytes.{Bytes, bytesAt}
 use Rattle.forms.specs.Row.{Row}
 use Rattle.rules.specs.Answers.{Reply, shown}
 use Rattle.rules.specs.Box.{Lock}
-use Rattle.lines.specs.View.{partOf}
-use Rattle.lines.proofs.SeeLaws.{part-in}
 use Rattle.reads.specs.declared.seen.Seen.{Seen}
 use Rattle.reads.specs.declared.seen.Seen.the-variants as seen
 use Rattle.reads.specs.declared.seen.Pointed.{Pointed}
 use Rattle.reads.specs.declared.seen.Pointed.the-variants as pointed
+use Rattle.reads.specs.declared.parts.Place.{Place}
 use Rattle.reads.specs.Seen.{seenIn, SeenBelow, SeenAs, pointedIn, PointedBelow, PointedAs}
-use Rattle.reads.specs.Parts.{rowShown, rowPart, RowPart, primaryShown, primaryPart, PrimaryPart}
+use Rattle.reads.specs.Parts.{partOf, rowShown, rowPlace, rowPart, RowPart, primaryShown, primaryPlace, primaryPart, PrimaryPart}
 
--- a stretch that lies in the area
-pub part-within : (area : Bytes) (at len : ℕ) → at + len ≤ length area → partOf area at len ≡ bytesAt area at len
-part-within area at len h = sym (part-in area at len (omega arith) (omega arith))
+-- ---- a stretch of the area
 
-pub row-within : (area : Bytes) (s : Seen) → SeenBelow (length area) s → rowPart area s ≡ rowShown (seenIn area s)
+module _ (area : Bytes) (at len : ℕ) where
+  pub part-past : length area < at → [] ≡ partOf area at len
+  part-past h = rw (lt-leb at (length area) h)
+
+  pub part-short : at ≤ length area → length area - at < len → [] ≡ partOf area at len
+  part-short h g = rw (le-leb at (length area) h, lt-leb len (length area - at) g)
+
+  pub part-in : at ≤ length area → len ≤ length area - at → bytesAt area at len ≡ partOf area at len
+  part-in h g = rw (le-leb at (length area) h, le-leb len (length area - at) g)
+
+  part-within : at + len ≤ length area → partOf area at len ≡ bytesAt area at len
+  part-within h = sym (part-in (omega arith) (omega arith))
+
+-- ---- what an answer shows
+
+row-within : (area : Bytes) (s : Seen) → SeenBelow (length area) s → rowPart area s ≡ rowShown (seenIn area s)
 row-within area seen.Nothing h = refl
 row-within area (seen.Row at len) h = part-within area at len h
 row-within area (seen.Refused a) h = refl
 
-pub primary-within : (area : Bytes) (p : Pointed) → PointedBelow (length area) p → primaryPart area p ≡ primaryShown (pointedIn area p)
+primary-within : (area : Bytes) (p : Pointed) → PointedBelow (length area) p → primaryPart area p ≡ primaryShown (pointedIn area p)
 primary-within area pointed.Nothing h = refl
 primary-within area (pointed.Lock i) h = part-within area (i .at) (i .len) h
 primary-within area (pointed.Refused a) h = refl
 
 -- what `row_of` and `primary_of` hand back
-pub row-part : (area : Bytes) (s t : Seen) {part : Bytes} → s ≡ t → part ≡ rowPart area t → RowPart area s part
-row-part area s t e p = let q = p ∙ sym (ap (rowPart area) e) in record { is = q; row = λ h. q ∙ row-within area s h }
+row-placed : (area : Bytes) (s : Seen) → partOf area (rowPlace s .at) (rowPlace s .len) ≡ rowPart area s
+row-placed area seen.Nothing = part-within area 0 0 (omega arith)
+row-placed area (seen.Row at len) = refl
+row-placed area (seen.Refused a) = part-within area 0 0 (omega arith)
 
-pub primary-part : (area : Bytes) (s t : Pointed) {part : Bytes} → s ≡ t → part ≡ primaryPart area t → PrimaryPart area s part
-primary-part area s t e p = let q = p ∙ sym (ap (primaryPart area) e) in record { is = q; primary = λ h. q ∙ primary-within area s h }
+primary-placed : (area : Bytes) (p : Pointed) → partOf area (primaryPlace p .at) (primaryPlace p .len) ≡ primaryPart area p
+primary-placed area pointed.Nothing = part-within area 0 0 (omega arith)
+primary-placed area (pointed.Lock i) = refl
+primary-placed area (pointed.Refused a) = part-within area 0 0 (omega arith)
+
+pub row-part : (area : Bytes) (s : Seen) {p : Place} {part : Bytes} → p ≡ rowPlace s → part ≡ partOf area (p .at) (p .len) → RowPart area s part
+row-part area s e q = let w = q ∙ ap (λ (p : Place). partOf area (p .at) (p .len)) e ∙ row-placed area s in record { is = w; row = λ h. w ∙ row-within area s h }
+
+pub primary-part : (area : Bytes) (s : Pointed) {p : Place} {part : Bytes} → p ≡ primaryPlace s → part ≡ partOf area (p .at) (p .len) → PrimaryPart area s part
+primary-part area s e q = let w = q ∙ ap (λ (p : Place). partOf area (p .at) (p .len)) e ∙ primary-placed area s in record { is = w; primary = λ h. w ∙ primary-within area s h }
 
 -- "A read's row is handed back as that stretch of the store's own bytes": the part of what `read` answered is the row that the definition shows
 module _ {want : Reply Row} {area part : Bytes} {s : Seen} where

@@ -1,25 +1,44 @@
 -- The part of the area that an answer shows, and that it is what the reply shows: "that stretch of the store's own bytes".
 -- Assumes nothing.
+use Prim.Native.Nat.{ℕ, _-_}
 use mathlib.Core.Path.{_≡_}
+use mathlib.Core.Bool.{Bool, true, false, _&&_}
 use mathlib.Core.List.{[]}
 use lib.ListN.{length}
-use Rattle.forms.specs.Bytes.{Bytes}
+use lib.Dec.{leb}
+use Rattle.forms.specs.Bytes.{Bytes, bytesAt}
 use Rattle.forms.specs.Key.{Key}
 use Rattle.forms.specs.Row.{Row}
 use Rattle.rules.specs.Answers.{Reply, nothing, shown, refused}
 use Rattle.rules.specs.Box.{Lock}
-use Rattle.lines.specs.View.{partOf}
 use Rattle.reads.specs.declared.seen.Seen.{Seen}
 use Rattle.reads.specs.declared.seen.Seen.the-variants as seen
 use Rattle.reads.specs.declared.seen.Pointed.{Pointed}
 use Rattle.reads.specs.declared.seen.Pointed.the-variants as pointed
+use Rattle.reads.specs.declared.parts.Place.{Place}
 use Rattle.reads.specs.Seen.{seenIn, SeenBelow, pointedIn, PointedBelow}
+
+abbrev pub bytesIf : Bool → Bytes → Bytes
+bytesIf true b = b
+bytesIf false b = []
+
+-- the stretch of the area, where it lies in it
+abbrev pub partOf : Bytes → ℕ → ℕ → Bytes
+partOf area at len = bytesIf (leb at (length area) && leb len (length area - at)) (bytesAt area at len)
+
+-- ---- a read
 
 -- the row of a reply; "A refusal .. shows no row"
 abbrev pub rowShown : Reply Row → Row
 rowShown nothing = []
 rowShown (shown r) = r
 rowShown (refused a) = []
+
+-- where it lies; nothing shown is nothing long
+abbrev pub rowPlace : Seen → Place
+rowPlace seen.Nothing = record { at = 0; len = 0 }
+rowPlace (seen.Row at len) = record { at = at; len = len }
+rowPlace (seen.Refused a) = record { at = 0; len = 0 }
 
 abbrev pub rowPart : Bytes → Seen → Bytes
 rowPart area seen.Nothing = []
@@ -31,11 +50,18 @@ pub record RowPart (area : Bytes) (s : Seen) (part : Bytes) : Type 0 where
   pub is : part ≡ rowPart area s
   pub row : SeenBelow (length area) s → part ≡ rowShown (seenIn area s)
 
+-- ---- an intent at a point
+
 -- the primary of a reply
 abbrev pub primaryShown : Reply Lock → Key
 primaryShown nothing = []
 primaryShown (shown l) = l .primary
 primaryShown (refused a) = []
+
+abbrev pub primaryPlace : Pointed → Place
+primaryPlace pointed.Nothing = record { at = 0; len = 0 }
+primaryPlace (pointed.Lock i) = record { at = i .at; len = i .len }
+primaryPlace (pointed.Refused a) = record { at = 0; len = 0 }
 
 abbrev pub primaryPart : Bytes → Pointed → Bytes
 primaryPart area pointed.Nothing = []

@@ -3,16 +3,16 @@
 -- Assumes nothing.
 use Prim.Native.Nat.{ℕ, _+_, _≤_}
 use mathlib.Core.Path.{_≡_}
-use mathlib.Core.Bool.{true}
 use lib.ListN.{length}
 use Rattle.forms.specs.Bytes.{Bytes, bytesAt}
-use Rattle.forms.specs.Key.{Key, keyForm}
 use Rattle.forms.specs.Row.{Row}
-use Rattle.rules.specs.Answers.{Reply, nothing, shown, refused, ifPassed}
-use Rattle.rules.specs.Box.{Box, Lock, recordsOf, lockOf}
-use Rattle.rules.specs.Read.{lockLets, newestFirst, walk}
-use Rattle.rules.specs.Page.{withKey, readKey}
-use Rattle.lines.specs.View.{lockIn}
+use Rattle.rules.specs.declared.records.Kind.{Kind}
+use Rattle.rules.specs.declared.records.Kind.the-variants.{Put, Delete, Rollback}
+use Rattle.rules.specs.Answers.{Reply, nothing, shown, refused}
+use Rattle.rules.specs.Box.{Lock}
+use Rattle.lines.specs.Looks.{lockIn}
+use Rattle.lines.specs.declared.keys.Found.{Found}
+use Rattle.lines.specs.declared.keys.Found.the-variants.{Nothing, Is}
 use Rattle.reads.specs.declared.seen.Seen.{Seen}
 use Rattle.reads.specs.declared.seen.Seen.the-variants as seen
 use Rattle.reads.specs.declared.seen.Pointed.{Pointed}
@@ -36,14 +36,15 @@ pub record SeenAs (want : Reply Row) (area : Bytes) (r : Seen) : Type 0 where
   pub is : seenIn area r ≡ want
   pub within : SeenBelow (length area) r
 
--- a read's steps after the key's form: "lock with start at or below the moment, 7; then records .."
-unfoldable pub readOn : Key → ℕ → Box → Reply Row
-readOn k m b = ifPassed (lockLets m (lockOf k (b .lines))) (walk k (b .defaults) (newestFirst m (recordsOf k (b .lines))))
+-- what the newest record that counts shows
+abbrev pub ifPut : Kind → Seen → Seen
+ifPut Put s = s
+ifPut Delete s = seen.Nothing
+ifPut Rollback s = seen.Nothing
 
--- a key in form is read as a page reads it
-pub record KeyRead (b : Box) (area key : Bytes) (moment : ℕ) (r : Seen) : Type 0 where
-  pub seen : SeenAs (readOn key moment b) area r
-  pub keyed : keyForm key ≡ true → withKey key (seenIn area r) ≡ readKey moment b key
+abbrev pub newestSeen : Found → Seen
+newestSeen Nothing = seen.Nothing
+newestSeen (Is w) = ifPut (w .kind) (seen.Row (w .rowat) (w .rowlen))
 
 -- ---- an intent at a point
 

@@ -6,10 +6,9 @@ pub mod rows;
 pub mod seen;
 
 pub use locks::intent_for_read;
-pub use locks::lock_sound;
 pub use parts::primary_of;
 pub use parts::row_of;
+pub use rows::lock_lets;
 pub use rows::read;
-pub use rows::read_key;
 pub use seen::Pointed;
 pub use seen::Seen;

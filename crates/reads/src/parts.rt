@@ -1,27 +1,65 @@
 // "A read's row is handed back as that stretch of the store's own bytes, not a copy": the part of the area that an answer shows. Both take
 // any answer and any area; where nothing is shown, or what is shown does not lie in the area, the part is empty.
-ghost use Rattle.reads.specs.Parts.{RowPart, PrimaryPart};
+ghost use mathlib.Core.Path.{_≡_};
+ghost use Rattle.reads.specs.Parts.{partOf, rowPlace, primaryPlace, RowPart, PrimaryPart};
 use crate::seen::Pointed;
 use crate::seen::Seen;
+
+// The `len` bytes from `at` on; the empty part where they do not lie in the area.
+fn part(area: &[u8], at: usize, len: usize) -> &[u8]
+    ensures { λ r. ⌜ now r ≡ partOf (now (area .entry)) at len ⌝ }
+{
+    if area.len() < at {
+        return &area[0..0];
+    }
+    if area.len() - at < len {
+        return &area[0..0];
+    }
+    let e = at + len;
+    &area[at..e]
+}
+
+// Where the row lies that a read showed, and the primary that an intent at a point showed; nothing shown is nothing long.
+struct Place {
+    at: usize,
+    len: usize,
+}
+
+fn row_place(seen: Seen) -> Place
+    ensures { λ r. ⌜ r ≡ rowPlace seen ⌝ }
+{
+    match seen {
+        Seen::Nothing => Place { at: 0, len: 0 },
+        Seen::Row { at, len } => Place { at: at, len: len },
+        Seen::Refused(_) => Place { at: 0, len: 0 },
+    }
+}
+
+fn primary_place(pointed: Pointed) -> Place
+    ensures { λ r. ⌜ r ≡ primaryPlace pointed ⌝ }
+{
+    match pointed {
+        Pointed::Nothing => Place { at: 0, len: 0 },
+        Pointed::Lock(l) => Place {
+            at: l.at,
+            len: l.len,
+        },
+        Pointed::Refused(_) => Place { at: 0, len: 0 },
+    }
+}
 
 // The row that a read showed.
 pub fn row_of(area: &[u8], seen: Seen) -> &[u8]
     ensures { λ r. ⌜ RowPart (now (area .entry)) seen (now r) ⌝ }
 {
-    match seen {
-        Seen::Nothing => &area[0..0],
-        Seen::Row { at, len } => lines::part(area, at, len),
-        Seen::Refused(_) => &area[0..0],
-    }
+    let p = row_place(seen);
+    part(area, p.at, p.len)
 }
 
 // The primary of the lock that an intent at a point showed.
 pub fn primary_of(area: &[u8], pointed: Pointed) -> &[u8]
     ensures { λ r. ⌜ PrimaryPart (now (area .entry)) pointed (now r) ⌝ }
 {
-    match pointed {
-        Pointed::Nothing => &area[0..0],
-        Pointed::Lock(l) => lines::part(area, l.at as usize, l.len as usize),
-        Pointed::Refused(_) => &area[0..0],
-    }
+    let p = primary_place(pointed);
+    part(area, p.at, p.len)
 }

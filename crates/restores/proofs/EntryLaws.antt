@@ -1,122 +1,176 @@
--- One entry of an image comes into the store: its bytes, and the element of a table that shows it.
+-- One line of an image comes into the store: its stretch, with its row, and the slot that shows both.
 -- Assumes nothing.
-use Prim.Native.Nat.{ℕ, _+_, _≤_, _<_}
+use Prim.Native.Nat.{ℕ, _+_, _≤_}
 use native.Mathlib.Omega.{arith}
 use mathlib.Core.Path.{_≡_, refl, sym, ap, ap₂, _∙_, subst}
-use mathlib.Core.Bool.{Bool, true, false, true≢false}
+use mathlib.Core.Bool.{Bool, true, false, not, _&&_}
+use mathlib.Core.List.{List}
+use mathlib.Core.Option.{Option}
 use lib.ListN.{length}
-use lib.Dec.{ltb}
+use lib.Dec.{ltb, eqb}
+use borrow.Author.Tests.{eqb-true}
 use Rattle.forms.specs.Bytes.{Bytes, bytesAt}
+use Rattle.forms.specs.Key.{Key, keyForm}
+use Rattle.forms.specs.Row.{Row}
 use Rattle.rules.specs.declared.records.Kind.{Kind}
+use Rattle.rules.specs.declared.records.Kind.the-variants.{Put, Delete, Rollback}
 use Rattle.rules.specs.Box as box
-use Rattle.lines.specs.declared.store.Line.{Line}
-use Rattle.lines.specs.View.{lineOf}
-use Rattle.lines.specs.Made.{LineBelow}
-use Rattle.areas.specs.Areas.{Appended}
-use Rattle.areas.specs.Packs.{sizeOf}
-use Rattle.areas.proofs.AreaLaws.{bytes-long, bytes-same, take-lower}
-use Rattle.images.specs.Entries.{Raw, rawAt, EntryAt}
+use Rattle.rules.specs.Calls.{recordFor}
+use Rattle.rules.specs.Sound.{kindFits}
+use Rattle.laws.proofs.StepLaws.{and-left, and-right}
+use Rattle.lines.specs.declared.store.Line.the-variants.{Standing, Finished}
+use Rattle.lines.specs.declared.store.Slot.{Slot}
+use Rattle.lines.specs.View.{ifPut, noSlot}
+use Rattle.lines.specs.Made.{LeanRow, soundLine}
+use Rattle.lines.proofs.ViewLaws.{bytes-long}
+use Rattle.stretches.specs.Writes.{LockStands, RecordStands}
+use Rattle.images.specs.Entries.{rawAt, rawOf, EntryAt}
 use Rattle.images.specs.declared.entries.Section.{Section}
-use Rattle.images.specs.declared.entries.Section.the-variants.{Default}
 use Rattle.images.specs.declared.entries.Entry.{Entry}
-use Rattle.judging.specs.Good.{kindOf, defaultOf, keyLockOf, keyRecordOf}
-use Rattle.judging.specs.Sections.{rawBytes, rowAt, lineIf, lineAt}
-use Rattle.verdicts.proofs.LoadLaws.{no-piece}
-use Rattle.restores.specs.Fills.{Spare, Brought, sectionFor, lineFor, Way, rowWay, lineWay, sizeIf, Comes}
+use Rattle.orders.specs.Marks.{sectionIf}
+use Rattle.judging.specs.Good.{kindOf}
+use Rattle.judging.specs.Sections.{lineIf, lineAt}
+use Rattle.restores.specs.declared.rows.RowPlace.{RowPlace}
+use Rattle.restores.specs.Rows.{rowsAt, rowFor, keyIn, RowAsks, RowFound}
+use Rattle.restores.specs.Fills.{Laid, sizeOf, carrying, laid, rowBytes, Comes, ComesIf, lineFrom, tailIn, OneStamp, WriteAsks, LineAsks, AsksIf}
 
--- ---- its bytes
+-- ---- a row's bytes
 
-module _ {section : Section} {s : Bytes} {p : ℕ} {e : Entry} (v : EntryAt section s p e) where
+row-bytes : (kind : Kind) (d : box.Default) → LeanRow kind (length (d .row)) → rowBytes (ifPut kind d) ≡ length (d .row)
+row-bytes Put d l = refl
+row-bytes Delete d l = sym l
+row-bytes Rollback d l = sym l
+
+lean-for : (kind : Kind) (o : Option Row) → LeanRow kind (length (rowFor kind o))
+lean-for Put o = tt
+lean-for Delete o = refl
+lean-for Rollback o = refl
+
+-- ---- `write_lock`, `write_record`
+
+lock-comes : {area : Bytes} {top : ℕ} {key : Key} {txn start : ℕ} {row : Row} {ttl : ℕ} {primary : Key} {end : ℕ} {area′ : Bytes} (kind : Kind) → LeanRow kind (length row)
+    → LockStands area top key txn start row ttl primary end area′
+    → Comes (carrying (record { key = key; line = box.Standing (record { txn = txn; primary = primary; start = start; ttl = ttl; kind = kind }) }) row) area top
+    (record { at = top; len = length key; used = true; line = Standing (record { plen = length primary; rowlen = length row; kind = kind }) }) end area′
+lock-comes {key = key} {start = start} {row = row} kind l w = record {
+  past = w .past;
+  shows = let e = ap₂ {C = box.KeyLine} (λ (k : Key) (x : box.Line). record { key = k; line = x }) (w .key-is) (w .line-is kind) in ap₂ carrying e (w .row-is);
+  below = record { below = omega (arith, w .next); lean = l; in-use = refl };
+  end-is = omega (arith, w .next, row-bytes kind (record { key = key; start = start; row = row }) l);
+}
+
+record-comes : {area : Bytes} {top : ℕ} {key : Key} {stamp start : ℕ} {row : Row} {end : ℕ} {area′ : Bytes} (kind : Kind) → LeanRow kind (length row)
+    → RecordStands area top key stamp start row end area′
+    → Comes (carrying (record { key = key; line = box.Finished (recordFor start stamp kind) }) row) area top
+    (record { at = top; len = length key; used = true; line = Finished (record { rowlen = length row; kind = kind }) }) end area′
+record-comes {key = key} {start = start} {row = row} kind l w = record {
+  past = w .past;
+  shows = let e = ap₂ {C = box.KeyLine} (λ (k : Key) (x : box.Line). record { key = k; line = x }) (w .key-is) (w .line-is kind) in ap₂ carrying e (w .row-is);
+  below = record { below = omega (arith, w .next); lean = l; in-use = refl };
+  end-is = omega (arith, w .next, row-bytes kind (record { key = key; start = start; row = row }) l);
+}
+
+module _ {s : Bytes} {b : Bool} {e : Entry} {row : RowPlace} {area : Bytes} {top : ℕ} (asks : WriteAsks s b e row area top) where
   key-long : length (bytesAt s (e .at) (e .len)) ≡ e .len
-  key-long = bytes-long s (e .at) (e .len) (v .key-in)
+  key-long = bytes-long s (e .at) (e .len) (asks .key-in)
+
+  row-long : length (bytesAt s (row .at) (row .len)) ≡ row .len
+  row-long = bytes-long s (row .at) (row .len) (asks .row-in)
 
   piece-long : length (bytesAt s (e .pat) (e .plen)) ≡ e .plen
-  piece-long = bytes-long s (e .pat) (e .plen) (v .piece-in)
+  piece-long = bytes-long s (e .pat) (e .plen) (asks .piece-in)
 
-  entry-size : e .len + e .plen ≡ rawBytes (rawAt section s p)
-  entry-size = omega (arith, key-long, piece-long, ap rawBytes (v .raw))
+  lean-row : LeanRow (kindOf (e .kind)) (length (bytesAt s (row .at) (row .len)))
+  lean-row = subst (LeanRow (kindOf (e .kind))) (sym row-long) (asks .lean)
 
-  module _ {area : Bytes} {top : ℕ} (b : Spare (rawBytes (rawAt section s p)) area top) where
-    bring-room : top + e .len + e .plen < 65536
-    bring-room = omega (arith, b .room, entry-size)
+module _ {s : Bytes} {e : Entry} {row : RowPlace} {area : Bytes} {top : ℕ} (asks : WriteAsks s true e row area top) where
+  pub lock-written : {kind : Kind} → kind ≡ kindOf (e .kind) → {end : ℕ} {area′ : Bytes}
+      → LockStands area top (bytesAt s (e .at) (e .len)) (e .one) (e .two) (bytesAt s (row .at) (row .len)) (e .three) (bytesAt s (e .pat) (e .plen)) end area′
+      → Comes (carrying (lineFrom true (rawOf s e)) (bytesAt s (row .at) (row .len))) area top (record { at = top; len = e .len; used = true; line = Standing (record { plen = e .plen; rowlen = row .len; kind = kind }) }) end area′
+  lock-written kd {end} {area′} w =
+      subst (λ (x : Slot). Comes (carrying (lineFrom true (rawOf s e)) (bytesAt s (row .at) (row .len))) area top x end area′)
+      (λ i. record { at = top; len = key-long asks i; used = true; line = Standing (record { plen = piece-long asks i; rowlen = row-long asks i; kind = sym kd i }) }) (lock-comes (kindOf (e .kind)) (lean-row asks) w)
 
-    pub key-room : top + length (bytesAt s (e .at) (e .len)) ≤ length area
-    key-room = omega (arith, b .long, bring-room, key-long)
+module _ {s : Bytes} {e : Entry} {row : RowPlace} {area : Bytes} {top : ℕ} (asks : WriteAsks s false e row area top) where
+  pub record-written : {kind : Kind} → kind ≡ kindOf (e .kind) → {end : ℕ} {area′ : Bytes} → RecordStands area top (bytesAt s (e .at) (e .len)) (e .one) (e .two) (bytesAt s (row .at) (row .len)) end area′
+      → Comes (carrying (lineFrom false (rawOf s e)) (bytesAt s (row .at) (row .len))) area top (record { at = top; len = e .len; used = true; line = Finished (record { rowlen = row .len; kind = kind }) }) end area′
+  record-written kd {end} {area′} w =
+      subst (λ (p : box.KeyLine × Slot). Comes (carrying (p .0) (bytesAt s (row .at) (row .len))) area top (p .1) end area′)
+      (λ i. (record { key = bytesAt s (e .at) (e .len); line = box.Finished (record { stamp = e .one; start = e .two; commit = sym (asks .stamp) i; kind = kindOf (e .kind) }) }, record { at = top; len = key-long asks i; used = true; line = Finished (record { rowlen = row-long asks i; kind = sym kd i }) }))
+      (record-comes (kindOf (e .kind)) (lean-row asks) w)
 
-    module _ {mid : Bytes} (x : Appended area top (bytesAt s (e .at) (e .len)) mid) where
-      pub piece-room : top + e .len + length (bytesAt s (e .pat) (e .plen)) ≤ length mid
-      piece-room = omega (arith, b .long, bring-room, piece-long, x .long)
+-- ---- `put_line`
 
-      pub brought : {area′ : Bytes} → Appended mid (top + e .len) (bytesAt s (e .pat) (e .plen)) area′ → Brought section s p area top e area′
-      brought {area′} y = record {
-        entry = v;
-        room = bring-room;
-        above = record { long = y .long ∙ x .long; kept = take-lower area′ mid top (top + e .len) (omega arith) (y .kept) ∙ x .kept };
-        key-is = bytes-same area′ mid (top + e .len) (y .kept) top (e .len) (omega arith) ∙ ap (bytesAt mid top) (sym key-long) ∙ x .stands;
-        piece-is = ap (bytesAt area′ (top + e .len)) (sym piece-long) ∙ y .stands;
+-- the line of an entry, whichever section it is of
+abbrev entryLine : Bool → Bytes → Entry → box.KeyLine
+entryLine b s e = lineFrom b (rawOf s e)
+
+one-stamp : (b : Bool) (s : Bytes) (e : Entry) → soundLine (entryLine b s e .line) ≡ true → OneStamp b e
+one-stamp true s e h = tt
+one-stamp false s e h = eqb-true (e .three) (e .one) (and-left _ _ (and-left (eqb (e .three) (e .one) && not (eqb (e .two) 0)) (kindFits (kindOf (e .kind)) (e .two) (e .three)) h))
+
+module _ {s : Bytes} {rows : List ℕ} {e : Entry} where
+  rows-ask : (b : Bool) → e .at + e .len ≤ length s → {area : Bytes} {top : ℕ} → LineAsks (entryLine b s e) (rowsAt s rows) area top → RowAsks s rows e
+  rows-ask true k a = record { sorted = a .sorted; has = a .has; key-in = k }
+  rows-ask false k a = record { sorted = a .sorted; has = a .has; key-in = k }
+
+  module _ {row : RowPlace} (f : RowFound s rows e row) where
+    found-long : length (rowFor (kindOf (e .kind)) (box.rowOf (keyIn s e) (e .two) (rowsAt s rows))) ≡ row .len
+    found-long = sym (ap length (f .is)) ∙ bytes-long s (row .at) (row .len) (f .within)
+
+    carried : (b : Bool) → carrying (entryLine b s e) (bytesAt s (row .at) (row .len)) ≡ laid (rowsAt s rows) (entryLine b s e)
+    carried true = ap (carrying (entryLine true s e)) (f .is)
+    carried false = ap (carrying (entryLine false s e)) (f .is)
+
+    lean : LeanRow (kindOf (e .kind)) (row .len)
+    lean = subst (LeanRow (kindOf (e .kind))) found-long (lean-for (kindOf (e .kind)) (box.rowOf (keyIn s e) (e .two) (rowsAt s rows)))
+
+    row-room : rowBytes (ifPut (kindOf (e .kind)) (record { key = keyIn s e; start = e .two; row = rowFor (kindOf (e .kind)) (box.rowOf (keyIn s e) (e .two) (rowsAt s rows)) })) ≡ row .len
+    row-room = row-bytes (kindOf (e .kind)) (record { key = keyIn s e; start = e .two; row = rowFor (kindOf (e .kind)) (box.rowOf (keyIn s e) (e .two) (rowsAt s rows)) }) (lean-for (kindOf (e .kind)) _) ∙ found-long
+
+    module _ {section : Section} {p : ℕ} (v : EntryAt section s p e) where
+      room : (b : Bool) (top : ℕ) → top + sizeOf (laid (rowsAt s rows) (entryLine b s e)) ≤ 131072 → top + e .len + 8 + 8 + row .len + tailIn b e ≤ 131072
+      room true top h = omega (arith, row-room, bytes-long s (e .at) (e .len) (v .key-in), bytes-long s (e .pat) (e .plen) (v .piece-in))
+      room false top h = omega (arith, row-room, bytes-long s (e .at) (e .len) (v .key-in))
+
+      write-asks : (b : Bool) {area : Bytes} {top : ℕ} → LineAsks (entryLine b s e) (rowsAt s rows) area top → WriteAsks s b e row area top
+      write-asks b a = record {
+        key-in = v .key-in;
+        piece-in = v .piece-in;
+        row-in = f .within;
+        key-small = v .key-small;
+        piece-small = v .piece-small;
+        row-small = f .small;
+        lean = lean;
+        stamp = one-stamp b s e (and-right (keyForm (entryLine b s e .key)) _ (a .good));
+        long = a .long;
+        room = room b _ (a .room);
       }
 
--- ---- the element that shows it
+module _ (wat : ℕ) {section : Section} {s : Bytes} {p : ℕ} (q : section ≡ sectionIf (ltb p wat)) {e : Entry} (v : EntryAt section s p e) {b : Bool} (is : ltb p wat ≡ b) where
+  line-is : lineAt s wat p ≡ entryLine b s e
+  line-is = ap (λ (t : Bool). lineIf t s p) is ∙ from b ∙ ap (lineFrom b) (ap (λ (z : Section). rawAt z s p) (sym (q ∙ ap sectionIf is)) ∙ sym (v .raw))
+    where
+      from : (t : Bool) → lineIf t s p ≡ lineFrom t (rawAt (sectionIf t) s p)
+      from true = refl
+      from false = refl
 
-size-if : {here b : Bool} (n : ℕ) → here ≡ b → sizeIf here n ≡ sizeIf b n
-size-if n h = ap (λ (b : Bool). sizeIf b n) h
+  module _ {here : Bool} (h : here ≡ true) (rows : List ℕ) (area : Bytes) (top : ℕ) (a : AsksIf here (lineAt s wat p) (rowsAt s rows) area top) where
+    asks : LineAsks (entryLine b s e) (rowsAt s rows) area top
+    asks = subst (λ (x : box.KeyLine). LineAsks x (rowsAt s rows) area top) line-is (subst (λ (t : Bool). AsksIf t (lineAt s wat p) (rowsAt s rows) area top) h a)
 
-pub spare-here : {here : Bool} {n m : ℕ} {area : Bytes} {top : ℕ} → Spare (sizeIf here n) area top → here ≡ true → n ≡ m → Spare m area top
-spare-here {n = n} {area = area} {top = top} a h z = subst (λ (x : ℕ). Spare x area top) (size-if n h ∙ z) a
+    pub put-row-asks : RowAsks s rows e
+    put-row-asks = rows-ask b (v .key-in) asks
 
-here-comes : {A B : Type 0} {way : Way A B} {x : B} {here : Bool} {area : Bytes} {top : ℕ} {section : Section} {s : Bytes} {p : ℕ} {e : Entry} {r : A} {area′ : Bytes}
-    → here ≡ true → way .size x ≡ rawBytes (rawAt section s p) → Brought section s p area top e area′ → way .show area′ r ≡ x → way .Below (top + e .len + e .plen) r → Comes way x here area top r (top + e .len + e .plen) area′
-here-comes {way = way} {x = x} h z b f g = record {
-  above = b .above;
-  shows = λ _. f;
-  below = λ _. g;
-  none = λ q. absurd (true≢false (sym h ∙ q));
-  end-is = omega (arith, z, entry-size (b .entry), size-if (way .size x) h);
-}
+    module _ {row : RowPlace} (f : RowFound s rows e row) where
+      pub put-asks : WriteAsks s b e row area top
+      put-asks = write-asks f v b asks
 
-pub none-comes : {A B : Type 0} {way : Way A B} {x : B} {here : Bool} {area : Bytes} {top : ℕ} {r : A} → here ≡ false → r ≡ way .empty → Comes way x here area top r top area
-none-comes {way = way} {x = x} h e = record {
-  above = record { long = refl; kept = refl };
-  shows = λ q. absurd (true≢false (sym q ∙ h));
-  below = λ q. absurd (true≢false (sym q ∙ h));
-  none = λ _. e;
-  end-is = omega (arith, size-if (way .size x) h);
-}
+      pub put-done : {r : Slot} {end : ℕ} {area′ : Bytes} → Comes (carrying (lineFrom b (rawOf s e)) (bytesAt s (row .at) (row .len))) area top r end area′
+          → ComesIf here (laid (rowsAt s rows) (lineAt s wat p)) area top r end area′
+      put-done {r} {end} {area′} c =
+          subst (λ (t : Bool). ComesIf t (laid (rowsAt s rows) (lineAt s wat p)) area top r end area′) (sym h)
+          (subst (λ (y : Laid). Comes y area top r end area′) (carried f b ∙ ap (laid (rowsAt s rows)) (sym line-is)) c)
 
--- ---- a default
-
-pub row-comes : {s : Bytes} {p : ℕ} {here : Bool} {area : Bytes} {top : ℕ} {e : Entry} {area′ : Bytes} → here ≡ true → Brought Default s p area top e area′
-    → Comes rowWay (rowAt s p) here area top (record { at = top; len = e .len; used = true; start = e .one; rowat = top + e .len; rowlen = e .plen }) (top + e .len + e .plen) area′
-row-comes {e = e} h b =
-    here-comes h refl b (ap₂ (λ (x y : Bytes). record { key = x; start = e .one; row = y }) (b .key-is) (b .piece-is) ∙ ap defaultOf (b .entry .raw))
-    (record { key-below = omega arith; row-below = omega arith; in-use = refl })
-
--- ---- a line
-
-line-size : (b : Bool) (s : Bytes) (p : ℕ) → sizeOf (lineIf b s p) ≡ rawBytes (rawAt (sectionFor b) s p)
-line-size true s p = refl
-line-size false s p = omega (arith, ap length (no-piece s p))
-
-line-shows : (b : Bool) {s : Bytes} {p : ℕ} {area area′ : Bytes} {top : ℕ} {e : Entry} → Brought (sectionFor b) s p area top e area′
-    → lineOf area′ (record { at = top; len = e .len; used = true; line = lineFor b e (kindOf (e .kind)) (top + e .len) (e .plen) }) ≡ lineIf b s p
-line-shows true {e = e} b =
-    ap₂ (λ (x y : Bytes). record { key = x; line = box.Standing (record { txn = e .one; primary = y; start = e .two; ttl = e .three; kind = kindOf (e .kind) }) }) (b .key-is) (b .piece-is)
-    ∙ ap (λ (x : Raw). record { key = x .key; line = box.Standing (keyLockOf x .lock) }) (b .entry .raw)
-line-shows false {e = e} b =
-    ap (λ (x : Bytes). record { key = x; line = box.Finished (record { stamp = e .one; start = e .two; commit = e .three; kind = kindOf (e .kind) }) }) (b .key-is)
-    ∙ ap (λ (x : Raw). record { key = x .key; line = box.Finished (keyRecordOf x .write) }) (b .entry .raw)
-
-line-below : (b : Bool) (e : Entry) (kind : Kind) (at len : ℕ) → LineBelow (at + len) (lineFor b e kind at len)
-line-below true e kind at len = omega arith
-line-below false e kind at len = tt
-
-module _ (wat : ℕ) (s : Bytes) (p : ℕ) {section : Section} (q : section ≡ sectionFor (ltb p wat)) where
-  pub line-is : sizeOf (lineAt s wat p) ≡ rawBytes (rawAt section s p)
-  line-is = line-size (ltb p wat) s p ∙ ap (λ (x : Section). rawBytes (rawAt x s p)) (sym q)
-
-  pub line-comes : {here : Bool} {area : Bytes} {top : ℕ} {e : Entry} {area′ : Bytes} {kind : Kind} {l : Line} → here ≡ true → Brought section s p area top e area′ → kind ≡ kindOf (e .kind)
-      → l ≡ lineFor (ltb p wat) e kind (top + e .len) (e .plen) → Comes lineWay (lineAt s wat p) here area top (record { at = top; len = e .len; used = true; line = l }) (top + e .len + e .plen) area′
-  line-comes {here} {area} {top} {e} {area′} h b g c =
-      subst (λ (x : Line). Comes lineWay (lineAt s wat p) here area top (record { at = top; len = e .len; used = true; line = x }) (top + e .len + e .plen) area′)
-      (sym (c ∙ ap (λ (x : Kind). lineFor (ltb p wat) e x (top + e .len) (e .plen)) g))
-      (here-comes h line-is b (line-shows (ltb p wat) (subst (λ (x : Section). Brought x s p area top e area′) q b)) (record { key-below = omega arith; line-below = line-below (ltb p wat) e _ (top + e .len) (e .plen); in-use = refl }))
+pub put-none : {here : Bool} → here ≡ false → (y : Laid) (area : Bytes) (top : ℕ) {r : Slot} → r ≡ noSlot → ComesIf here y area top r top area
+put-none h y area top {r} n = subst (λ (t : Bool). ComesIf t y area top r top area) (sym h) (record { none = n; end-is = refl; area-is = refl })

@@ -1,70 +1,116 @@
--- What filling a store with the entries of an image asks and leaves, an entry at a time.
+-- What filling a store with the lines of an image asks and leaves, a line at a time.
 -- Assumes nothing.
+use Prim.Native.Nat.{ℕ, _+_, _≤_}
 use mathlib.Core.Path.{_≡_}
 use mathlib.Core.Bool.{Bool, true, false}
-use Prim.Native.Nat.{ℕ, _+_, _<_}
+use mathlib.Core.List.{List}
+use mathlib.Core.Option.{Option, none, some}
 use lib.ListN.{length}
-use Rattle.forms.specs.Bytes.{Bytes, bytesAt}
+use Rattle.forms.specs.Bytes.{Bytes}
+use Rattle.forms.specs.Key.{Key}
+use Rattle.forms.specs.Row.{Row}
+use Rattle.forms.specs.Readers.{isSome}
 use Rattle.rules.specs.declared.records.Kind.{Kind}
 use Rattle.rules.specs.Box as box
-use Rattle.lines.specs.declared.store.Line.{Line}
-use Rattle.lines.specs.declared.store.Line.the-variants.{Standing, Finished}
 use Rattle.lines.specs.declared.store.Slot.{Slot}
-use Rattle.lines.specs.declared.store.Held.{Held}
-use Rattle.lines.specs.View.{lineOf, defaultOf, noSlot, noHeld}
-use Rattle.lines.specs.Made.{SlotBelow, HeldBelow}
-use Rattle.areas.specs.Packs.{Above, sizeOf, rowSize}
-use Rattle.images.specs.Entries.{EntryAt}
-use Rattle.images.specs.declared.entries.Section.{Section}
-use Rattle.images.specs.declared.entries.Section.the-variants.{Lock, Write}
+use Rattle.lines.specs.View.{lineOf, ifPut, carries, defaultIn, noSlot}
+use Rattle.lines.specs.Made.{LeanRow, SlotBelow, goodLine}
+use Rattle.stretches.specs.Writes.{Past}
+use Rattle.images.specs.Entries.{Raw}
 use Rattle.images.specs.declared.entries.Entry.{Entry}
+use Rattle.judging.specs.Good.{kindOf, keyLockOf, keyRecordOf}
+use Rattle.rules.specs.Restore.{kindHasDefault}
+use Rattle.restores.specs.declared.rows.RowPlace.{RowPlace}
+use Rattle.restores.specs.Rows.{rowFor}
 
--- ---- the bytes of an entry
+-- ---- a line and its row
 
--- n bytes are free from `top` on
-pub record Spare (n : ℕ) (area : Bytes) (top : ℕ) : Type 0 where
-  pub long : length area ≡ 65536
-  pub room : top + n < 65536
+-- a line of the box, and the default that it carries
+pub record Laid : Type 0 where
+  pub line : box.KeyLine
+  pub default : Option box.Default
 
--- the key of the entry at p stands at the top, and its piece after it
-pub record Brought (section : Section) (s : Bytes) (p : ℕ) (area : Bytes) (top : ℕ) (e : Entry) (area′ : Bytes) : Type 0 where
-  pub entry : EntryAt section s p e
-  pub room : top + e .len + e .plen < 65536
-  pub above : Above area top area′
-  pub key-is : bytesAt area′ top (e .len) ≡ bytesAt s (e .at) (e .len)
-  pub piece-is : bytesAt area′ (top + e .len) (e .plen) ≡ bytesAt s (e .pat) (e .plen)
+abbrev pub carrying : box.KeyLine → Row → Laid
+carrying e r = record { line = e; default = carries e r }
 
-abbrev pub sectionFor : Bool → Section
-sectionFor true = Lock
-sectionFor false = Write
+-- what a slot shows
+abbrev pub laidIn : Bytes → Slot → Laid
+laidIn area s = record { line = lineOf area s; default = defaultIn area s }
 
-abbrev pub lineFor : Bool → Entry → Kind → ℕ → ℕ → Line
-lineFor true e kind at len = Standing (record { txn = e .one; start = e .two; ttl = e .three; at = at; len = len; kind = kind })
-lineFor false e kind at len = Finished (record { stamp = e .one; start = e .two; commit = e .three; kind = kind })
+-- the default of a Put of this key and start, with its row
+abbrev pub defaultFor : List box.Default → Kind → Key → ℕ → Option box.Default
+defaultFor ds kind k n = ifPut kind (record { key = k; start = n; row = rowFor kind (box.rowOf k n ds) })
 
--- ---- an entry in a table
+-- a line with the default of its key and start
+abbrev pub laid : List box.Default → box.KeyLine → Laid
+laid ds e = record { line = e; default = defaultFor ds (box.kindIn (e .line)) (e .key) (box.startOf (e .line)) }
 
--- how a table's elements show entries: what one shows, that its bytes lie below a place, the bytes of an entry, and the empty element
-pub record Way (A B : Type 0) : Type 1 where
-  pub show : Bytes → A → B
-  pub Below : ℕ → A → Type 0
-  pub size : B → ℕ
-  pub empty : A
+-- how many bytes of the area it takes
+abbrev pub rowBytes : Option box.Default → ℕ
+rowBytes none = 0
+rowBytes (some d) = length (d .row)
 
-abbrev pub rowWay : Way Held box.Default
-rowWay = record { show = defaultOf; Below = HeldBelow; size = rowSize; empty = noHeld }
+abbrev pub tailBytes : box.Line → ℕ
+tailBytes (box.Standing l) = 8 + length (l .primary)
+tailBytes (box.Finished w) = 0
 
-abbrev pub lineWay : Way Slot box.KeyLine
-lineWay = record { show = lineOf; Below = SlotBelow; size = sizeOf; empty = noSlot }
+abbrev pub sizeOf : Laid → ℕ
+sizeOf y = length (y .line .key) + 8 + 8 + rowBytes (y .default) + tailBytes (y .line .line)
 
-abbrev pub sizeIf : Bool → ℕ → ℕ
-sizeIf true n = n
-sizeIf false n = 0
+-- ---- it comes
 
--- the element that x gives, its bytes from `top` to `end`, or the empty one
-pub record Comes {A B : Type 0} (way : Way A B) (x : B) (here : Bool) (area : Bytes) (top : ℕ) (r : A) (end : ℕ) (area′ : Bytes) : Type 0 where
-  pub above : Above area top area′
-  pub shows : here ≡ true → way .show area′ r ≡ x
-  pub below : here ≡ true → way .Below end r
-  pub none : here ≡ false → r ≡ way .empty
-  pub end-is : end ≡ top + sizeIf here (way .size x)
+-- the slot that shows it, its stretch from `top` to `end`
+pub record Comes (y : Laid) (area : Bytes) (top : ℕ) (r : Slot) (end : ℕ) (area′ : Bytes) : Type 0 where
+  pub past : Past area top area′
+  pub shows : laidIn area′ r ≡ y
+  pub below : SlotBelow end r
+  pub end-is : end ≡ top + sizeOf y
+
+-- or the empty slot, and nothing is written
+pub record Stays (area : Bytes) (top : ℕ) (r : Slot) (end : ℕ) (area′ : Bytes) : Type 0 where
+  pub none : r ≡ noSlot
+  pub end-is : end ≡ top
+  pub area-is : area′ ≡ area
+
+abbrev pub ComesIf : Bool → Laid → Bytes → ℕ → Slot → ℕ → Bytes → Type 0
+ComesIf true y area top r end area′ = Comes y area top r end area′
+ComesIf false y area top r end area′ = Stays area top r end area′
+
+-- ---- what that asks
+
+abbrev pub lineFrom : Bool → Raw → box.KeyLine
+lineFrom true x = record { key = x .key; line = box.Standing (keyLockOf x .lock) }
+lineFrom false x = record { key = x .key; line = box.Finished (keyRecordOf x .write) }
+
+abbrev pub tailIn : Bool → Entry → ℕ
+tailIn true e = 8 + e .plen
+tailIn false e = 0
+
+-- "its commit equals its write stamp": only the stamp is written
+abbrev pub OneStamp : Bool → Entry → Type 0
+OneStamp true e = Unit {0}
+OneStamp false e = e .three ≡ e .one
+
+pub record WriteAsks (s : Bytes) (lock : Bool) (e : Entry) (row : RowPlace) (area : Bytes) (top : ℕ) : Type 0 where
+  pub key-in : e .at + e .len ≤ length s
+  pub piece-in : e .pat + e .plen ≤ length s
+  pub row-in : row .at + row .len ≤ length s
+  pub key-small : e .len ≤ 255
+  pub piece-small : e .plen ≤ 255
+  pub row-small : row .len ≤ 255
+  pub lean : LeanRow (kindOf (e .kind)) (row .len)
+  pub stamp : OneStamp lock e
+  pub long : length area ≡ 131072
+  pub room : top + e .len + 8 + 8 + row .len + tailIn lock e ≤ 131072
+
+-- a good line that has its default, with place for its stretch
+pub record LineAsks (x : box.KeyLine) (ds : List box.Default) (area : Bytes) (top : ℕ) : Type 0 where
+  pub sorted : box.ordered box.rowBefore ds ≡ true
+  pub has : kindHasDefault (box.kindIn (x .line)) (isSome (box.rowOf (x .key) (box.startOf (x .line)) ds)) ≡ true
+  pub good : goodLine x ≡ true
+  pub long : length area ≡ 131072
+  pub room : top + sizeOf (laid ds x) ≤ 131072
+
+abbrev pub AsksIf : Bool → box.KeyLine → List box.Default → Bytes → ℕ → Type 0
+AsksIf true x ds area top = LineAsks x ds area top
+AsksIf false x ds area top = Unit {0}

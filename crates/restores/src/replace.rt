@@ -6,9 +6,9 @@ ghost use Rattle.lines.specs.View.{boxOf};
 ghost use Rattle.lines.specs.Made.{Made};
 ghost use Rattle.restores.specs.Replaced.{Replaced};
 use crate::fill::put_line;
-use crate::fill::put_row;
 use calls::Changed;
 use calls::accepted;
+use lines::AREA;
 use lines::Store;
 use verdicts::verdict;
 
@@ -21,9 +21,9 @@ fn larger(a: usize, b: usize) -> usize
     a
 }
 
-// "form, table number not zero, then each entry ..": the whole image is judged before anything is written. Then both tables are filled where
-// they stand, a place at a time, up to the last place that was or is in use.
-pub fn restore(mut store: Store, area: &mut [u8], image: &[u8]) -> Changed
+// "form, table number not zero, then each entry ..": the whole image is judged before anything is written. Then the table is filled where it
+// stands, a place at a time, up to the last place that was or is in use.
+pub fn restore(mut store: Store, area: &mut [u8; AREA], image: &[u8]) -> Changed
     requires { ⌜ Made store (now area) ⌝ }
     ensures { λ r. ⌜ Replaced store (now (area .entry)) (restore (now (image .entry)) (boxOf store (now (area .entry)))) r (now (area .exit)) ⌝ }
 {
@@ -34,19 +34,18 @@ pub fn restore(mut store: Store, area: &mut [u8], image: &[u8]) -> Changed
     if accepted(answer) {
         let load = v.load;
         let old = store.load;
-        let new = larger(load.lines, load.defaults);
-        let former = larger(old.lines, old.defaults);
-        let end = larger(new, former);
+        let n = load.lines;
+        let d = load.defaults;
+        let end = larger(n, old.lines);
         let mut top: usize = 0;
+        let mut last: usize = 0;
         let mut k: usize = 0;
         while k < end {
-            let d = put_row(area, image, k < load.defaults, rows[k], top);
-            let held = d.held;
-            store.defaults[k] = held;
-            let l = put_line(area, image, v.wat, k < load.lines, places[k], d.top);
+            let l = put_line(area, top, image, v.wat, &rows[..d], k < n, places[k], last);
             let slot = l.slot;
             store.lines[k] = slot;
             top = l.top;
+            last = l.last;
             k += 1;
         }
         store.load = load;

@@ -1,173 +1,114 @@
--- The applying pass of a batch, whole: what the plan is asked, and what the edits make of the store.
+-- The batch of a rollback: what its keys add and free, what each asks of the store as it is then, and the definition by one key's steps.
 -- Assumes nothing.
-use Prim.Native.Nat.{ℕ, _*_, _≤_, _<_}
+use Prim.Native.Nat.{ℕ, _+_, _≤_, _<_}
 use native.Mathlib.Omega.{arith}
-use mathlib.Core.Path.{_≡_, refl, sym, ap, _∙_, subst}
-use mathlib.Core.Bool.{Bool, true}
-use mathlib.Core.List.{List, [], _∷_}
+use mathlib.Core.Path.{_≡_, refl, ap₂}
+use mathlib.Core.Bool.{not}
+use mathlib.Core.List.{List, _∷_}
 use mathlib.Core.Option.{Option, none, some}
-use lib.ListN.{length, getD}
-use Rattle.seqs.specs.Tables.{All, shown}
-use Rattle.seqs.proofs.Alls.{all-at}
-use Rattle.seqs.proofs.Tables.{shown-length, shown-at}
+use lib.Dec.{eqb}
+use lib.ListN.{getD, drop}
+use borrow.Author.Tests.{eqb-false}
+use Rattle.seqs.specs.Tables.{shown}
 use Rattle.forms.specs.Bytes.{Bytes}
-use Rattle.forms.specs.Key.{Key, keyForm}
-use Rattle.forms.specs.Readers.{isSome}
+use Rattle.forms.specs.Key.{Key}
+use Rattle.forms.specs.Row.{Row}
 use Rattle.forms.specs.Places.{keyAt, noEntry}
 use Rattle.forms.specs.declared.batch.Entry.{Entry}
+use Rattle.rules.specs.declared.answers.Answer.{Answer}
 use Rattle.rules.specs.declared.answers.Answer.the-variants.{Accepted}
-use Rattle.rules.specs.declared.records.Kind.the-variants.{Rollback}
 use Rattle.rules.specs.declared.records.Record.{Record}
-use Rattle.rules.specs.declared.room.Load.{Load}
-use Rattle.rules.specs.Box.{Box, KeyLine, Default, Finished, before, rowBefore, recordsOf, inOrder, dropLock}
-use Rattle.rules.specs.Room.{loadOf}
-use Rattle.rules.specs.Calls.{stampedAt, recordFor}
-use Rattle.rules.specs.Rollback.{rollbackKey, rollbackKeys, rollbackTo, applyRollback, applyRollbacks}
-use Rattle.laws.specs.Adds.{sumLoads, rollbackAdds}
-use Rattle.laws.proofs.StepLaws.{then-left, then-right}
-use Rattle.laws.proofs.Sorted.{fewer-good, all-insert}
-use Rattle.laws.proofs.PlaceLaws.{howMany-le}
-use Rattle.laws.proofs.BoxOrder.{dropLock-fewer, dropRow-fewer}
-use Rattle.laws.proofs.LoadLaws.{load-fields}
+use Rattle.rules.specs.Answers.{_▸_, need}
+use Rattle.rules.specs.Box.{Box, Lock, recordsOf, lockOf, rowOf}
+use Rattle.rules.specs.Room.{roomFor}
+use Rattle.rules.specs.Calls.{settle, nonEmpty, zeroStep, stampedAt}
+use Rattle.rules.specs.Rollback.{rollbackKey, rollbackRoom, rollbackSteps, rollbackTo, applyRollback, rollbackAll}
+use Rattle.laws.specs.Adds.{plus, recordLoad, ofLock, ofRow, ifNew, rollbackAdds, rollbackFrees}
+use Rattle.laws.proofs.StepLaws.{then-right, need-true, not-true}
 use Rattle.laws.proofs.BatchLaws.{applyAll}
-use Rattle.laws.proofs.RollbackLaws.{rollback-passed, applyRollbacks-all, rollbacks-keep, rollbacks-load}
+use Rattle.laws.proofs.RollbackLaws.{rollback-depends, rollback-only, rollbackKeys-all, applyRollbacks-all, rollbacks-load}
 use Rattle.lines.specs.declared.store.Store.{Store}
-use Rattle.lines.specs.declared.keys.Locked.{Locked}
-use Rattle.lines.specs.declared.keys.Locked.the-variants.{Nobody, By}
-use Rattle.lines.specs.declared.keys.Looked.{Looked}
-use Rattle.lines.specs.declared.places.FoundRow.{FoundRow}
 use Rattle.lines.specs.View.{boxOf}
-use Rattle.lines.specs.Made as store
-use Rattle.lines.specs.Made.{KeysIn}
-use Rattle.lines.specs.Looks.{lockedBy, pair}
-use Rattle.areas.specs.Packs.{Placed}
-use Rattle.calls.specs.Walks.{noLook, noFound, Met}
-use Rattle.calls.proofs.PassLaws.{met-at}
-use Rattle.edits.specs.Seen.{StoreAsks, Applied}
-use Rattle.edits.specs.declared.edit.Plan.{Plan}
-use Rattle.edits.proofs.BuiltLaws.{Planned, planned-asks, planned-leaves}
-use Rattle.edits.proofs.WrittenLaws.{written-at-once, written-planned}
-use Rattle.rollbacks.specs.Plans.{Spot, PlanAsks, PlanFor, PlanKept, AllPlanned, ApplyAsks, AllApplied}
-use Rattle.rollbacks.proofs.SeenLaws.{at-is, stored-is}
+use Rattle.applies.specs.Applies.{RollbackAsks, Applied}
+use Rattle.calls.specs.Passes.{ApplyAsks}
+use Rattle.calls.proofs.ApplyLaws.{Changes, Applying, applying-passed, applying-room, ChangingAll, changing-start, changing-here, changing-more}
+use Rattle.calls.proofs.JudgeLaws.{Weighed, changing-free}
+use Rattle.calls.proofs.DoneLaws.{ByEntries}
+use Rattle.rollbacks.specs.Checks.{stepsOf}
 
--- ---- keys stay in form
+-- ---- what a key adds and frees
 
--- keys that pass are in form
-passed-forms : (txn start : ℕ) (b : Box) (ks : List Key) → rollbackKeys txn start b ks ≡ Accepted → All (λ (k : Key). keyForm k ≡ true) ks
-unfolding rollbackKeys All
-passed-forms txn start b [] p = tt
-passed-forms txn start b (k ∷ ks) p = (rollback-passed txn start b k (then-left _ _ p) .key, passed-forms txn start b ks (then-right (rollbackKey txn start b k) _ p))
+adds-frees : (k : Key) (f : Option Record) (o : Option Lock) (r : Option Row)
+    → (ifNew f (plus (ofLock k o) (ofRow k r)) .lines ≤ ifNew f (recordLoad k) .lines)
+    × (ifNew f (plus (ofLock k o) (ofRow k r)) .lines + ifNew f (plus (ofLock k o) (ofRow k r)) .lines + ifNew f (recordLoad k) .locks ≤ ifNew f (recordLoad k) .lines + ifNew f (plus (ofLock k o) (ofRow k r)) .locks)
+unfolding ifNew ofLock ofRow
+adds-frees k (some w) o r = (omega arith, omega arith)
+adds-frees k none none none = (omega arith, omega arith)
+adds-frees k none none (some q) = (omega arith, omega arith)
+adds-frees k none (some l) none = (omega arith, omega arith)
+adds-frees k none (some l) (some q) = (omega arith, omega arith)
 
-abbrev lineGood : KeyLine → Bool
-lineGood e = keyForm (e .key)
-
-abbrev defaultGood : Default → Bool
-defaultGood d = keyForm (d .key)
-
-rollback-keys : (start : ℕ) (k : Key) (b : Box) → keyForm k ≡ true → KeysIn b → KeysIn (applyRollback start k b)
-unfolding applyRollback rollbackTo
-rollback-keys start k b f h = go (stampedAt start (recordsOf k (b .lines)))
+pub weighed : (txn start : ℕ) → Weighed (stepsOf txn start) (λ (k : Key). k) (applyRollback start)
+unfolding rollbackAdds rollbackFrees applyRollback ifNew rollbackTo
+weighed txn start = record {
+  load = λ ks b a o. rw (← applyRollbacks-all start ks b) (rollbacks-load start ks b a o);
+  replay = λ k b e. replay k b (stampedAt start (recordsOf k (b .lines))) e;
+  lines = λ k b. adds-frees k (stampedAt start (recordsOf k (b .lines))) (lockOf k (b .lines)) (rowOf k start (b .defaults)) .0;
+  locks = λ k b. adds-frees k (stampedAt start (recordsOf k (b .lines))) (lockOf k (b .lines)) (rowOf k start (b .defaults)) .1;
+}
   where
-    new : KeyLine
-    new = record { key = k; line = Finished (recordFor start start Rollback) }
+    replay : (k : Key) (b : Box) (f : Option Record) → ifNew f (recordLoad k) .lines ≡ 0 → rollbackTo start b k f ≡ b
+    replay k b (some w) e = refl
+    replay k b none e = absurd (omega arith)
 
-    go : (o : Option Record) → KeysIn (rollbackTo start b k o)
-    go (some w) = h
-    go none = record {
-      lines = all-insert before new lineGood (dropLock k (b .lines)) f (fewer-good lineGood (dropLock-fewer k (b .lines)) (h .lines));
-      defaults = fewer-good defaultGood (dropRow-fewer k start (b .defaults)) (h .defaults);
+-- where no lock goes a line comes
+one-more : (start : ℕ) (b : Box) (k : Key) → stampedAt start (recordsOf k (b .lines)) ≡ none → lockOf k (b .lines) ≡ none → rollbackFrees start b k .lines < rollbackAdds start b k .lines
+unfolding rollbackAdds rollbackFrees ifNew ofLock ofRow
+one-more start b k n e = rw (n, e) (go (rowOf k start (b .defaults)))
+  where
+    go : (r : Option Row) → 0 + ofRow k r .lines < 1
+    go none = omega arith
+    go (some q) = omega arith
+
+-- ---- one key after the other
+
+abbrev pub changesOf : ℕ → ℕ → Changes Key
+changesOf txn start = record { key = λ k. k; start = start; check = rollbackKey txn start; apply = applyRollback start; most = 64; depends = rollback-depends txn start; only = rollback-only start start }
+
+-- what is left to apply to the store as it is
+abbrev pub Rolling : ℕ → ℕ → Box → Bytes → Bytes → ℕ → List Entry → ℕ → Store → Type 0
+Rolling txn start b area s n es i cur = ChangingAll (changesOf txn start) (keyAt s) (applyAll (applyRollback start) (shown (keyAt s) n es) b) area s n es i cur
+
+module _ (txn start : ℕ) {st : Store} {area s : Bytes} {n : ℕ} {es : List Entry} (asks : (ApplyAsks (rollbackKey txn start) (applyRollback start) (keyAt s) 64 st area s n es) × (start ≡ 0 → ⊥)) where
+  pub rolling-start : Rolling txn start (boxOf st area) area s n es 0 st
+  rolling-start = let a = asks .0 in changing-start (changesOf txn start) (keyAt s) (a .form .listed) (a .built) (a .form .ascends) (a .passed) refl (a .room)
+
+  module _ {area′ : Bytes} {i : ℕ} {cur : Store} (v : Rolling txn start (boxOf st area) area′ s n es i cur) (more : i < n) where
+    here : Applying (changesOf txn start) (applyAll (applyRollback start) (shown (keyAt s) n es) (boxOf st area)) (boxOf cur area′) (cur .top) (keyAt s (getD es i noEntry) ∷ drop (i + 1) (shown (keyAt s) n es))
+    here = changing-here v more
+
+    pub rolling-asks : RollbackAsks cur area′ txn start (keyAt s (getD es i noEntry))
+    rolling-asks = record {
+      built = v .left .built;
+      head = asks .1;
+      passed = applying-passed here;
+      slot-free = λ f e. changing-free (weighed txn start) v more (asks .0 .fit) (one-more start (boxOf cur area′) (keyAt s (getD es i noEntry)) f e);
+      area-room = applying-room here;
     }
 
--- ---- what was found, told of the box
+    pub rolling-more : {r : Store} {area″ : Bytes} → Applied cur area′ (applyRollback start (keyAt s (getD es i noEntry)) (boxOf cur area′)) (cur .top + 64) r area″ → Rolling txn start (boxOf st area) area″ s n es (i + 1) r
+    rolling-more l = changing-more v more (l .leaves)
 
-lock-any : (l : Locked) (a b : Bytes) → isSome (lockedBy a l) ≡ isSome (lockedBy b l)
-lock-any Nobody a b = refl
-lock-any (By i) a b = refl
+-- ---- the call
 
-spot-met : {st : Store} {area : Bytes} {start : ℕ} {k : Key} {found : Looked} {stored : FoundRow} → Met st area k start start found stored → Spot start (boxOf st area) k found stored
-spot-met {st} {area} {start} {k} {found} {stored} m = record {
-  first-is = m .looked .first-is;
-  place-is = m .looked .place-is;
-  at-is = at-is m;
-  lock-is = λ a. lock-any (found .lock) a area ∙ ap isSome (m .looked .lock-is);
-  row-is = m .row .place-is;
-  stored-is = stored-is m;
+pub zero-start : (txn start : ℕ) → zeroStep txn start ≡ Accepted → start ≡ 0 → ⊥
+unfolding zeroStep
+zero-start txn start p = eqb-false start 0 (not-true _ (need-true _ 3 (then-right (need (not (eqb txn 0)) 3) _ p)))
+
+-- the definition, by the steps of one key
+pub by-keys : (txn start : ℕ) → ByEntries (rollbackKey txn start) (applyRollback start) (zeroStep txn start) (rollbackAll txn start)
+unfolding rollbackAll rollbackSteps rollbackRoom
+by-keys txn start = record {
+  is = λ ks b.
+      ap₂ (λ (x : Answer) (c : Box). settle (need (nonEmpty ks) 5 ▸ zeroStep txn start ▸ x ▸ need (roomFor c) 11) c b) (rollbackKeys-all txn start b ks) (applyRollbacks-all start ks b);
 }
-
--- ---- the pass
-
-module _ {st : Store} {area : Bytes} {start : ℕ} {s : Bytes} {n : ℕ} {es : List Entry} {founds : List Looked} {rows : List FoundRow} {load : Load} (a : ApplyAsks st area start s n es founds rows load) where
-  abbrev ks : List Key
-  ks = shown (keyAt s) n es
-
-  abbrev b : Box
-  b = boxOf st area
-
-  count : length ks ≡ n
-  count = shown-length (a .asks .form .listed) (keyAt s)
-
-  form : (j : ℕ) → j < n → keyForm (keyAt s (getD es j noEntry)) ≡ true
-  form j l =
-      ap keyForm (sym (shown-at (a .asks .form .listed) (keyAt s) j l))
-      ∙ all-at (λ (k : Key). keyForm k ≡ true) (keyAt s noEntry) ks j (passed-forms (a .txn) start b ks (a .passes)) (omega (arith, count))
-
-  defaults-few : length (b .defaults) ≤ 1024
-  unfolding loadOf
-  defaults-few =
-      let f = load-fields (a .asks .made .built .kept .load-is) in
-      omega (arith, f .defaults, a .asks .made .built .defaults .few)
-
-  row-low : (j : ℕ) → j < n → getD rows j noFound .place ≤ 1024
-  row-low j l =
-      let r = a .surveyed .stored .each j l in
-      omega (arith, r .place-is, howMany-le (λ (d : Default). rowBefore d (pair (keyAt s (getD es j noEntry)) start)) (b .defaults), defaults-few)
-
-  -- place for a key in form of each entry
-  pub few-bytes : n * 48 ≤ 16384
-  few-bytes = omega (arith, a .asks .form .listed .few)
-
-  module _ {t : Store} {area′ : Bytes} (v : Placed st area (n * 48) t area′) where
-    pub plan-asks : PlanAsks area′ (t .top) s n es rows
-    plan-asks = record { listed = a .asks .form .listed; long = v .made .built .area-long; room = v .room; form = form; low = row-low }
-
-    module _ {r : Plan} {area″ : Bytes} (w : AllPlanned start area′ (t .top) s n es founds rows r area″) where
-      spots : PlanFor start area′ (t .top) s n es founds rows t
-      spots = record {
-        top-is = refl;
-        built = v .made .built;
-        spots = λ j l. subst (λ (x : Box). Spot start x (keyAt s (getD es j noEntry)) (getD founds j noLook) (getD rows j noFound)) (sym (v .shown)) (spot-met (met-at (a .surveyed) l));
-      }
-
-      kept : PlanKept start area′ ks t area″ (r .top) n [] (r .lines) (r .rows)
-      kept = w .each t spots
-
-      box-is : applyRollbacks start ks b ≡ applyAll (applyRollback start) ks (boxOf t area′)
-      box-is = applyRollbacks-all start ks b ∙ ap (applyAll (applyRollback start) ks) (sym (v .shown))
-
-      new-kept : store.Kept (applyRollbacks start ks b) load
-      new-kept = record {
-        load-is = a .load-is;
-        sorted = ap inOrder box-is ∙ written-at-once (kept .written) (v .made .built) count (a .asks .form .listed .few) (a .asks .form .ascends) .sorted;
-        keys = rollbacks-keep (a .txn) start KeysIn (λ k c p h. rollback-keys start k c (rollback-passed (a .txn) start c k p .key) h) ks b (a .asks .form .ascends) (a .passes) (a .asks .made .built .kept .keys);
-      }
-
-      -- what is live lies below the top
-      live : load .bytes ≤ r .top
-      unfolding sumLoads
-      live =
-          let x = load-fields (rollbacks-load start ks b (a .asks .form .ascends) (a .asks .made .built .kept .sorted)) in
-          let y = load-fields (a .load-is) in
-          let z = load-fields (v .made .built .kept .load-is ∙ ap loadOf (v .shown)) in
-          let s : sumLoads (rollbackAdds start (boxOf t area′)) ks .bytes ≡ sumLoads (rollbackAdds start b) ks .bytes = ap (λ (u : Box). sumLoads (rollbackAdds start u) ks .bytes) (v .shown) in
-          omega (arith, x .bytes, y .bytes, z .bytes, s, kept .bytes, v .made .built .live-in)
-
-      planned : Planned t area′ area″ (applyRollbacks start ks b) load (r .top) n (r .lines) (r .rows)
-      planned = written-planned (kept .written) (v .made .built) count (a .asks .form .listed .few) (a .asks .form .ascends) box-is new-kept (a .fit .lines) (a .fit .defaults) live
-
-      pub edits-ask : StoreAsks t n (r .lines) (r .rows)
-      edits-ask = planned-asks planned
-
-      pub edits-made : {u : Store} → Applied t n (r .lines) (r .rows) load (r .top) u → AllApplied st area start (shown (keyAt s) n es) u area″
-      edits-made e =
-          let l = planned-leaves planned e in
-          record { built = l .built; shown = l .shown }

@@ -1,73 +1,67 @@
--- The steps of a rollback at a key, what their check says of a key and of all keys, and the call from its keys on.
+-- The steps of a rollback at a key, by what was found there, and what the key adds and frees.
 -- Assumes nothing.
-use Prim.Native.Nat.{ℕ, _+_, _≤_}
-use mathlib.Core.Path.{_≡_}
-use mathlib.Core.List.{List}
-use mathlib.Core.Option.{Option}
+use Prim.Native.Nat.{ℕ, _≤_}
+use mathlib.Core.Bool.{Bool, true}
+use mathlib.Core.Option.{Option, none, some}
+use lib.Dec.{eqb}
 use lib.ListN.{length}
-use Rattle.seqs.specs.Tables.{shown}
-use Rattle.forms.specs.Bytes.{Bytes, bytesAt}
-use Rattle.forms.specs.Key.{Key}
-use Rattle.forms.specs.Row.{Row}
-use Rattle.forms.specs.Readers.{when}
-use Rattle.forms.specs.Places.{keyAt}
-use Rattle.forms.specs.declared.batch.Entry.{Entry}
+use Rattle.forms.specs.Bytes.{Bytes}
+use Rattle.forms.specs.Key.{Key, keyForm}
+use Rattle.rules.specs.declared.answers.Answer.{Answer}
 use Rattle.rules.specs.declared.answers.Answer.the-variants.{Accepted}
+use Rattle.rules.specs.declared.records.Kind.the-variants.{Rollback}
 use Rattle.rules.specs.declared.records.Record.{Record}
-use Rattle.rules.specs.Answers.{_▸_}
-use Rattle.rules.specs.Box.{Box}
-use Rattle.rules.specs.Calls.{Done, settle}
-use Rattle.rules.specs.Rollback.{rollbackStep, rollbackKey, rollbackKeys, rollbackRoom, applyRollbacks}
-use Rattle.laws.specs.Adds.{plus, recordLoad, ofLock, ofRow, ifNew, rollbackAdds, rollbackFrees}
+use Rattle.rules.specs.Answers.{_▸_, need, needOwn}
+use Rattle.rules.specs.Box.{Lock, holderOf, eqKind}
+use Rattle.rules.specs.Calls.{owns}
+use Rattle.rules.specs.Rollback.{rollbackKey}
+use Rattle.laws.specs.Adds.{rollbackAdds, rollbackFrees}
 use Rattle.lines.specs.declared.store.Store.{Store}
 use Rattle.lines.specs.declared.keys.Found.{Found}
+use Rattle.lines.specs.declared.keys.Found.the-variants.{Nothing, Is}
 use Rattle.lines.specs.declared.keys.Locked.{Locked}
-use Rattle.lines.specs.declared.keys.Looked.{Looked}
-use Rattle.lines.specs.declared.places.FoundRow.{FoundRow}
-use Rattle.lines.specs.View.{boxOf}
-use Rattle.lines.specs.Looks.{lockedBy, LockBelow, foundOf}
-use Rattle.calls.specs.Walks.{Met, Surveyed}
-use Rattle.calls.specs.Weights.{Light, Steps, EntryChecked, AllChecked}
+use Rattle.lines.specs.Made.{Built}
+use Rattle.stretches.specs.Loads.{recordSize, freedBy, FreedAsks}
+use Rattle.calls.specs.Weights.{noWeight, Steps}
 use Rattle.calls.specs.declared.weights.Weight.{Weight}
-use Rattle.calls.specs.declared.weights.Seen.{Seen}
 
--- a key adds its record, and frees its lock and its row
-abbrev pub rollSteps : ℕ → ℕ → Steps Key
-rollSteps txn start = record { check = rollbackKey txn start; adds = rollbackAdds start; frees = rollbackFrees start; add = 48; free = 606 }
+-- a key adds its record, and frees its lock and its row: a key, and a key twice, a primary and a row, each in a part of 255 bytes
+abbrev pub stepsOf : ℕ → ℕ → Steps Key
+stepsOf txn start = record { check = rollbackKey txn start; adds = rollbackAdds start; frees = rollbackFrees start; add = 255; free = 1020 }
 
--- ---- one key
+-- ---- one key, by what was found at it
 
--- the row that was found
-abbrev pub rowIn : Bytes → FoundRow → Option Row
-rowIn area stored = when (stored .ok) (bytesAt area (stored .at) (stored .len))
+-- the record with this start, if there is one, is a Rollback
+abbrev pub rolledBy : Option Record → Bool
+rolledBy none = true
+rolledBy (some w) = eqKind (w .kind) Rollback
 
--- what a Rollback that comes adds and frees, by the lock and the row that were found
-pub record Weighs (k : Key) (lock : Locked) (stored : FoundRow) (r : Weight) : Type 0 where
-  pub added-is : r .added ≡ recordLoad k
-  pub freed-is : (area : Bytes) (row : Row) → LockBelow (length area) lock → length row ≡ stored .len → r .freed ≡ plus (ofLock k (lockedBy area lock)) (ofRow k (when (stored .ok) row))
-  pub light : Light 1 48 606 r
+-- "another's lock 7"
+abbrev pub ownStep : ℕ → ℕ → Option Lock → Answer
+ownStep txn start none = Accepted
+ownStep txn start (some l) = needOwn (owns txn start l) (holderOf l)
 
-pub record StepAsks (area : Bytes) (k : Key) (stored : FoundRow) : Type 0 where
-  pub short : length k ≤ 48
-  pub within : stored .at + stored .len ≤ length area
+-- "a record stamped with this start that is not its Rollback, 9": it has another start, since with this one it would be a Rollback
+abbrev pub stampedStep : ℕ → ℕ → Option Lock → Option Record → Answer
+stampedStep txn start lock none = ownStep txn start lock
+stampedStep txn start lock (some w) = need (eqb (w .start) start) 9
 
--- the record at this start, or else the lock: the answer, and where it passes what the key adds and frees
-pub record StepSeen (txn start : ℕ) (area : Bytes) (k : Key) (at : Found) (lock : Locked) (stored : FoundRow) (r : Seen) : Type 0 where
-  pub answer-is : (o : Option Record) → at ≡ foundOf o → r .answer ≡ rollbackStep txn start (rowIn area stored) (lockedBy area lock) o
-  pub added-is : (o : Option Record) → at ≡ foundOf o → r .answer ≡ Accepted → r .weight .added ≡ ifNew o (recordLoad k)
-  pub freed-is : (o : Option Record) → at ≡ foundOf o → LockBelow (length area) lock → r .answer ≡ Accepted → r .weight .freed ≡ ifNew o (plus (ofLock k (lockedBy area lock)) (ofRow k (rowIn area stored)))
-  pub light : Light 1 48 606 (r .weight)
+-- "1; .. with this start and not Rollback 8; a record stamped with this start ..", by the record with this start and the one stamped with it
+abbrev pub keySteps : ℕ → ℕ → Key → Option Record → Option Record → Option Lock → Answer
+keySteps txn start k with at lock =
+    need (keyForm k) 1 ▸
+    need (rolledBy with) 8 ▸
+    stampedStep txn start lock at
 
--- the whole list, on every store in which this is found
-pub record KeySeen (txn start : ℕ) (area : Bytes) (k : Key) (found : Looked) (stored : FoundRow) (r : Seen) : Type 0 where
-  pub is : (st : Store) → Met st area k start start found stored → EntryChecked (rollSteps txn start) (boxOf st area) k r
+-- "Lock and its row go, a Rollback record comes", where none is stamped with this start
+abbrev pub weightOf : Found → Locked → ℕ → Weight
+weightOf (Is w) lock key = noWeight
+weightOf Nothing lock key = record { added = recordSize Rollback key 0; freed = freedBy lock key }
 
--- ---- all keys
+pub record WeightAsks (lock : Locked) (key : ℕ) : Type 0 where
+  pub short : key ≤ 255
+  pub freed : FreedAsks lock key
 
--- on every store in which this was found
-pub record KeysSeen (txn start : ℕ) (area s : Bytes) (n : ℕ) (es : List Entry) (founds : List Looked) (rows : List FoundRow) (r : Seen) : Type 0 where
-  pub is : (st : Store) → Surveyed st area s start start n es founds rows → AllChecked (rollSteps txn start) (boxOf st area) (shown (keyAt s) n es) r
-
--- "per key: ..; Then 11"
-unfoldable pub allDone : ℕ → ℕ → List Key → Box → Done
-allDone txn start ks b = settle (rollbackKeys txn start b ks ▸ rollbackRoom start ks b) (applyRollbacks start ks b) b
+pub record KeyAsks (st : Store) (area key : Bytes) : Type 0 where
+  pub built : Built st area
+  pub short : length key ≤ 255

@@ -1,9 +1,9 @@
-// "Rollback": a checking pass over the store as it came, the room that the whole call would leave, and an applying pass. The single form is a
-// batch of one.
+// "Rollback": a checking pass over the store as it came, the room that the whole call would leave, and an applying pass,
+// after a repack where the area wants one. The single form is a batch of one.
 pub mod batch;
 pub mod checks;
 pub mod passes;
-pub mod plans;
+pub mod rolling;
 pub mod single;
 
 pub use batch::rollback_intents_batch;

@@ -1,46 +1,46 @@
-// The checking pass over a batch of keys.
-ghost use Rattle.calls.specs.Walks.{PassAsks};
-ghost use Rattle.rollbacks.specs.Checks.{KeysSeen};
+// The checking pass over a batch, and what it comes to. Nothing is written before the last key has passed.
+ghost use Rattle.seqs.specs.Tables.{shown};
+ghost use Rattle.forms.specs.Places.{keyAt};
+ghost use Rattle.rules.specs.Rollback.{rollbackKey, applyRollback};
+ghost use Rattle.lines.specs.View.{boxOf};
+ghost use Rattle.calls.specs.Walks.{AllAsks};
+ghost use Rattle.calls.specs.Passes.{Judged};
 use crate::checks::check_key;
-use calls::Seen;
+use calls::Verdict;
+use calls::key_of;
 use forms::Entry;
-use lines::FoundRow;
-use lines::Looked;
-use rules::Answer;
+use lines::Store;
 
-// Every key by what was found at it in the store as it came, the whole list for one key before the next.
+// "per key: ..": every key on the store as it came, the whole list for one key before the next, and then what all of them would add to its
+// load and free of it.
 pub fn check_all(
+    store: Store,
     area: &[u8],
     txn: u64,
     start: u64,
     batch: &[u8],
     n: usize,
     list: [Entry; 32],
-    founds: [Looked; 32],
-    rows: [FoundRow; 32],
-) -> Seen
-    requires { ⌜ PassAsks (now area) (now batch) start start n list founds rows ⌝ }
-    ensures { λ r. ⌜ KeysSeen txn start (now (area .entry)) (now (batch .entry)) n list founds rows r ⌝ }
+) -> Verdict
+    requires { ⌜ AllAsks store (now area) (now batch) n list ⌝ }
+    ensures { λ r. ⌜ Judged (rollbackKey txn start) (applyRollback start) (boxOf store (now (area .entry))) (shown (keyAt (now (batch .entry))) n list) r ⌝ }
 {
-    let mut weight = calls::no_weight();
+    let mut sum = calls::no_weight();
     let mut i: usize = 0;
     while i < n {
         let e = list[i];
-        let key = lines::part(batch, e.at, e.len);
-        let seen = check_key(founds[i], rows[i], area, txn, start, key);
+        let key = key_of(batch, e);
+        let seen = check_key(store, area, txn, start, key);
         let answer = seen.answer;
         if !calls::accepted(answer) {
-            return Seen {
+            return Verdict {
                 answer: answer,
-                weight: weight,
+                moves: false,
             };
         }
-        let more = seen.weight;
-        weight = calls::plus_weight(weight, more);
+        sum = calls::plus_weight(sum, seen.weight);
         i += 1;
     }
-    Seen {
-        answer: Answer::Accepted,
-        weight: weight,
-    }
+    let load = store.load;
+    calls::judge(sum, load)
 }

@@ -5,10 +5,17 @@ ghost use Rattle.lines.specs.Made.{Made};
 ghost use Rattle.calls.specs.Settled.{Settled};
 use crate::batch::rollback_intents_batch;
 use calls::Changed;
+use lines::AREA;
 use lines::Store;
 
 // "the single form disappears as a step of its own and is a batch of one"
-pub fn rollback_intent(store: Store, area: &mut [u8], txn: u64, start: u64, key: &[u8]) -> Changed
+pub fn rollback_intent(
+    store: Store,
+    area: &mut [u8; AREA],
+    txn: u64,
+    start: u64,
+    key: &[u8],
+) -> Changed
     requires { ⌜ Made store (now area) ⌝ }
     ensures { λ r. ⌜ Settled store (now (area .entry)) (rollback txn start (now (key .entry)) (boxOf store (now (area .entry)))) r (now (area .exit)) ⌝ }
 {

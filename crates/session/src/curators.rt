@@ -4,6 +4,7 @@ ghost use Rattle.lines.specs.Made.{Made};
 use crate::telling::say;
 use crate::telling::say_answer;
 use crate::telling::tell;
+use mvcc::AREA;
 use mvcc::Store;
 
 // How long a curator's locks are to stand.
@@ -17,7 +18,7 @@ fn say_act(txn: u64, does: &[u8], names: &[u8], at: &[u8], number: u64) {
 
 pub fn prewrites(
     store: Store,
-    area: &mut [u8],
+    area: &mut [u8; AREA],
     txn: u64,
     start: u64,
     primary: &[u8],
@@ -36,7 +37,7 @@ pub fn prewrites(
 
 pub fn commits(
     store: Store,
-    area: &[u8],
+    area: &mut [u8; AREA],
     txn: u64,
     start: u64,
     commit: u64,
@@ -44,7 +45,7 @@ pub fn commits(
     names: &[u8],
 ) -> Store
     requires { ⌜ Made store (now area) ⌝ }
-    ensures { λ r. ⌜ Made r (now (area .entry)) ⌝ }
+    ensures { λ r. ⌜ Made r (now (area .exit)) ⌝ }
 {
     say_act(txn, b" commits ", names, b" at ", commit);
     let done = mvcc::commit_intents_batch(store, area, txn, start, commit, batch);
@@ -56,7 +57,7 @@ pub fn commits(
 // "Lock and its row go, a Rollback record comes."
 pub fn withdraws(
     store: Store,
-    area: &mut [u8],
+    area: &mut [u8; AREA],
     txn: u64,
     start: u64,
     key: &[u8],

@@ -9,6 +9,7 @@ ghost use Rattle.lines.specs.Made.{Made};
 use curators::commits;
 use curators::prewrites;
 use curators::withdraws;
+use mvcc::AREA;
 use mvcc::Store;
 use visitors::asks_figures;
 use visitors::asks_key;
@@ -16,7 +17,7 @@ use visitors::asks_page;
 
 // Two labels come. Keys, rows and batches are document 01's: a key is table 1 and a name; the jaw's row has one integer, its layer, the rib's
 // has none, and each has one text.
-fn two_labels(store: Store, area: &mut [u8], jaw: &[u8]) -> Store
+fn two_labels(store: Store, area: &mut [u8; AREA], jaw: &[u8]) -> Store
     requires { ⌜ Made store (now area) ⌝ }
     ensures { λ r. ⌜ Made r (now (area .exit)) ⌝ }
 {
@@ -34,7 +35,7 @@ fn two_labels(store: Store, area: &mut [u8], jaw: &[u8]) -> Store
 }
 
 // A new label for the jaw is withdrawn: the old one is seen again, and the new one can no longer be committed.
-fn withdrawn_label(store: Store, area: &mut [u8], jaw: &[u8]) -> Store
+fn withdrawn_label(store: Store, area: &mut [u8; AREA], jaw: &[u8]) -> Store
     requires { ⌜ Made store (now area) ⌝ }
     ensures { λ r. ⌜ Made r (now (area .exit)) ⌝ }
 {
@@ -49,7 +50,7 @@ fn withdrawn_label(store: Store, area: &mut [u8], jaw: &[u8]) -> Store
 }
 
 fn main() {
-    let mut area = [0u8; 65536];
+    let mut area = [0u8; AREA];
     let jaw = b"\x00\x00\x00\x01jaw";
     let store = mvcc::fresh();
     asks_figures(store, &area, b"the hall opens: ");

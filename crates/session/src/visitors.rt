@@ -6,6 +6,7 @@ use crate::telling::say_label;
 use crate::telling::say_name;
 use crate::telling::tell;
 use forms::Width;
+use mvcc::AREA;
 use mvcc::Answer;
 use mvcc::Seen;
 use mvcc::Store;
@@ -25,7 +26,7 @@ fn say_read(key: &[u8], moment: u64) {
     tell(b" at moment ", moment, b": ");
 }
 
-pub fn asks_key(store: Store, area: &[u8], key: &[u8], moment: u64)
+pub fn asks_key(store: Store, area: &[u8; AREA], key: &[u8], moment: u64)
     requires { ⌜ Made store (now area) ⌝ }
 {
     say_read(key, moment);
@@ -74,7 +75,7 @@ fn say_page(page: &[u8]) {
 }
 
 // A page of the whole hall, of at most 8 rows and 1,000 bytes.
-pub fn asks_page(store: Store, area: &[u8], moment: u64)
+pub fn asks_page(store: Store, area: &[u8; AREA], moment: u64)
     requires { ⌜ Made store (now area) ⌝ }
 {
     tell(b"a visitor asks for a page at moment ", moment, b": ");
@@ -104,7 +105,7 @@ pub fn asks_page(store: Store, area: &[u8], moment: u64)
 }
 
 // What the box holds, from its statistics.
-pub fn asks_figures(store: Store, area: &[u8], when: &[u8])
+pub fn asks_figures(store: Store, area: &[u8; AREA], when: &[u8])
     requires { ⌜ Made store (now area) ⌝ }
 {
     let stats = mvcc::stats(store, area);

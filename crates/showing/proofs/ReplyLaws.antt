@@ -26,7 +26,7 @@ use Rattle.rules.specs.Box.{Box, Lock, Default, eqKind, lockOf}
 use Rattle.rules.specs.Sound.{soundRecord, soundLock}
 use Rattle.rules.specs.Read.{showIf, showRow, oneRecord, walk, read}
 use Rattle.rules.specs.Intent.{lockIf, unlessAbove, judgeLock, intentAt}
-use Rattle.lines.specs.View.{lockIn}
+use Rattle.lines.specs.Looks.{lockIn}
 use Rattle.reads.specs.declared.seen.Seen.{Seen}
 use Rattle.reads.specs.declared.seen.Seen.the-variants as seen
 use Rattle.reads.specs.declared.seen.Pointed.{Pointed}

@@ -7,13 +7,14 @@ ghost use Rattle.showing.specs.Told.{told, writtenBytes, Writes};
 ghost use Rattle.showing.specs.Ran.{RunAsks, RanAs, TellAsks, boundsIn};
 use crate::ran::Ran;
 use crate::telling::tell;
+use lines::AREA;
 use lines::Store;
 use traces::Args;
 
 // "page | moment, row limit, byte limit, start bound, end bound, resume bound, buffer"
 fn tell_page(
     store: Store,
-    area: &[u8],
+    area: &[u8; AREA],
     call: &[u8],
     args: Args,
     page: &mut [u8],
@@ -46,7 +47,13 @@ fn tell_page(
     tell(out, answer, done.count as u64, page)
 }
 
-pub(crate) fn run_page(store: Store, area: &[u8], call: &[u8], args: Args, out: &mut [u8]) -> Ran
+pub(crate) fn run_page(
+    store: Store,
+    area: &[u8; AREA],
+    call: &[u8],
+    args: Args,
+    out: &mut [u8],
+) -> Ran
     requires { ⌜ RunAsks store (now area) (now call) args (now out) ⌝ }
     ensures { λ r. ⌜ RanAs (told (Call.Page (args .one) (record { rows = args .two; bytes = args .three }) (boundsIn (now (call .entry)) args) (args .buffer)) (boxOf store (now (area .entry)))) (now (out .entry)) r (now (area .entry)) (now (out .exit)) ⌝ }
 {
@@ -62,7 +69,7 @@ pub(crate) fn run_page(store: Store, area: &[u8], call: &[u8], args: Args, out: 
 // "intent page | lock limit, start bound, end bound, resume bound, buffer"
 fn tell_intents(
     store: Store,
-    area: &[u8],
+    area: &[u8; AREA],
     call: &[u8],
     args: Args,
     page: &mut [u8],
@@ -93,7 +100,13 @@ fn tell_intents(
     tell(out, answer, done.count as u64, page)
 }
 
-pub(crate) fn run_intents(store: Store, area: &[u8], call: &[u8], args: Args, out: &mut [u8]) -> Ran
+pub(crate) fn run_intents(
+    store: Store,
+    area: &[u8; AREA],
+    call: &[u8],
+    args: Args,
+    out: &mut [u8],
+) -> Ran
     requires { ⌜ RunAsks store (now area) (now call) args (now out) ⌝ }
     ensures { λ r. ⌜ RanAs (told (Call.IntentPage (args .one) (boundsIn (now (call .entry)) args) (args .buffer)) (boxOf store (now (area .entry)))) (now (out .entry)) r (now (area .entry)) (now (out .exit)) ⌝ }
 {
@@ -109,7 +122,7 @@ pub(crate) fn run_intents(store: Store, area: &[u8], call: &[u8], args: Args, ou
 // "conflicting intents | moment, lock limit, byte limit, start bound, end bound, resume bound, buffer"
 fn tell_conflicts(
     store: Store,
-    area: &[u8],
+    area: &[u8; AREA],
     call: &[u8],
     args: Args,
     page: &mut [u8],
@@ -144,7 +157,7 @@ fn tell_conflicts(
 
 pub(crate) fn run_conflicts(
     store: Store,
-    area: &[u8],
+    area: &[u8; AREA],
     call: &[u8],
     args: Args,
     out: &mut [u8],

@@ -14,6 +14,7 @@ ghost use Rattle.replies.specs.Payloads.{readPayload, intentPayload};
 ghost use Rattle.showing.specs.Told.{replyBytes, Writes};
 ghost use Rattle.showing.specs.Replying.{seenPayload, pointedPayload};
 use crate::telling::tell;
+use lines::AREA;
 use lines::Store;
 use reads::Pointed;
 use reads::Seen;
@@ -41,7 +42,13 @@ fn put_seen(payload: &mut [u8], seen: Seen, row: &[u8]) -> usize
 }
 
 // A row has at most 255 bytes.
-pub(crate) fn tell_read(store: Store, area: &[u8], key: &[u8], moment: u64, out: &mut [u8]) -> usize
+pub(crate) fn tell_read(
+    store: Store,
+    area: &[u8; AREA],
+    key: &[u8],
+    moment: u64,
+    out: &mut [u8],
+) -> usize
     requires { ⌜ Made store (now area) ⌝ }
     ensures { λ r. ⌜ Writes (replyBytes readPayload (read (now (key .entry)) moment (boxOf store (now (area .entry))))) (now (out .entry)) r (now (out .exit)) ⌝ }
 {
@@ -81,7 +88,7 @@ fn put_pointed(payload: &mut [u8], pointed: Pointed, primary: &[u8]) -> usize
 // A lock has at most 74 bytes: 26, and a primary of at most 48.
 pub(crate) fn tell_intent(
     store: Store,
-    area: &[u8],
+    area: &[u8; AREA],
     key: &[u8],
     moment: u64,
     out: &mut [u8],

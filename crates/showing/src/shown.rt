@@ -13,12 +13,13 @@ use crate::shows::run_intent;
 use crate::shows::run_marks;
 use crate::shows::run_read;
 use crate::shows::run_stats;
+use lines::AREA;
 use lines::Store;
 use traces::Args;
 use traces::Op;
 
 // The call that the arguments say; the last of the ops that show something is the marks'.
-pub fn run_shown(store: Store, area: &[u8], call: &[u8], args: Args, out: &mut [u8]) -> Ran
+pub fn run_shown(store: Store, area: &[u8; AREA], call: &[u8], args: Args, out: &mut [u8]) -> Ran
     requires { ⌜ (RunAsks store (now area) (now call) args (now out)) × (shows (args .op) ≡ true) ⌝ }
     ensures { λ r. ⌜ RanAs (told (callOf (now (call .entry)) args) (boxOf store (now (area .entry)))) (now (out .entry)) r (now (area .entry)) (now (out .exit)) ⌝ }
 {

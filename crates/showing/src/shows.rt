@@ -13,11 +13,18 @@ use crate::replying::tell_intent;
 use crate::replying::tell_read;
 use crate::telling::tell_marks;
 use crate::telling::tell_stats;
+use lines::AREA;
 use lines::Store;
 use traces::Args;
 
 // "read | moment, key"
-pub(crate) fn run_read(store: Store, area: &[u8], call: &[u8], args: Args, out: &mut [u8]) -> Ran
+pub(crate) fn run_read(
+    store: Store,
+    area: &[u8; AREA],
+    call: &[u8],
+    args: Args,
+    out: &mut [u8],
+) -> Ran
     requires { ⌜ RunAsks store (now area) (now call) args (now out) ⌝ }
     ensures { λ r. ⌜ RanAs (told (Call.Read (args .one) (bytesAt (now (call .entry)) (args .keyat) (args .keylen))) (boxOf store (now (area .entry)))) (now (out .entry)) r (now (area .entry)) (now (out .exit)) ⌝ }
 {
@@ -31,7 +38,13 @@ pub(crate) fn run_read(store: Store, area: &[u8], call: &[u8], args: Args, out: 
 }
 
 // "one intent at a point | moment, key"
-pub(crate) fn run_intent(store: Store, area: &[u8], call: &[u8], args: Args, out: &mut [u8]) -> Ran
+pub(crate) fn run_intent(
+    store: Store,
+    area: &[u8; AREA],
+    call: &[u8],
+    args: Args,
+    out: &mut [u8],
+) -> Ran
     requires { ⌜ RunAsks store (now area) (now call) args (now out) ⌝ }
     ensures { λ r. ⌜ RanAs (told (Call.OneIntent (args .one) (bytesAt (now (call .entry)) (args .keyat) (args .keylen))) (boxOf store (now (area .entry)))) (now (out .entry)) r (now (area .entry)) (now (out .exit)) ⌝ }
 {
@@ -45,7 +58,7 @@ pub(crate) fn run_intent(store: Store, area: &[u8], call: &[u8], args: Args, out
 }
 
 // "statistics |"
-pub(crate) fn run_stats(store: Store, area: &[u8], out: &mut [u8]) -> Ran
+pub(crate) fn run_stats(store: Store, area: &[u8; AREA], out: &mut [u8]) -> Ran
     requires { ⌜ (Made store (now area)) × (longest ≤ length (now out)) ⌝ }
     ensures { λ r. ⌜ RanAs (told Call.Statistics (boxOf store (now (area .entry)))) (now (out .entry)) r (now (area .entry)) (now (out .exit)) ⌝ }
 {
@@ -57,7 +70,7 @@ pub(crate) fn run_stats(store: Store, area: &[u8], out: &mut [u8]) -> Ran
 }
 
 // "high-water marks |"
-pub(crate) fn run_marks(store: Store, area: &[u8], out: &mut [u8]) -> Ran
+pub(crate) fn run_marks(store: Store, area: &[u8; AREA], out: &mut [u8]) -> Ran
     requires { ⌜ (Made store (now area)) × (longest ≤ length (now out)) ⌝ }
     ensures { λ r. ⌜ RanAs (told Call.Marks (boxOf store (now (area .entry)))) (now (out .entry)) r (now (area .entry)) (now (out .exit)) ⌝ }
 {

@@ -8,6 +8,7 @@ ghost use Rattle.rules.specs.declared.answers.Answer.the-variants.{Accepted};
 ghost use Rattle.lines.specs.View.{boxOf};
 ghost use Rattle.lines.specs.Made.{Made};
 ghost use Rattle.showing.specs.Told.{Writes};
+use lines::AREA;
 use lines::Store;
 use rules::Answer;
 
@@ -37,7 +38,7 @@ pub fn tell_plain(out: &mut [u8], answer: Answer) -> usize
 }
 
 // "Payload of statistics"
-pub(crate) fn tell_stats(store: Store, area: &[u8], out: &mut [u8]) -> usize
+pub(crate) fn tell_stats(store: Store, area: &[u8; AREA], out: &mut [u8]) -> usize
     requires { ⌜ Made store (now area) ⌝ }
     ensures { λ r. ⌜ Writes (answerBytes Accepted 0 (statsPayload (stats (boxOf store (now (area .entry)))))) (now (out .entry)) r (now (out .exit)) ⌝ }
 {
@@ -48,7 +49,7 @@ pub(crate) fn tell_stats(store: Store, area: &[u8], out: &mut [u8]) -> usize
 }
 
 // "Of the marks: two numbers."
-pub(crate) fn tell_marks(store: Store, area: &[u8], out: &mut [u8]) -> usize
+pub(crate) fn tell_marks(store: Store, area: &[u8; AREA], out: &mut [u8]) -> usize
     requires { ⌜ Made store (now area) ⌝ }
     ensures { λ r. ⌜ Writes (answerBytes Accepted 0 (marksPayload (marks (boxOf store (now (area .entry)))))) (now (out .entry)) r (now (out .exit)) ⌝ }
 {

@@ -30,10 +30,10 @@ use Rattle.verdicts.proofs.PlaceLaws.{likes-rows, pairBefore}
 abbrev pub anyOf : {A : Type 0} → (A → Bool) → List A → Bool
 anyOf p l = not (allGood (λ x. not (p x)) l)
 
-any-sorted : {A : Type 0} (lt : A → A → Bool) (p : A → Bool) (l : List A) → anyOf p (sorted lt l) ≡ anyOf p l
+pub any-sorted : {A : Type 0} (lt : A → A → Bool) (p : A → Bool) (l : List A) → anyOf p (sorted lt l) ≡ anyOf p l
 any-sorted lt p l = ap not (sorted-good lt (λ x. not (p x)) l)
 
-good-same : {A : Type 0} (p q : A → Bool) → ((x : A) → p x ≡ q x) → (l : List A) → allGood p l ≡ allGood q l
+pub good-same : {A : Type 0} (p q : A → Bool) → ((x : A) → p x ≡ q x) → (l : List A) → allGood p l ≡ allGood q l
 unfolding allGood
 good-same p q e [] = refl
 good-same p q e (x ∷ xs) = ap₂ _&&_ (e x) (good-same p q e xs)
@@ -110,7 +110,7 @@ same-pairs (x ∷ xs) (y ∷ ys) o q = go (likeDefault x y) (rowBefore x y) refl
 abbrev pub lineHas : List Default → KeyLine → Bool
 lineHas ds e = kindHasDefault (kindIn (e .line)) (isSome (rowOf (e .key) (startOf (e .line)) ds))
 
-row-found : (k : Key) (n : ℕ) (ds : List Default) → isSome (rowOf k n ds) ≡ anyOf (atPair k n) ds
+pub row-found : (k : Key) (n : ℕ) (ds : List Default) → isSome (rowOf k n ds) ≡ anyOf (atPair k n) ds
 unfolding rowOf addRow allGood
 row-found k n [] = refl
 row-found k n (d ∷ ds) = go (atPair k n d) (row-found k n ds)
@@ -119,7 +119,7 @@ row-found k n (d ∷ ds) = go (atPair k n d) (row-found k n ds)
     go true h = refl
     go false h = h
 
-points : (es : List KeyLine) (d : Default) → pointedTo es d ≡ anyOf (pointsTo d) es
+pub points : (es : List KeyLine) (d : Default) → pointedTo es d ≡ anyOf (pointsTo d) es
 unfolding pointedTo allGood
 points [] d = refl
 points (e ∷ es) d = go (pointsTo d e) (points es d)

@@ -28,7 +28,7 @@ use Rattle.verdicts.proofs.MarkPlaces.{rank, Marked, mark-default, mark
 
 -- ---- defaults
 
-rows-sorted : (xs : List box.Default) → sorted rowBefore xs ≡ placeDefaults xs
+pub rows-sorted : (xs : List box.Default) → sorted rowBefore xs ≡ placeDefaults xs
 unfolding sorted placeDefaults
 rows-sorted [] = refl
 rows-sorted (x ∷ xs) = ap (insertBy rowBefore x) (rows-sorted xs)
@@ -58,7 +58,7 @@ module _ (t : ℕ) (s : Bytes) (a b : ℕ) (ds : List ℕ) (h : All (Stands Defa
 
 -- ---- locks and writes
 
-lines-sorted : (xs : List KeyLock) (ys : List KeyRecord) → sorted before (map lockLine xs ++ map writeLine ys) ≡ placeLocks xs (placeWrites ys)
+pub lines-sorted : (xs : List KeyLock) (ys : List KeyRecord) → sorted before (map lockLine xs ++ map writeLine ys) ≡ placeLocks xs (placeWrites ys)
 unfolding sorted placeLocks placeWrites
 lines-sorted [] [] = refl
 lines-sorted [] (y ∷ ys) = ap (insertBy before (writeLine y)) (lines-sorted [] ys)

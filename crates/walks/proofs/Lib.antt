@@ -1,8 +1,7 @@
--- Laws of the judging walks.
+-- Laws of the judging walk.
 -- Assumes nothing.
-pub mod WalkLaws
 pub mod TurnLaws
-pub mod ReadLaws
+pub mod WalkLaws
+pub mod EntryLaws
 pub mod RowLaws
-pub mod LockLaws
-pub mod JudgeLaws
+pub mod LineLaws

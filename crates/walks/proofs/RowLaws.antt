@@ -1,36 +1,156 @@
--- The walk of a page of rows, line by line: the definition's keys are those of the last line of each key.
+-- A key is read line by line: what its lines so far say to a read at a moment. With the last one it is the definition's read, and the key takes
+-- its turn on a page of rows.
 -- Assumes nothing.
-use Prim.Native.Nat.{ℕ, suc, _+_, _≤_, _<_}
-use native.Mathlib.Numerals.{add-one}
-use native.Mathlib.Omega.{arith}
-use mathlib.Core.Path.{_≡_, refl, sym, ap, ap₂, _∙_, subst}
+use Prim.Native.Nat.{ℕ, _+_}
+use mathlib.Core.Path.{_≡_, refl, sym, ap, _∙_, ap₂}
+use mathlib.Core.Logic.{inl, inr}
 use mathlib.Core.Bool.{Bool, true, false, not, false≢true}
-use mathlib.Core.List.{List, [], _∷_}
-use lib.ListN.{length, getD, drop, length-append}
-use Rattle.forms.specs.Bytes.{Bytes, bytesAt, eqBytes}
+use mathlib.Core.List.{List, [], _∷_, _++_, append-nil, reverse, reverse-append}
+use mathlib.Core.Option.{Option, none, some}
+use lib.Dec.{leb}
+use Rattle.forms.specs.Bytes.{Bytes, eqBytes, ltBytes}
 use Rattle.forms.specs.Key.{Key, keyForm}
-use Rattle.forms.proofs.Orders.{eqBytes-true}
-use Rattle.forms.proofs.KeyLaws.{key-bounds}
-use Rattle.rules.specs.Answers.{Reply}
-use Rattle.rules.specs.Box.{KeyLine}
-use Rattle.rules.specs.Read.{keepIf}
-use Rattle.rules.specs.Page.{Bounds, Limits, Page, KeyRow, emptyPage, inBounds, isFirst, keysOf, keysWithin, onJudged, pageWalk, withKey, readKey, rowCost}
-use Rattle.rules.specs.Written.{keyRowBytes, pieceBytes}
+use Rattle.forms.specs.Row.{Row}
+use Rattle.forms.proofs.Orders.{eqBytes-refl, ltBytes-not-eq′, ltBytes-le-lt, eqBytes-true}
+use Rattle.rules.specs.declared.records.Kind.{Kind}
+use Rattle.rules.specs.declared.records.Kind.the-variants.{Put, Delete, Rollback}
+use Rattle.rules.specs.declared.records.Record.{Record}
+use Rattle.rules.specs.Answers.{Reply, nothing, shown, need, ifPassed}
+use Rattle.rules.specs.Box as box
+use Rattle.rules.specs.Sound.{soundRecord}
+use Rattle.rules.specs.Read.{lockLets, keepIf, atOrBelow, newestFirst, showRow, oneRecord, walk}
+use Rattle.rules.specs.Page.{rowCost, Bounds, Limits, Page, KeyRow, inBounds, isFirst, keysOf, keysWithin, onJudged, pageWalk, withKey, readKey}
+use Rattle.rules.specs.Written.{keyRowBytes}
+use Rattle.laws.proofs.Sorted.{In, ordered-first, ordered-rest, after-in}
+use Rattle.laws.proofs.BoxOrder.{before-not-above}
 use Rattle.lines.specs.declared.store.Slot.{Slot}
-use Rattle.lines.specs.declared.store.Store.{Store}
-use Rattle.lines.specs.View.{keyOf, lineOf, boxOf, noSlot}
-use Rattle.lines.specs.Made.{Built}
-use Rattle.lines.proofs.FindLaws.{slot-key, line-here, lines-past}
-use Rattle.lines.proofs.MadeLaws.{line-key}
-use Rattle.reads.specs.declared.seen.Seen.{Seen}
-use Rattle.reads.specs.declared.seen.Seen.the-variants as seen
-use Rattle.reads.specs.Seen.{seenIn, SeenBelow}
-use Rattle.walks.specs.declared.walked.Turn.{Turn}
-use Rattle.walks.specs.Turns.{turnTo, judgedIf}
-use Rattle.walks.specs.Rows.{rowsFrom, RowAsks, SeenSmall, RowJudged, rowTurn}
+use Rattle.lines.specs.declared.views.Intent.{Intent}
+use Rattle.lines.specs.declared.views.Written.{Written}
+use Rattle.lines.specs.declared.views.Told.the-variants as told
+use Rattle.lines.specs.View.{keyOf, rowIn}
+use Rattle.lines.specs.Looks.{lockIn, recordIn}
+use Rattle.lines.proofs.MemberLaws.{lock-shown}
+use Rattle.lines.proofs.HistoryLaws.{kept-snoc, records-append, orLock, lock-append}
+use Rattle.walks.specs.declared.dues.Listed.{Listed}
+use Rattle.walks.specs.declared.dues.Listed.the-variants.{Nothing, Line}
+use Rattle.walks.specs.declared.dues.Due.{Due}
+use Rattle.walks.specs.Dues.{noDue, listIf, seeRow}
+use Rattle.walks.proofs.EntryLaws.{Lists, rowOn, shown-turn, shown-good}
+use Rattle.rules.specs.declared.answers.Answer.{Answer}
+use Rattle.rules.specs.declared.answers.Answer.the-variants.{Accepted, No, Held}
+use Rattle.rules.specs.Box.{Box, KeyLine}
+use Rattle.reads.proofs.ReadLaws.{read-steps}
+use Rattle.walks.specs.Walked.{pageOn}
+use Rattle.walks.specs.Turns.{turnDue, turnTo, costOf}
 use Rattle.walks.proofs.WalkLaws.{TurnGood, Stepped}
-use Rattle.walks.proofs.TurnLaws.{room-turned, room-good}
-use Rattle.walks.proofs.ReadLaws.{part-long}
+
+-- ---- lines of other keys
+
+none-of : (k : Key) (e : box.KeyLine) (es : List box.KeyLine) → eqBytes k (e .key) ≡ false → (box.lockOf k es ≡ none) × (box.recordsOf k es ≡ []) → (box.lockOf k (e ∷ es) ≡ none) × (box.recordsOf k (e ∷ es) ≡ [])
+unfolding box.lockOf box.recordsOf box.addLock box.addRecord
+none-of k e es n p = (rw n (p .0), rw n (p .1))
+
+-- up to a line below the key there is none of its own
+pub none-before : (k : Key) (xs : List box.KeyLine) (f : box.KeyLine) → box.ordered box.before (xs ++ f ∷ []) ≡ true → ltBytes (f .key) k ≡ true → (box.lockOf k (xs ++ f ∷ []) ≡ none) × (box.recordsOf k (xs ++ f ∷ []) ≡ [])
+unfolding box.lockOf box.recordsOf
+none-before k [] f o h = none-of k f [] (ltBytes-not-eq′ (f .key) k h) (refl, refl)
+none-before k (e ∷ xs) f o h =
+    none-of k e (xs ++ f ∷ [])
+    (ltBytes-not-eq′ (e .key) k (ltBytes-le-lt (e .key) (f .key) k (before-not-above e f (after-in box.before e (xs ++ f ∷ []) f (ordered-first box.before e (xs ++ f ∷ []) o) (in-last f xs))) h))
+    (none-before k xs f (ordered-rest box.before e (xs ++ f ∷ []) o) h)
+  where
+    in-last : (f : box.KeyLine) (xs : List box.KeyLine) → In f (xs ++ f ∷ [])
+    in-last f [] = inl refl
+    in-last f (x ∷ xs) = inr (in-last f xs)
+
+-- ---- what is due
+
+abbrev pub lineRow : Bytes → Listed → Reply Row
+lineRow area Nothing = nothing
+lineRow area (Line s) = shown (rowIn area s)
+
+-- the line that is listed is one of the key
+pub record RowLine (area : Bytes) (k : Key) (s : Slot) : Type 0 where
+  pub key-is : keyOf area s ≡ k
+  pub lists : Lists area keyRowBytes rowCost 2 s (rowOn area s)
+
+abbrev pub LineGood : Bytes → Key → Listed → Type 0
+LineGood area k Nothing = Unit {0}
+LineGood area k (Line s) = RowLine area k s
+
+-- of the lines `pre` of a key
+pub record DueRow (area : Bytes) (m : ℕ) (ds : List box.Default) (k : Key) (pre : List box.KeyLine) (d : Due) : Type 0 where
+  pub lets : d .lets ≡ lockLets m (box.lockOf k pre)
+  pub row : lineRow area (d .line) ≡ walk k ds (newestFirst m (box.recordsOf k pre))
+  pub line : LineGood area k (d .line)
+
+or-none : (o : Option box.Lock) → orLock o none ≡ o
+or-none none = refl
+or-none (some l) = refl
+
+newest-snoc : (m : ℕ) (ws : List Record) (w : Record) → newestFirst m (ws ++ w ∷ []) ≡ keepIf (leb (w .stamp) m) w (newestFirst m ws)
+unfolding newestFirst keepIf
+newest-snoc m ws w = ap reverse (kept-snoc m ws w) ∙ reverse-append (atOrBelow m ws) (keepIf (leb (w .stamp) m) w []) ∙ go (leb (w .stamp) m)
+  where
+    go : (b : Bool) → reverse (keepIf b w []) ++ reverse (atOrBelow m ws) ≡ keepIf b w (reverse (atOrBelow m ws))
+    go true = refl
+    go false = refl
+
+module _ {area : Bytes} {m : ℕ} {ds : List box.Default} {k : Key} {pre : List box.KeyLine} where
+  pub due-none : (box.lockOf k pre ≡ none) × (box.recordsOf k pre ≡ []) → DueRow area m ds k pre noDue
+  unfolding lockLets newestFirst atOrBelow walk
+  due-none p = record { lets = sym (ap (lockLets m) (p .0)); row = sym (ap (λ (ws : List Record). walk k ds (newestFirst m ws)) (p .1)); line = tt }
+
+  -- what comes after says nothing of the key
+  pub due-end : {d : Due} (post : List box.KeyLine) → DueRow area m ds k pre d → (box.lockOf k post ≡ none) × (box.recordsOf k post ≡ []) → DueRow area m ds k (pre ++ post) d
+  due-end post v p = record {
+    lets = v .lets ∙ ap (lockLets m) (sym (lock-append k pre post ∙ ap (orLock (box.lockOf k pre)) (p .0) ∙ or-none (box.lockOf k pre)));
+    row = v .row ∙ ap (λ (ws : List Record). walk k ds (newestFirst m ws)) (sym (records-append k pre post ∙ ap (λ (ws : List Record). box.recordsOf k pre ++ ws) (p .1) ∙ append-nil (box.recordsOf k pre)));
+    line = v .line;
+  }
+
+  module _ {d : Due} (v : DueRow area m ds k pre d) (s : Slot) where
+    -- "lock with start at or below the moment, 7"
+    pub due-lock : (i : Intent) → box.ordered box.before (pre ++ record { key = k; line = box.Standing (lockIn area i) } ∷ []) ≡ true
+        → DueRow area m ds k (pre ++ record { key = k; line = box.Standing (lockIn area i) } ∷ []) (seeRow m d s (told.Standing i))
+    unfolding lockLets box.recordsOf box.addRecord
+    due-lock i o = record {
+      lets = ap (lockLets m) (sym (lock-shown k (pre ++ e ∷ []) (lockIn area i) o (in-last pre)));
+      row = v .row ∙ ap (λ (ws : List Record). walk k ds (newestFirst m ws)) (sym (records-append k pre (e ∷ []) ∙ rw (eqBytes-refl k) (append-nil (box.recordsOf k pre))));
+      line = v .line;
+    }
+      where
+        e : box.KeyLine
+        e = record { key = k; line = box.Standing (lockIn area i) }
+
+        in-last : (xs : List box.KeyLine) → In e (xs ++ e ∷ [])
+        in-last [] = inl refl
+        in-last (x ∷ xs) = inr (in-last xs)
+
+    -- "records from the newest at or below the moment downward: Rollback, go on; Delete, nothing; Put, its default, shown"
+    pub due-record : (w : Written) → soundRecord (recordIn w) ≡ true → (w .kind ≡ Put → showRow (box.rowOf k (w .start) ds) ≡ shown (rowIn area s)) → (w .kind ≡ Put → RowLine area k s)
+        → DueRow area m ds k (pre ++ record { key = k; line = box.Finished (recordIn w) } ∷ []) (seeRow m d s (told.Finished w))
+    unfolding box.lockOf box.addLock box.recordsOf box.addRecord walk oneRecord keepIf
+    due-record w sound there good = record {
+      lets = v .lets ∙ ap (lockLets m) (sym (lock-append k pre (e ∷ []) ∙ rw (eqBytes-refl k) (or-none (box.lockOf k pre))));
+      row = rows (leb (w .stamp) m) (w .kind) refl ∙ sym (ap (λ (ws : List Record). walk k ds (newestFirst m ws)) (records-append k pre (e ∷ []) ∙ rw (eqBytes-refl k)) ∙ ap (walk k ds) (newest-snoc m (box.recordsOf k pre) (recordIn w)));
+      line = lines (leb (w .stamp) m) (w .kind) refl;
+    }
+      where
+        e : box.KeyLine
+        e = record { key = k; line = box.Finished (recordIn w) }
+
+        rows : (t : Bool) (n : Kind) → w .kind ≡ n → lineRow area (listIf t n s (d .line)) ≡ walk k ds (keepIf t (recordIn w) (newestFirst m (box.recordsOf k pre)))
+        rows false n q = v .row
+        rows true Put q = sym (rw (sound, q) (there q))
+        rows true Delete q = sym (rw (sound, q))
+        rows true Rollback q = v .row ∙ sym (rw (sound, q))
+
+        lines : (t : Bool) (n : Kind) → w .kind ≡ n → LineGood area k (listIf t n s (d .line))
+        lines false n q = v .line
+        lines true Put q = good q
+        lines true Delete q = tt
+        lines true Rollback q = v .line
 
 -- ---- "each once, as the lines stand in order"
 
@@ -49,122 +169,62 @@ unfolding keysOf
 keys-by e es h = ap (λ (t : Bool). keepIf (not t) (e .key) (keysOf es)) h
 
 -- the next line has the key too
-keys-shared : (e f : KeyLine) (es : List KeyLine) → eqBytes (e .key) (f .key) ≡ true → keysOf (e ∷ (f ∷ es)) ≡ keysOf (f ∷ es)
+pub keys-shared : (e f : KeyLine) (es : List KeyLine) → eqBytes (e .key) (f .key) ≡ true → keysOf (e ∷ (f ∷ es)) ≡ keysOf (f ∷ es)
 unfolding keepIf
 keys-shared e f es h = keys-by e (f ∷ es) (first-key (e .key) f es ∙ h)
 
-keys-last : (e f : KeyLine) (es : List KeyLine) → eqBytes (e .key) (f .key) ≡ false → keysOf (e ∷ (f ∷ es)) ≡ e .key ∷ keysOf (f ∷ es)
+pub keys-last : (e f : KeyLine) (es : List KeyLine) → eqBytes (e .key) (f .key) ≡ false → keysOf (e ∷ (f ∷ es)) ≡ e .key ∷ keysOf (f ∷ es)
 unfolding keepIf
 keys-last e f es h = keys-by e (f ∷ es) (first-key (e .key) f es ∙ h)
 
-keys-end : (e : KeyLine) → keysOf (e ∷ []) ≡ e .key ∷ keysOf []
+pub keys-end : (e : KeyLine) → keysOf (e ∷ []) ≡ e .key ∷ keysOf []
 unfolding keysOf keepIf
 keys-end e = refl
 
 -- ---- one key
 
--- one that is out of bounds is passed over
-key-walk : {A : Type 0} (judge : Key → Reply A) (cost : A → ℕ) (m : Limits) (a : Bounds) (k : Key) (ks : List Key) (count sum : ℕ)
-    → pageWalk judge cost m (keysWithin a (k ∷ ks)) count sum ≡ onJudged m cost count sum (λ c s. pageWalk judge cost m (keysWithin a ks) c s) (judgedIf (inBounds a k) (judge k))
+-- one that is not asked for is passed over, as one that shows nothing
+abbrev judgedIf : {A : Type 0} → Bool → Reply A → Reply A
+judgedIf true r = r
+judgedIf false r = nothing
+
+key-walk : (judge : Key → Reply KeyRow) (m : Limits) (a : Bounds) (k : Key) (ks : List Key) (count sum : ℕ) (t : Bool) → inBounds a k ≡ t
+    → pageWalk judge rowCost m (keysWithin a (k ∷ ks)) count sum ≡ onJudged m rowCost count sum (λ c s. pageWalk judge rowCost m (keysWithin a ks) c s) (judgedIf t (judge k))
 unfolding keysWithin keepIf pageWalk onJudged
-key-walk judge cost m a k ks count sum = go (inBounds a k)
-  where
-    go : (t : Bool) → pageWalk judge cost m (keepIf t k (keysWithin a ks)) count sum ≡ onJudged m cost count sum (λ c s. pageWalk judge cost m (keysWithin a ks) c s) (judgedIf t (judge k))
-    go true = refl
-    go false = refl
+key-walk judge m a k ks count sum true e = rw e
+key-walk judge m a k ks count sum false e = rw e
 
-abbrev pub rowItem : Bytes → Slot → ℕ → ℕ → KeyRow
-rowItem area s a l = record { key = keyOf area s; row = bytesAt area a l }
+module _ (area : Bytes) (k : Key) (m : Limits) (count sum : ℕ) where
+  row-judged : (rest : ℕ → ℕ → Reply (Page KeyRow)) (lets : Answer) (line : Listed) → LineGood area k line → (t : Bool)
+      → pageOn keyRowBytes (onJudged m rowCost count sum rest (judgedIf t (withKey k (ifPassed lets (lineRow area line))))) ≡ turnTo area (λ c s. pageOn keyRowBytes (rest c s)) count sum (turnDue t (record { lets = lets; line = line }) (m .rows) (m .bytes) count sum)
+  unfolding onJudged ifPassed pageOn
+  row-judged rest lets line g false = refl
+  row-judged rest Accepted Nothing g true = refl
+  row-judged rest Accepted (Line s) g true =
+      ap (λ (j : Key). pageOn keyRowBytes (onJudged m rowCost count sum rest (shown (record { key = j; row = rowIn area s })))) (sym (g .key-is)) ∙ shown-turn (g .lists) m count sum rest
+  row-judged rest (No n) line g true = refl
+  row-judged rest (Held h) line g true = refl
 
--- "Cost is key plus row length"
-row-price : (area : Bytes) (s : Slot) (a l : ℕ) → s .at + s .len ≤ length area → a + l ≤ length area → rowCost (rowItem area s a l) ≡ s .len + l
-row-price area s a l h w = ap₂ (λ (x y : ℕ). x + y) (part-long area (s .at) (s .len) h) (part-long area a l w)
+  row-good : (lets : Answer) (line : Listed) → LineGood area k line → (t : Bool) → TurnGood area 2 (turnDue t (record { lets = lets; line = line }) (m .rows) (m .bytes) count sum)
+  row-good lets line g false = tt
+  row-good Accepted Nothing g true = tt
+  row-good Accepted (Line s) g true = shown-good (g .lists) (m .rows) (m .bytes) count (sum + costOf s)
+  row-good (No n) line g true = tt
+  row-good (Held h) line g true = tt
 
--- what was read decides the turn
-row-turned : (area : Bytes) (s : Slot) → s .at + s .len ≤ length area → (v : Seen) → SeenBelow (length area) v → (m : Limits) (left : ℕ → ℕ → Reply (Page KeyRow)) (count sum : ℕ)
-    → turnTo (rowItem area s) left count sum (rowTurn (s .len) (m .rows) (m .bytes) count sum v) ≡ onJudged m rowCost count sum left (withKey (keyOf area s) (seenIn area v))
-unfolding onJudged
-row-turned area s h seen.Nothing w m left count sum = refl
-row-turned area s h (seen.Row a l) w m left count sum = room-turned (rowItem area s) left count sum a l (s .len + l) m rowCost (row-price area s a l h w)
-row-turned area s h (seen.Refused v) w m left count sum = refl
+-- what is due of all of the box's lines is the key's read
+due-read : (area : Bytes) (k : Key) (moment : ℕ) (b : Box) (d : Due) → keyForm k ≡ true → DueRow area moment (b .defaults) k (b .lines) d → readKey moment b k ≡ withKey k (ifPassed (d .lets) (lineRow area (d .line)))
+unfolding readKey ifPassed need
+due-read area k moment b d form v =
+    ap (withKey k) (read-steps k moment b true form) ∙ ap₂ (λ (l : Answer) (r : Reply Row). withKey k (ifPassed l r)) (sym (v .lets)) (sym (v .row))
 
-row-long : (area : Bytes) (s : Slot) (a l : ℕ) → s .at + s .len ≤ length area → a + l ≤ length area → length (keyRowBytes (rowItem area s a l)) ≡ s .len + l + 2
-unfolding keyRowBytes
-row-long area s a l h w =
-    length-append (pieceBytes (keyOf area s)) (pieceBytes (bytesAt area a l)) ∙ omega (arith, part-long area (s .at) (s .len) h, part-long area a l w)
-
-row-good : (area : Bytes) (s : Slot) → s .at + s .len ≤ length area → keyForm (keyOf area s) ≡ true → (v : Seen) → SeenBelow (length area) v → SeenSmall v → (m : Limits) (count sum : ℕ)
-    → TurnGood area keyRowBytes 2 (rowItem area s) (rowTurn (s .len) (m .rows) (m .bytes) count sum v)
-row-good area s h k seen.Nothing w q m count sum = tt
-row-good area s h k (seen.Row a l) w q m count sum =
-    room-good (rowItem area s)
-    (record {
-      row-in = w;
-      cheap = let g = key-bounds (keyOf area s) k in omega (arith, g .short, part-long area (s .at) (s .len) h, q .1);
-      size = row-long area s a l h w;
-    })
-    (m .rows) (m .bytes) count (sum + (s .len + l))
-row-good area s h k (seen.Refused v) w q m count sum = q
-
--- ---- no line
-
-pub rows-end : {st : Store} {area : Bytes} → Built st area → {i : ℕ} → st .load .lines ≤ i → (a : Bounds) (moment : ℕ) (m : Limits) (count sum : ℕ)
-    → rowsFrom a moment m (boxOf st area) (drop i (boxOf st area .lines)) count sum ≡ emptyPage false
-unfolding keysOf keysWithin pageWalk
-rows-end {st} {area} built {i} g a moment m count sum = ap (λ (l : List KeyLine). rowsFrom a moment m (boxOf st area) l count sum) (lines-past built i g)
-
--- ---- one line
-
-module _ {st : Store} {area : Bytes} (built : Built st area) {i : ℕ} (h : i < st .load .lines) where
-  abbrev es : List KeyLine
-  es = boxOf st area .lines
-
-  abbrev slot : Slot
-  slot = getD (st .lines) i noSlot
-
-  next : i + 1 < st .load .lines → drop (suc i) es ≡ lineOf area (getD (st .lines) (i + 1) noSlot) ∷ drop (suc (i + 1)) es
-  next g = ap (λ (j : ℕ). drop j es) (sym (add-one i)) ∙ line-here built (i + 1) g
-
-  -- the next line has the key too
-  pub line-shared : i + 1 < st .load .lines → {r : Bool} → r ≡ eqBytes (keyOf area slot) (keyOf area (getD (st .lines) (i + 1) noSlot)) → r ≡ true → keysOf (drop i es) ≡ keysOf (drop (i + 1) es)
-  line-shared g q e =
-      ap keysOf (line-here built i h ∙ ap (λ (l : List KeyLine). lineOf area slot ∷ l) (next g))
-      ∙ keys-shared (lineOf area slot) (lineOf area (getD (st .lines) (i + 1) noSlot)) (drop (suc (i + 1)) es) (sym q ∙ e)
-      ∙ ap keysOf (sym (line-here built (i + 1) g))
-
-  pub row-shared : (a : Bounds) (moment : ℕ) (m : Limits) (count sum : ℕ) → i + 1 < st .load .lines → {r : Bool} → r ≡ eqBytes (keyOf area slot) (keyOf area (getD (st .lines) (i + 1) noSlot)) → r ≡ true
-      → rowsFrom a moment m (boxOf st area) (drop i es) count sum ≡ rowsFrom a moment m (boxOf st area) (drop (i + 1) es) count sum
-  row-shared a moment m count sum g q e = ap (λ (ks : List Key). pageWalk (readKey moment (boxOf st area)) rowCost m (keysWithin a ks) count sum) (line-shared g q e)
-
-  -- it is the last line of its key
-  pub line-last : i + 1 < st .load .lines → {r : Bool} → r ≡ eqBytes (keyOf area slot) (keyOf area (getD (st .lines) (i + 1) noSlot)) → r ≡ false → keysOf (drop i es) ≡ keyOf area slot ∷ keysOf (drop (suc i) es)
-  line-last g q e =
-      ap keysOf (line-here built i h ∙ ap (λ (l : List KeyLine). lineOf area slot ∷ l) (next g))
-      ∙ keys-last (lineOf area slot) (lineOf area (getD (st .lines) (i + 1) noSlot)) (drop (suc (i + 1)) es) (sym q ∙ e)
-      ∙ ap (λ (l : List KeyLine). keyOf area slot ∷ keysOf l) (sym (next g))
-
-  pub line-end : st .load .lines ≤ i + 1 → keysOf (drop i es) ≡ keyOf area slot ∷ keysOf (drop (suc i) es)
-  line-end g =
-      let e : drop (suc i) es ≡ [] = ap (λ (j : ℕ). drop j es) (sym (add-one i)) ∙ lines-past built (i + 1) g in
-      ap keysOf (line-here built i h ∙ ap (λ (l : List KeyLine). lineOf area slot ∷ l) e) ∙ keys-end (lineOf area slot)
-      ∙ ap (λ (l : List KeyLine). keyOf area slot ∷ keysOf l) (sym e)
-
-  pub row-asks : RowAsks st area slot
-  row-asks = record { built = built; key-in = slot-key built i h; form = line-key built i h }
-
-  -- the turn that the key of the line takes
-  pub row-stepped : (a : Bounds) (moment : ℕ) (m : Limits) {inside : Bool} {v : Seen} {t : Turn} {count sum : ℕ} → keysOf (drop i es) ≡ keyOf area slot ∷ keysOf (drop (suc i) es)
-      → inside ≡ inBounds a (keyOf area slot) → RowJudged (boxOf st area) area slot inside moment v → t ≡ rowTurn (slot .len) (m .rows) (m .bytes) count sum v
-      → Stepped area keyRowBytes 2 (rowItem area slot) (rowsFrom a moment m (boxOf st area) (drop i es)) (rowsFrom a moment m (boxOf st area) (drop (i + 1) es)) count sum t
-  row-stepped a moment m {inside} {v} {t} {count} {sum} k q j e =
-      subst (λ (u : Turn). Stepped area keyRowBytes 2 (rowItem area slot) (rowsFrom a moment m (boxOf st area) (drop i es)) (rowsFrom a moment m (boxOf st area) (drop (i + 1) es)) count sum u) (sym e)
-      (record {
-        is =
-            ap (λ (ks : List Key). pageWalk (readKey moment (boxOf st area)) rowCost m (keysWithin a ks) count sum) k
-            ∙ key-walk (readKey moment (boxOf st area)) rowCost m a (keyOf area slot) (keysOf (drop (suc i) es)) count sum
-            ∙ ap (λ (x : Bool). onJudged m rowCost count sum (rowsFrom a moment m (boxOf st area) (drop (suc i) es)) (judgedIf x (readKey moment (boxOf st area) (keyOf area slot)))) (sym q)
-            ∙ ap (onJudged m rowCost count sum (rowsFrom a moment m (boxOf st area) (drop (suc i) es))) (sym (j .is))
-            ∙ sym (row-turned area slot (slot-key built i h) v (j .within) m (rowsFrom a moment m (boxOf st area) (drop (suc i) es)) count sum)
-            ∙ ap (λ (z : ℕ). turnTo (rowItem area slot) (rowsFrom a moment m (boxOf st area) (drop z es)) count sum (rowTurn (slot .len) (m .rows) (m .bytes) count sum v)) (sym (add-one i));
-        good = row-good area slot (slot-key built i h) (line-key built i h) v (j .within) (j .small) m count sum;
-      })
+-- the turn that a key takes
+pub row-stepped : {area : Bytes} {moment : ℕ} {b : Box} {k : Key} {d : Due} (m : Limits) (a : Bounds) (ks : List Key) (count sum : ℕ) {t : Bool} → keyForm k ≡ true → DueRow area moment (b .defaults) k (b .lines) d → inBounds a k ≡ t
+    → Stepped area 2 (λ c s. pageOn keyRowBytes (pageWalk (readKey moment b) rowCost m (keysWithin a (k ∷ ks)) c s)) (λ c s. pageOn keyRowBytes (pageWalk (readKey moment b) rowCost m (keysWithin a ks) c s)) count sum (turnDue t d (m .rows) (m .bytes) count sum)
+row-stepped {area} {moment} {b} {k} {d} m a ks count sum {t} form v e = record {
+  is =
+      ap (pageOn keyRowBytes) (key-walk (readKey moment b) m a k ks count sum t e)
+      ∙ ap (λ (r : Reply KeyRow). pageOn keyRowBytes (onJudged m rowCost count sum (λ c s. pageWalk (readKey moment b) rowCost m (keysWithin a ks) c s) (judgedIf t r))) (due-read area k moment b d form v)
+      ∙ row-judged area k m count sum (λ c s. pageWalk (readKey moment b) rowCost m (keysWithin a ks) c s) (d .lets) (d .line) (v .line) t;
+  good = row-good area k m count sum (d .lets) (d .line) (v .line) t;
+}

@@ -1,4 +1,5 @@
--- A judging walk over the lines, whatever it lists: what is listed so far, and what the lines to come say of it.
+-- A judging walk over the lines, whatever it lists: what is listed so far, and what the lines to come say of it; and from the arguments and
+-- the walk to the page.
 -- Assumes nothing.
 use Prim.Native.Nat.{ℕ, suc, _+_, _*_, _≤_, _<_}
 use native.Mathlib.Nat.{mul-zero, mul-suc}
@@ -6,208 +7,237 @@ use native.Mathlib.Numerals.{add-one}
 use native.Mathlib.Omega.{arith}
 use mathlib.Core.Path.{_≡_, refl, sym, ap, _∙_, subst}
 use mathlib.Core.Bool.{Bool, true, false}
-use mathlib.Core.List.{List, [], _∷_, _++_, append-nil, append-assoc, map, map-append}
-use lib.ListN.{length, take, set, length-append, length-set}
-use lib.Seq.{take-suc-set}
+use mathlib.Core.List.{List, [], _∷_, _++_, append-nil, append-assoc}
+use lib.ListN.{length, set, replicate, length-append}
 use Rattle.seqs.specs.Tables as tables
-use Rattle.seqs.proofs.Alls.{all-none, all-cons, all-append}
+use Rattle.seqs.proofs.Tables.{shown-added, table-added, table-empty}
 use Rattle.forms.specs.Bytes.{Bytes}
 use Rattle.forms.specs.Numbers.{digits}
 use Rattle.forms.proofs.NumberLaws.{length-digits}
-use Rattle.rules.specs.declared.answers.Holder.{Holder}
 use Rattle.rules.specs.declared.answers.Answer.{Answer}
 use Rattle.rules.specs.declared.answers.Answer.the-variants.{Accepted, No, Held}
-use Rattle.rules.specs.Answers.{Reply, shown, refused, ifPassed}
-use Rattle.rules.specs.Page.{Page, emptyPage, onPage}
+use Rattle.rules.specs.Answers.{Reply, shown, refused, ifPassed, need, _▸_}
+use Rattle.rules.specs.Page.{Page, emptyPage, onPage, Bounds, pageArguments, intentArguments, pastEnd, unlessPast, page, intentPage, conflictPage}
 use Rattle.rules.specs.Written.{allBytes, moreByte, pageBytes}
-use Rattle.walks.specs.declared.walked.Spot.{Spot}
-use Rattle.walks.specs.declared.walked.Turn.{Turn}
-use Rattle.walks.specs.declared.walked.Turn.the-variants.{On, Stop, Refuse, Add}
+use Rattle.lines.specs.declared.store.Slot.{Slot}
+use Rattle.lines.specs.View.{noSlot}
+use Rattle.walks.specs.declared.turns.Turn.{Turn}
+use Rattle.walks.specs.declared.turns.Turn.the-variants.{On, Stop, Refuse, Add}
 use Rattle.walks.specs.declared.walked.Walked.{Walked}
-use Rattle.walks.specs.Walked.{SpotIn, WalkedAs}
+use Rattle.walks.specs.Walked.{entryBytes, same, SlotIn, WalkedAs, emptyOf, pageOn, limitsOf, pageBy, pageAsked, walkBy, walkFrom, WalkAsks}
 use Rattle.walks.specs.Turns.{turnTo, Refusal}
+use borrow.Author.Tests.{ne-eqb}
+use Rattle.rules.specs.declared.answers.Holder.{Holder}
+use Rattle.rules.specs.Box.{Box}
+use Rattle.lines.specs.declared.store.Store.{Store}
+use Rattle.walks.specs.declared.walked.Asked.{Asked}
+use Rattle.walks.specs.declared.walked.Scan.{Scan}
+use Rattle.walks.specs.declared.walked.Scan.the-variants.{Rows, Intents, Conflicts}
 
 -- ---- a page with these in front
 
-unfoldable pub onPages : {A : Type 0} → List A → Reply (Page A) → Reply (Page A)
+unfoldable pub onPages : List Bytes → Reply (Page Bytes) → Reply (Page Bytes)
 onPages [] r = r
 onPages (x ∷ xs) r = onPage x (onPages xs r)
 
-pages-snoc : {A : Type 0} (xs : List A) (x : A) (r : Reply (Page A)) → onPages (xs ++ (x ∷ [])) r ≡ onPages xs (onPage x r)
+pages-snoc : (xs : List Bytes) (x : Bytes) (r : Reply (Page Bytes)) → onPages (xs ++ (x ∷ [])) r ≡ onPages xs (onPage x r)
 unfolding onPages
 pages-snoc [] x r = refl
 pages-snoc (y ∷ ys) x r = ap (onPage y) (pages-snoc ys x r)
 
-pages-shown : {A : Type 0} (xs : List A) (more : Bool) → onPages xs (emptyPage more) ≡ shown (record { rows = xs; more = more })
+pages-shown : (xs : List Bytes) (more : Bool) → onPages xs (emptyPage more) ≡ shown (record { rows = xs; more = more })
 unfolding onPages onPage
 pages-shown [] more = refl
 pages-shown (x ∷ xs) more = ap (onPage x) (pages-shown xs more)
 
-pages-refused : {A : Type 0} (xs : List A) (v : Answer) → onPages xs (refused v) ≡ refused v
+pages-refused : (xs : List Bytes) (v : Answer) → onPages xs (refused v) ≡ refused v
 unfolding onPages onPage
 pages-refused [] v = refl
 pages-refused (x ∷ xs) v = ap (onPage x) (pages-refused xs v)
 
 -- ---- bytes
 
-bytes-snoc : {A : Type 0} (f : A → Bytes) (xs : List A) (x : A) → allBytes f (xs ++ (x ∷ [])) ≡ allBytes f xs ++ f x
+pub bytes-snoc : (xs : List Bytes) (x : Bytes) → allBytes same (xs ++ (x ∷ [])) ≡ allBytes same xs ++ x
 unfolding allBytes
-bytes-snoc f [] x = append-nil (f x)
-bytes-snoc f (y ∷ ys) x = ap (λ (b : Bytes). f y ++ b) (bytes-snoc f ys x) ∙ sym (append-assoc (f y) (allBytes f ys) (f x))
+bytes-snoc [] x = append-nil x
+bytes-snoc (y ∷ ys) x = ap (λ (b : Bytes). y ++ b) (bytes-snoc ys x) ∙ sym (append-assoc y (allBytes same ys) x)
 
-pub page-long : {A : Type 0} (f : A → Bytes) (p : Page A) → length (pageBytes f p) ≡ length (allBytes f (p .rows)) + 3
+pub page-long : (p : Page Bytes) → length (pageBytes same p) ≡ length (allBytes same (p .rows)) + 3
 unfolding pageBytes
-page-long f p =
-    length-append (digits 2 (length (p .rows))) (allBytes f (p .rows) ++ (moreByte (p .more) ∷ []))
-    ∙ omega (arith, length-digits 2 (length (p .rows)), length-append (allBytes f (p .rows)) (moreByte (p .more) ∷ []))
+page-long p =
+    length-append (digits 2 (length (p .rows))) (allBytes same (p .rows) ++ (moreByte (p .more) ∷ []))
+    ∙ omega (arith, length-digits 2 (length (p .rows)), length-append (allBytes same (p .rows)) (moreByte (p .more) ∷ []))
 
-abbrev pub spotOf : ℕ → ℕ → ℕ → Spot
-spotOf line rowat rowlen = record { line = line; rowat = rowat; rowlen = rowlen }
+-- ---- no page, or an empty one without more
 
--- one spot more
-spots-snoc : {A : Type 0} (f : Spot → A) (spots : List Spot) (c : ℕ) (x : Spot) → c < length spots → tables.shown f (c + 1) (set spots c x) ≡ tables.shown f c spots ++ (f x ∷ [])
-unfolding tables.shown
-spots-snoc f spots c x h =
-    ap (λ (n : ℕ). map f (take n (set spots c x))) (add-one c) ∙ ap (map f) (take-suc-set spots c x h) ∙ map-append f (take c spots) (x ∷ [])
+pub empty-walked : {area : Bytes} {want : Reply (Page Bytes)} {r : Walked} (v : Answer) → ifPassed v (emptyPage false) ≡ want → r ≡ emptyOf v → WalkedAs area want r
+unfolding tables.shown allBytes
+empty-walked {area} {want} v e p =
+    subst (WalkedAs area want) (sym p)
+    (record {
+      is = e;
+      size-is = λ z. sym (page-long (record { rows = tables.shown (entryBytes area) 0 (replicate 1024 noSlot); more = false }));
+      table = table-empty (SlotIn area) noSlot 1024;
+    })
+
+refused-walked : {area : Bytes} {want : Reply (Page Bytes)} {r : Walked} (v : Answer) → Refusal v → refused v ≡ want → r ≡ emptyOf v → WalkedAs area want r
+unfolding ifPassed
+refused-walked Accepted g e p = absurd g
+refused-walked (No n) g e p = empty-walked (No n) e p
+refused-walked (Held h) g e p = empty-walked (Held h) e p
 
 -- ---- the walk
 
 -- `want` is what the whole walk says; `left`, what the lines from i on say of a page of a count and a sum. Each entry has `over` bytes more
 -- than its cost.
-pub record Walking {A : Type 0} (n : ℕ) (area : Bytes) (f : Spot → A) (bytes : A → Bytes) (over : ℕ) (want : Reply (Page A)) (left : ℕ → ℕ → Reply (Page A)) (i count sum : ℕ) (spots : List Spot) : Type 0 where
+pub record Walking (n : ℕ) (area : Bytes) (over : ℕ) (want : Reply (Page Bytes)) (left : ℕ → ℕ → Reply (Page Bytes)) (i count sum : ℕ) (slots : List Slot) : Type 0 where
   pub low : i ≤ n
-  pub table : n ≤ 1024
+  pub most : n ≤ 1024
   pub few : count ≤ i
-  pub long : length spots ≡ 1024
   pub small : sum ≤ 600 * count
-  pub is : want ≡ onPages (tables.shown f count spots) (left count sum)
-  pub size : length (allBytes bytes (tables.shown f count spots)) ≡ sum + over * count
-  pub good : tables.All (SpotIn n area) (take count spots)
+  pub is : want ≡ onPages (tables.shown (entryBytes area) count slots) (left count sum)
+  pub size : length (allBytes same (tables.shown (entryBytes area) count slots)) ≡ sum + over * count
+  pub table : tables.Table (SlotIn area) noSlot 1024 count slots
 
 -- what a turn that adds an entry must say of it, and one that refuses
-pub record AddFits {A : Type 0} (area : Bytes) (bytes : A → Bytes) (over : ℕ) (x : A) (rowat rowlen cost : ℕ) : Type 0 where
-  pub row-in : rowat + rowlen ≤ length area
+pub record AddFits (area : Bytes) (over : ℕ) (s : Slot) (cost : ℕ) : Type 0 where
+  pub within : SlotIn area s
   pub cheap : cost ≤ 600
-  pub size : length (bytes x) ≡ cost + over
+  pub size : length (entryBytes area s) ≡ cost + over
 
-abbrev pub TurnGood : {A : Type 0} → Bytes → (A → Bytes) → ℕ → (ℕ → ℕ → A) → Turn → Type 0
-TurnGood area bytes over item On = Unit {0}
-TurnGood area bytes over item Stop = Unit {0}
-TurnGood area bytes over item (Refuse v) = Refusal v
-TurnGood area bytes over item (Add rowat rowlen cost) = AddFits area bytes over (item rowat rowlen) rowat rowlen cost
+abbrev pub TurnGood : Bytes → ℕ → Turn → Type 0
+TurnGood area over On = Unit {0}
+TurnGood area over Stop = Unit {0}
+TurnGood area over (Refuse v) = Refusal v
+TurnGood area over (Add s cost) = AddFits area over s cost
 
 -- the turn that the line at i takes
-pub record Stepped {A : Type 0} (area : Bytes) (bytes : A → Bytes) (over : ℕ) (item : ℕ → ℕ → A) (left left′ : ℕ → ℕ → Reply (Page A)) (count sum : ℕ) (t : Turn) : Type 0 where
-  pub is : left count sum ≡ turnTo item left′ count sum t
-  pub good : TurnGood area bytes over item t
+pub record Stepped (area : Bytes) (over : ℕ) (left left′ : ℕ → ℕ → Reply (Page Bytes)) (count sum : ℕ) (t : Turn) : Type 0 where
+  pub is : left count sum ≡ turnTo area left′ count sum t
+  pub good : TurnGood area over t
 
-no-accepted : (m : ℕ) → No m ≡ Accepted → ⊥
-no-accepted m a = let z : _≡_ {A = ℕ} 0 1 = cc in omega arith
-
-held-accepted : (h : Holder) → Held h ≡ Accepted → ⊥
-held-accepted h a = let z : _≡_ {A = ℕ} 0 1 = cc in omega arith
-
--- a walk that leaves no page
-pub no-page : {A : Type 0} {n : ℕ} {area : Bytes} {f : Spot → A} {bytes : A → Bytes} {want : Reply (Page A)} {spots : List Spot} {z : ℕ} (v : Answer) → Refusal v → length spots ≡ 1024 → refused v ≡ want
-    → WalkedAs n area f bytes want (record { answer = v; more = false; count = 0; size = z; spots = spots })
-unfolding ifPassed
-no-page Accepted g l e = absurd g
-no-page {n = n} {area = area} (No m) g l e = record { is = e; size-is = λ a. absurd (no-accepted m a); few = omega arith; long = l; good = all-none (SpotIn n area) }
-no-page {n = n} {area = area} (Held h) g l e = record { is = e; size-is = λ a. absurd (held-accepted h a); few = omega arith; long = l; good = all-none (SpotIn n area) }
-
-module _ {A : Type 0} {n : ℕ} {area : Bytes} {f : Spot → A} {bytes : A → Bytes} {over : ℕ} {want : Reply (Page A)} where
-  pub walking-start : {left : ℕ → ℕ → Reply (Page A)} {spots : List Spot} → n ≤ 1024 → length spots ≡ 1024 → want ≡ left 0 0 → Walking n area f bytes over want left 0 0 0 spots
+module _ {n : ℕ} {area : Bytes} {over : ℕ} {want : Reply (Page Bytes)} where
+  pub walking-start : {left : ℕ → ℕ → Reply (Page Bytes)} → n ≤ 1024 → {none : Slot} → none ≡ noSlot → want ≡ left 0 0 → Walking n area over want left 0 0 0 (replicate 1024 none)
   unfolding tables.shown onPages allBytes
-  walking-start {left} {spots} h l e = record {
+  walking-start h {none} q e = record {
     low = omega arith;
-    table = h;
+    most = h;
     few = omega arith;
-    long = l;
     small = omega arith;
     is = e;
     size = omega (arith, mul-zero over);
-    good = all-none (SpotIn n area);
+    table = subst (λ (s : Slot). tables.Table (SlotIn area) noSlot 1024 0 (replicate 1024 s)) (sym q) (table-empty (SlotIn area) noSlot 1024);
   }
 
-  module _ {left : ℕ → ℕ → Reply (Page A)} {i count sum : ℕ} {spots : List Spot} (w : Walking n area f bytes over want left i count sum spots) where
+  module _ {left : ℕ → ℕ → Reply (Page Bytes)} {i count sum : ℕ} {slots : List Slot} (w : Walking n area over want left i count sum slots) where
+    abbrev rows : List Bytes
+    rows = tables.shown (entryBytes area) count slots
+
     -- passed over
-    pub walking-pass : {left′ : ℕ → ℕ → Reply (Page A)} → i < n → left count sum ≡ left′ count sum → Walking n area f bytes over want left′ (i + 1) count sum spots
+    pub walking-pass : {left′ : ℕ → ℕ → Reply (Page Bytes)} → i < n → left count sum ≡ left′ count sum → Walking n area over want left′ (i + 1) count sum slots
     walking-pass h e = record {
       low = omega arith;
-      table = w .table;
+      most = w .most;
       few = omega (arith, w .few);
-      long = w .long;
       small = w .small;
-      is = w .is ∙ ap (onPages (tables.shown f count spots)) e;
+      is = w .is ∙ ap (onPages rows) e;
       size = w .size;
-      good = w .good;
+      table = w .table;
     }
 
-    listed-as : (more : Bool) → left count sum ≡ emptyPage more → shown (record { rows = tables.shown f count spots; more = more }) ≡ want
-    listed-as more e = sym (w .is ∙ ap (onPages (tables.shown f count spots)) e ∙ pages-shown (tables.shown f count spots) more)
-
     -- the page as it stands
-    pub walking-listed : {r : Walked} {more : Bool} {z : ℕ} → left count sum ≡ emptyPage more → z ≡ sum + over * count + 3
-        → r ≡ record { answer = Accepted; more = more; count = count; size = z; spots = spots } → WalkedAs n area f bytes want r
+    pub walking-listed : {r : Walked} {more : Bool} → left count sum ≡ emptyPage more → r ≡ record { answer = Accepted; more = more; count = count; size = sum + over * count + 3; slots = slots } → WalkedAs area want r
     unfolding ifPassed
-    walking-listed {r} {more} {z} e q p =
-        subst (λ (x : Walked). WalkedAs n area f bytes want x) (sym p)
+    walking-listed {r} {more} e p =
+        subst (WalkedAs area want) (sym p)
         (record {
-          is = listed-as more e;
-          size-is = λ a. q ∙ omega (arith, w .size, page-long bytes (record { rows = tables.shown f count spots; more = more }));
-          few = omega (arith, w .few, w .low, w .table);
-          long = w .long;
-          good = w .good;
+          is = sym (w .is ∙ ap (onPages rows) e ∙ pages-shown rows more);
+          size-is = λ a. omega (arith, w .size, page-long (record { rows = rows; more = more }));
+          table = w .table;
         })
 
-    pub walking-refused : {r : Walked} {v : Answer} → left count sum ≡ refused v → Refusal v
-        → r ≡ record { answer = v; more = false; count = 0; size = 0; spots = spots } → WalkedAs n area f bytes want r
-    walking-refused {r} {v} e g p =
-        subst (λ (x : Walked). WalkedAs n area f bytes want x) (sym p)
-        (no-page v g (w .long) (sym (w .is ∙ ap (onPages (tables.shown f count spots)) e ∙ pages-refused (tables.shown f count spots) v)))
-
     -- ---- by the turn that the line takes
-    module _ {left′ : ℕ → ℕ → Reply (Page A)} {item : ℕ → ℕ → A} {t : Turn} (s : Stepped area bytes over item left left′ count sum t) where
-      turned : {u : Turn} → t ≡ u → left count sum ≡ turnTo item left′ count sum u
-      turned e = s .is ∙ ap (turnTo item left′ count sum) e
+    module _ {left′ : ℕ → ℕ → Reply (Page Bytes)} {t : Turn} (s : Stepped area over left left′ count sum t) where
+      turned : {u : Turn} → t ≡ u → left count sum ≡ turnTo area left′ count sum u
+      turned e = s .is ∙ ap (turnTo area left′ count sum) e
 
-      pub turn-on : i < n → t ≡ On → Walking n area f bytes over want left′ (i + 1) count sum spots
+      pub turn-on : i < n → t ≡ On → Walking n area over want left′ (i + 1) count sum slots
       turn-on h e = walking-pass h (turned e)
 
-      pub turn-stop : {r : Walked} {z : ℕ} → t ≡ Stop → z ≡ sum + over * count + 3
-          → r ≡ record { answer = Accepted; more = true; count = count; size = z; spots = spots } → WalkedAs n area f bytes want r
-      turn-stop e q p = walking-listed (turned e) q p
+      pub turn-stop : {r : Walked} → t ≡ Stop → r ≡ record { answer = Accepted; more = true; count = count; size = sum + over * count + 3; slots = slots } → WalkedAs area want r
+      turn-stop e p = walking-listed (turned e) p
 
-      pub turn-refuse : {r : Walked} {v : Answer} → t ≡ Refuse v → r ≡ record { answer = v; more = false; count = 0; size = 0; spots = spots } → WalkedAs n area f bytes want r
-      turn-refuse e p = walking-refused (turned e) (subst (TurnGood area bytes over item) e (s .good)) p
+      pub turn-refuse : {r : Walked} {v : Answer} → t ≡ Refuse v → r ≡ emptyOf v → WalkedAs area want r
+      turn-refuse {r} {v} e p = refused-walked v (subst (TurnGood area over) e (s .good)) (sym (w .is ∙ ap (onPages rows) (turned e) ∙ pages-refused rows v)) p
 
-      pub turn-cheap : {a l cost : ℕ} → t ≡ Add a l cost → cost ≤ 600
-      turn-cheap {a} {l} {cost} e = let g : AddFits area bytes over (item a l) a l cost = subst (TurnGood area bytes over item) e (s .good) in g .cheap
+      pub turn-cheap : {p : Slot} {cost : ℕ} → t ≡ Add p cost → cost ≤ 600
+      turn-cheap {p} {cost} e = let g : AddFits area over p cost = subst (TurnGood area over) e (s .good) in g .cheap
 
-      pub turn-add : {a l cost : ℕ} → i < n → t ≡ Add a l cost → f (spotOf i a l) ≡ item a l
-          → Walking n area f bytes over want left′ (i + 1) (count + 1) (sum + cost) (set spots count (spotOf i a l))
-      turn-add {a} {l} {cost} h e q = record {
+      pub turn-add : {p : Slot} {cost : ℕ} → i < n → t ≡ Add p cost → Walking n area over want left′ (i + 1) (count + 1) (sum + cost) (set slots count p)
+      turn-add {p} {cost} h e = record {
         low = omega arith;
-        table = w .table;
+        most = w .most;
         few = omega (arith, w .few);
-        long = length-set spots count (spotOf i a l) ∙ w .long;
         small = omega (arith, w .small, fit .cheap);
         is =
-            w .is ∙ ap (onPages (tables.shown f count spots)) (turned e)
-            ∙ sym (ap (λ (z : ℕ). onPages (tables.shown f (count + 1) (set spots count (spotOf i a l))) (left′ z (sum + cost))) (add-one count)
-            ∙ ap (λ (xs : List A). onPages xs (left′ (suc count) (sum + cost))) (spots-snoc f spots count (spotOf i a l) room ∙ ap (λ (y : A). tables.shown f count spots ++ (y ∷ [])) q)
-            ∙ pages-snoc (tables.shown f count spots) (item a l) (left′ (suc count) (sum + cost)));
+            w .is ∙ ap (onPages rows) (turned e)
+            ∙ sym (ap (λ (z : ℕ). onPages (tables.shown (entryBytes area) (count + 1) (set slots count p)) (left′ z (sum + cost))) (add-one count)
+            ∙ ap (λ (xs : List Bytes). onPages xs (left′ (suc count) (sum + cost))) more ∙ pages-snoc rows (entryBytes area p) (left′ (suc count) (sum + cost)));
         size =
-            ap (λ (xs : List A). length (allBytes bytes xs)) (spots-snoc f spots count (spotOf i a l) room ∙ ap (λ (y : A). tables.shown f count spots ++ (y ∷ [])) q)
-            ∙ ap length (bytes-snoc bytes (tables.shown f count spots) (item a l)) ∙ length-append (allBytes bytes (tables.shown f count spots)) (bytes (item a l))
+            ap (λ (xs : List Bytes). length (allBytes same xs)) more ∙ ap length (bytes-snoc rows (entryBytes area p)) ∙ length-append (allBytes same rows) (entryBytes area p)
             ∙ omega (arith, w .size, fit .size, ap (λ (z : ℕ). over * z) (add-one count), mul-suc over count);
-        good =
-            subst (tables.All (SpotIn n area)) (sym (ap (λ (z : ℕ). take z (set spots count (spotOf i a l))) (add-one count) ∙ take-suc-set spots count (spotOf i a l) room))
-            (all-append (SpotIn n area) (take count spots) (spotOf i a l ∷ []) (w .good) (all-cons (SpotIn n area) (spotOf i a l) [] (record { line-in = h; row-in = fit .row-in }) (all-none (SpotIn n area))));
+        table = table-added (w .table) p (fit .within) room;
       }
         where
-          fit : AddFits area bytes over (item a l) a l cost
-          fit = subst (TurnGood area bytes over item) e (s .good)
+          fit : AddFits area over p cost
+          fit = subst (TurnGood area over) e (s .good)
 
-          room : count < length spots
-          room = omega (arith, w .few, w .long, w .table)
+          room : count < 1024
+          room = omega (arith, w .few, w .most)
+
+          more : tables.shown (entryBytes area) (count + 1) (set slots count p) ≡ rows ++ (entryBytes area p ∷ [])
+          more = shown-added (entryBytes area) slots count p (omega (arith, w .table .long, room))
+
+steps-on : {A : Type 0} (f : A → Bytes) (v : Answer) (past : Bool) (r : Reply (Page A)) → pageOn f (ifPassed v (unlessPast past r)) ≡ ifPassed v (unlessPast past (pageOn f r))
+unfolding pageOn ifPassed unlessPast
+steps-on f Accepted true r = refl
+steps-on f Accepted false r = refl
+steps-on f (No n) past r = refl
+steps-on f (Held h) past r = refl
+
+-- "Page's argument checks without byte limit": none that is 0
+module _ {st : Store} {area : Bytes} {q : Asked} (asks : WalkAsks st area q) (a : Bounds) (b : Box) where
+  page-steps : pageAsked q a b ≡ ifPassed (pageArguments (q .limit) (q .bytes) a) (unlessPast (pastEnd (a .resume) (a .to)) (walkFrom q a b (b .lines) 0 0))
+  unfolding page intentPage conflictPage pageArguments intentArguments _▸_ need
+  page-steps = go (q .scan) (asks .large)
+    where
+      go : (s : Scan) → (s ≡ Intents → 1048576 ≤ q .bytes) → pageBy s (q .moment) (limitsOf q) a b ≡ ifPassed (pageArguments (q .limit) (q .bytes) a) (unlessPast (pastEnd (a .resume) (a .to)) (walkBy s (q .moment) (limitsOf q) a b (b .lines) 0 0))
+      go Rows h = steps-on _ (pageArguments (q .limit) (q .bytes) a) (pastEnd (a .resume) (a .to)) _
+      go Intents h = steps-on _ (intentArguments (q .limit) a) (pastEnd (a .resume) (a .to)) _ ∙ sym (rw (ne-eqb (q .bytes) 0 (λ e. omega (arith, h refl))))
+      go Conflicts h = steps-on _ (pageArguments (q .limit) (q .bytes) a) (pastEnd (a .resume) (a .to)) _
+
+  module _ {v : Answer} (e : v ≡ pageArguments (q .limit) (q .bytes) a) where
+    by : (u : Answer) (r : Reply (Page Bytes)) → v ≡ u → ifPassed u r ≡ ifPassed u (unlessPast (pastEnd (a .resume) (a .to)) (walkFrom q a b (b .lines) 0 0)) → ifPassed u r ≡ pageAsked q a b
+    by u r f g = g ∙ ap (λ (x : Answer). ifPassed x (unlessPast (pastEnd (a .resume) (a .to)) (walkFrom q a b (b .lines) 0 0))) (sym f ∙ e) ∙ sym page-steps
+
+    pub judge-no : {n : ℕ} {r : Walked} → v ≡ No n → r ≡ emptyOf (No n) → WalkedAs area (pageAsked q a b) r
+    unfolding ifPassed
+    judge-no {n} f p = empty-walked (No n) (by _ (emptyPage false) f refl) p
+
+    pub judge-held : {h : Holder} {r : Walked} → v ≡ Held h → r ≡ emptyOf (Held h) → WalkedAs area (pageAsked q a b) r
+    unfolding ifPassed
+    judge-held {h} f p = empty-walked (Held h) (by _ (emptyPage false) f refl) p
+
+    module _ (f : v ≡ Accepted) {t : Bool} (g : t ≡ pastEnd (a .resume) (a .to)) where
+      past-is : {u : Bool} → t ≡ u → unlessPast u (walkFrom q a b (b .lines) 0 0) ≡ pageAsked q a b
+      unfolding ifPassed
+      past-is {u} h = by Accepted (unlessPast u (walkFrom q a b (b .lines) 0 0)) f (ap (λ (x : Bool). unlessPast x (walkFrom q a b (b .lines) 0 0)) (sym h ∙ g))
+
+      -- "resume at or past end, empty page without more"
+      pub judge-past : {r : Walked} → t ≡ true → r ≡ emptyOf Accepted → WalkedAs area (pageAsked q a b) r
+      unfolding ifPassed unlessPast
+      judge-past h p = empty-walked Accepted (past-is h) p
+
+      pub judge-walk : {r : Walked} → t ≡ false → WalkedAs area (walkFrom q a b (b .lines) 0 0) r → WalkedAs area (pageAsked q a b) r
+      unfolding unlessPast
+      judge-walk {r} h w = subst (λ (x : Reply (Page Bytes)). WalkedAs area x r) (past-is h) w

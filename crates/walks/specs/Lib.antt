@@ -1,6 +1,5 @@
--- What the judging walks promise.
+-- What the judging walk promises.
 -- Assumes nothing.
 pub mod Walked
+pub mod Dues
 pub mod Turns
-pub mod Rows
-pub mod Locks

@@ -1,17 +1,37 @@
 -- What one line does to a page, and how the walk goes on from it.
 -- Assumes nothing.
-use Prim.Native.Nat.{ℕ, suc, _+_}
+use Prim.Native.Nat.{ℕ, suc, _+_, _≤_}
+use mathlib.Core.Path.{_≡_}
 use mathlib.Core.Bool.{Bool, true, false}
 use lib.Dec.{leb, eqb}
+use Rattle.forms.specs.Bytes.{Bytes}
 use Rattle.rules.specs.declared.answers.Answer.{Answer}
 use Rattle.rules.specs.declared.answers.Answer.the-variants.{Accepted, No, Held}
-use Rattle.rules.specs.Answers.{Reply, nothing, refused}
+use Rattle.rules.specs.Answers.{Reply, refused}
 use Rattle.rules.specs.Page.{Page, emptyPage, onPage}
-use Rattle.walks.specs.declared.walked.Turn.{Turn}
-use Rattle.walks.specs.declared.walked.Turn.the-variants.{On, Stop, Refuse, Add}
+use Rattle.lines.specs.declared.store.Slot.{Slot}
+use Rattle.lines.specs.declared.store.Line.{Line}
+use Rattle.lines.specs.declared.store.Line.the-variants.{Standing, Finished}
+use Rattle.walks.specs.declared.dues.Listed.{Listed}
+use Rattle.walks.specs.declared.dues.Listed.the-variants as listed
+use Rattle.walks.specs.declared.dues.Due.{Due}
+use Rattle.walks.specs.declared.turns.Turn.{Turn}
+use Rattle.walks.specs.declared.turns.Turn.the-variants.{On, Stop, Refuse, Add}
+use Rattle.walks.specs.Walked.{entryBytes}
 
-abbrev pub add : ℕ → ℕ → ℕ → Turn
-add rowat rowlen cost = Add rowat rowlen cost
+-- "Cost is key plus row length"; "key plus primary length plus 26"
+abbrev pub costIn : ℕ → Line → ℕ
+costIn len (Standing l) = len + l .plen + 26
+costIn len (Finished w) = len + w .rowlen
+
+abbrev pub costOf : Slot → ℕ
+costOf s = costIn (s .len) (s .line)
+
+pub record CostIn (len : ℕ) (line : Line) (r : ℕ) : Type 0 where
+  pub is : r ≡ costIn len line
+  pub small : r ≤ 600
+
+-- ---- the limits
 
 -- "With the row limit reached, stop with more"
 abbrev pub stopIf : Bool → Turn → Turn
@@ -24,20 +44,33 @@ largeIf true first t = t
 largeIf false true t = Refuse (No 10)
 largeIf false false t = Stop
 
+abbrev pub add : Slot → Turn
+add s = Add s (costOf s)
+
 abbrev pub roomTurn : (rows bytes count total : ℕ) → Turn → Turn
 roomTurn rows bytes count total t = stopIf (leb rows count) (largeIf (leb total bytes) (eqb count 0) t)
 
--- how the walk goes on: `left` is what the lines after it say of a page of a count and a sum
-abbrev pub turnTo : {A : Type 0} → (ℕ → ℕ → A) → (ℕ → ℕ → Reply (Page A)) → ℕ → ℕ → Turn → Reply (Page A)
-turnTo item left count sum On = left count sum
-turnTo item left count sum Stop = emptyPage true
-turnTo item left count sum (Refuse v) = refused v
-turnTo item left count sum (Add rowat rowlen cost) = onPage (item rowat rowlen) (left (suc count) (sum + cost))
+-- ---- the turn
 
--- one that is not asked for is passed over, as one that shows nothing
-abbrev pub judgedIf : {A : Type 0} → Bool → Reply A → Reply A
-judgedIf true r = r
-judgedIf false r = nothing
+abbrev pub turnIn : Answer → Listed → (rows bytes count sum : ℕ) → Turn
+turnIn Accepted listed.Nothing rows bytes count sum = On
+turnIn Accepted (listed.Line s) rows bytes count sum = roomTurn rows bytes count (sum + costOf s) (add s)
+turnIn (No n) line rows bytes count sum = Refuse (No n)
+turnIn (Held h) line rows bytes count sum = Refuse (Held h)
+
+abbrev pub turnOf : Bool → Answer → Listed → (rows bytes count sum : ℕ) → Turn
+turnOf true lets line rows bytes count sum = turnIn lets line rows bytes count sum
+turnOf false lets line rows bytes count sum = On
+
+abbrev pub turnDue : Bool → Due → (rows bytes count sum : ℕ) → Turn
+turnDue inside d rows bytes count sum = turnOf inside (d .lets) (d .line) rows bytes count sum
+
+-- how the walk goes on: `left` is what the lines after it say of a page of a count and a sum
+abbrev pub turnTo : Bytes → (ℕ → ℕ → Reply (Page Bytes)) → ℕ → ℕ → Turn → Reply (Page Bytes)
+turnTo area left count sum On = left count sum
+turnTo area left count sum Stop = emptyPage true
+turnTo area left count sum (Refuse v) = refused v
+turnTo area left count sum (Add s cost) = onPage (entryBytes area s) (left (suc count) (sum + cost))
 
 -- an answer that refuses
 abbrev pub Refusal : Answer → Type 0

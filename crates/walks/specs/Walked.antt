@@ -1,57 +1,104 @@
--- The page that the places left by a walk show.
+-- What is asked of a walk, by the definitions, and the page that the lines show which it leaves. Entries are taken as their bytes: so rows and
+-- locks are one matter.
 -- Assumes nothing.
-use Prim.Native.Nat.{ℕ, _+_, _<_, _≤_}
+use Prim.Native.Nat.{ℕ, _+_, _≤_}
 use mathlib.Core.Path.{_≡_}
-use mathlib.Core.List.{List}
-use lib.ListN.{length, getD, take}
+use mathlib.Core.Bool.{false}
+use mathlib.Core.List.{List, _++_, map}
+use lib.ListN.{length, replicate}
 use Rattle.seqs.specs.Tables as tables
 use Rattle.forms.specs.Bytes.{Bytes, bytesAt}
+use Rattle.rules.specs.declared.answers.Answer.{Answer}
 use Rattle.rules.specs.declared.answers.Answer.the-variants.{Accepted}
-use Rattle.rules.specs.declared.records.Kind.the-variants.{Put}
-use Rattle.rules.specs.Answers.{Reply, shown, ifPassed}
-use Rattle.rules.specs.Page.{Page, KeyRow, KeyLock}
-use Rattle.rules.specs.Written.{pageBytes}
-use Rattle.lines.specs.declared.store.Intent.{Intent}
+use Rattle.rules.specs.Answers.{Reply, nothing, shown, refused, ifPassed}
+use Rattle.rules.specs.Box.{Box, KeyLine}
+use Rattle.rules.specs.Page.{Bounds, Limits, Page, readKey, rowCost, lockCost, conflicting, intentWalk, pageWalk, keysWithin, keysOf, locksWithin, locksOf, page, intentPage, conflictPage}
+use Rattle.rules.specs.Written.{pieceBytes, lockBytes, keyRowBytes, keyLockBytes, pageBytes}
+use Rattle.lines.specs.declared.store.Slot.{Slot}
+use Rattle.lines.specs.declared.store.Store.{Store}
 use Rattle.lines.specs.declared.store.Line.{Line}
 use Rattle.lines.specs.declared.store.Line.the-variants.{Standing, Finished}
-use Rattle.lines.specs.declared.store.Slot.{Slot}
-use Rattle.lines.specs.View.{keyOf, lockIn, noSlot}
-use Rattle.walks.specs.declared.walked.Spot.{Spot}
+use Rattle.lines.specs.declared.views.Told.{Told}
+use Rattle.lines.specs.declared.views.Told.the-variants as told
+use Rattle.lines.specs.View.{keyOf, past, noSlot}
+use Rattle.lines.specs.Made.{Built}
+use Rattle.lines.specs.Looks.{lockIn, toldOf}
+use Rattle.walks.specs.declared.walked.Asked.{Asked}
+use Rattle.walks.specs.declared.walked.Scan.{Scan}
+use Rattle.walks.specs.declared.walked.Scan.the-variants.{Rows, Intents, Conflicts}
 use Rattle.walks.specs.declared.walked.Walked.{Walked}
 
-abbrev pub noSpot : Spot
-noSpot = record { line = 0; rowat = 0; rowlen = 0 }
+-- ---- what is asked
 
--- ---- what a spot shows
+-- a page, its entries as their bytes
+unfoldable pub pageOn : {A : Type 0} → (A → Bytes) → Reply (Page A) → Reply (Page Bytes)
+pageOn f nothing = nothing
+pageOn f (shown p) = shown (record { rows = map f (p .rows); more = p .more })
+pageOn f (refused v) = refused v
 
-abbrev pub slotOf : List Slot → Spot → Slot
-slotOf lines p = getD lines (p .line) noSlot
+abbrev pub limitsOf : Asked → Limits
+limitsOf q = record { rows = q .limit; bytes = q .bytes }
 
-abbrev pub rowAt : List Slot → Bytes → Spot → KeyRow
-rowAt lines area p = record { key = keyOf area (slotOf lines p); row = bytesAt area (p .rowat) (p .rowlen) }
+-- the call's page
+abbrev pub pageBy : Scan → ℕ → Limits → Bounds → Box → Reply (Page Bytes)
+pageBy Rows moment m a b = pageOn keyRowBytes (page a moment m b)
+pageBy Intents moment m a b = pageOn keyLockBytes (intentPage a (m .rows) b)
+pageBy Conflicts moment m a b = pageOn keyLockBytes (conflictPage a moment m b)
 
--- the intent that stands on a line; of a record, which no page of locks lists, one of zeros
-abbrev pub intentOf : Line → Intent
-intentOf (Standing i) = i
-intentOf (Finished w) = record { txn = 0; start = 0; ttl = 0; at = 0; len = 0; kind = Put }
+abbrev pub pageAsked : Asked → Bounds → Box → Reply (Page Bytes)
+pageAsked q a b = pageBy (q .scan) (q .moment) (limitsOf q) a b
 
-abbrev pub lockAt : List Slot → Bytes → Spot → KeyLock
-lockAt lines area p = record { key = keyOf area (slotOf lines p); lock = lockIn area (intentOf (slotOf lines p .line)) }
+-- what is left of its walk at these lines, with a page of this count and sum
+abbrev pub walkBy : Scan → ℕ → Limits → Bounds → Box → List KeyLine → ℕ → ℕ → Reply (Page Bytes)
+walkBy Rows moment m a b es count sum = pageOn keyRowBytes (pageWalk (readKey moment b) rowCost m (keysWithin a (keysOf es)) count sum)
+walkBy Intents moment m a b es count sum = pageOn keyLockBytes (intentWalk (m .rows) (locksWithin a (locksOf es)) count)
+walkBy Conflicts moment m a b es count sum = pageOn keyLockBytes (pageWalk (conflicting moment) lockCost m (locksWithin a (locksOf es)) count sum)
 
--- the line is one of the n in use, and the row lies in the area
-pub record SpotIn (n : ℕ) (area : Bytes) (p : Spot) : Type 0 where
-  pub line-in : p .line < n
-  pub row-in : p .rowat + p .rowlen ≤ length area
+abbrev pub walkFrom : Asked → Bounds → Box → List KeyLine → ℕ → ℕ → Reply (Page Bytes)
+walkFrom q a b es count sum = walkBy (q .scan) (q .moment) (limitsOf q) a b es count sum
+
+-- an intent page has no byte limit: none that a page reaches
+pub record WalkAsks (st : Store) (area : Bytes) (q : Asked) : Type 0 where
+  pub built : Built st area
+  pub large : q .scan ≡ Intents → 1048576 ≤ q .bytes
+
+-- ---- the entry that a line shows: a record's row, or an intent's lock
+
+abbrev pub lineBytes : Bytes → Told → Bytes
+lineBytes area (told.Standing i) = lockBytes (lockIn area i)
+lineBytes area (told.Finished w) = pieceBytes (bytesAt area (w .rowat) (w .rowlen))
+
+abbrev pub entryBytes : Bytes → Slot → Bytes
+entryBytes area s = pieceBytes (keyOf area s) ++ lineBytes area (toldOf area s)
+
+abbrev pub partLen : Line → ℕ
+partLen (Standing l) = l .plen
+partLen (Finished w) = w .rowlen
+
+-- the line lies in the area, and its row or primary is short
+pub record SlotIn (area : Bytes) (s : Slot) : Type 0 where
+  pub within : s .at + s .len + past (s .line) ≤ length area
+  pub short : partLen (s .line) ≤ 255
+
+-- how many bytes an entry has besides its cost: the lengths of key and row; of the key, since a lock's 26 have the primary's
+abbrev pub overOf : Scan → ℕ
+overOf Rows = 2
+overOf Intents = 1
+overOf Conflicts = 1
 
 -- ---- what a walk leaves
 
-abbrev pub pageOf : {A : Type 0} → (Spot → A) → Walked → Page A
-pageOf f w = record { rows = tables.shown f (w .count) (w .spots); more = w .more }
+abbrev pub same : Bytes → Bytes
+same b = b
 
--- the walk is this reply; its page has this many bytes, and its spots can be written
-pub record WalkedAs {A : Type 0} (n : ℕ) (area : Bytes) (f : Spot → A) (bytes : A → Bytes) (want : Reply (Page A)) (w : Walked) : Type 0 where
-  pub is : ifPassed (w .answer) (shown (pageOf f w)) ≡ want
-  pub size-is : w .answer ≡ Accepted → w .size ≡ length (pageBytes bytes (pageOf f w))
-  pub few : w .count ≤ 1024
-  pub long : length (w .spots) ≡ 1024
-  pub good : tables.All (SpotIn n area) (take (w .count) (w .spots))
+abbrev pub pageOf : Bytes → Walked → Page Bytes
+pageOf area w = record { rows = tables.shown (entryBytes area) (w .count) (w .slots); more = w .more }
+
+-- the walk is this reply; its page has this many bytes, and its lines can be written
+pub record WalkedAs (area : Bytes) (want : Reply (Page Bytes)) (w : Walked) : Type 0 where
+  pub is : ifPassed (w .answer) (shown (pageOf area w)) ≡ want
+  pub size-is : w .answer ≡ Accepted → w .size ≡ length (pageBytes same (pageOf area w))
+  pub table : tables.Table (SlotIn area) noSlot 1024 (w .count) (w .slots)
+
+abbrev pub emptyOf : Answer → Walked
+emptyOf v = record { answer = v; more = false; count = 0; size = 3; slots = replicate 1024 noSlot }

@@ -1,24 +1,38 @@
 // What one line does to a page that has `count` entries of `sum` bytes by the paper's count.
 ghost use mathlib.Core.Path.{_≡_};
 ghost use Prim.Native.Nat.{_+_, _≤_};
-ghost use Rattle.walks.specs.Turns.{roomTurn, add};
-use crate::walked::Turn;
+ghost use Rattle.walks.specs.Turns.{costOf, CostIn, roomTurn, add, turnOf};
+use crate::dues::Listed;
+use lines::Line;
+use lines::Slot;
 use rules::Answer;
 
-// "With the row limit reached, stop with more. .. if the sum would pass the byte limit, 10 on an empty page, else stop with more."
-pub(crate) fn room_turn(
-    rows: u64,
-    bytes: u64,
-    count: usize,
-    sum: usize,
-    rowat: u16,
-    rowlen: u8,
-    cost: usize,
-) -> Turn
-    requires { ⌜ sum + cost ≤ 4294967295 ⌝ }
-    ensures { λ r. ⌜ r ≡ roomTurn rows bytes count (sum + cost) (add rowat rowlen cost) ⌝ }
+// The walk goes on without the line, stops with more, is refused, or adds it at its cost.
+pub enum Turn {
+    On,
+    Stop,
+    Refuse(Answer),
+    Add(Slot, usize),
+}
+
+// "Cost is key plus row length"; of a lock, "key plus primary length plus 26".
+fn cost_in(len: u8, line: Line) -> usize
+    ensures { λ r. ⌜ CostIn len line r ⌝ }
 {
-    if rows <= count as u64 {
+    match line {
+        Line::Standing(l) => len as usize + l.plen as usize + 26,
+        Line::Finished(w) => len as usize + w.rowlen as usize,
+    }
+}
+
+// "With the row limit reached, stop with more. .. if the sum would pass the byte limit, 10 on an empty page, else stop with more."
+fn room_turn(s: Slot, limit: u64, bytes: u64, count: usize, sum: usize) -> Turn
+    requires { ⌜ sum ≤ 1048576 ⌝ }
+    ensures { λ r. ⌜ r ≡ roomTurn limit bytes count (sum + costOf s) (add s) ⌝ }
+{
+    let line = s.line;
+    let cost = cost_in(s.len, line);
+    if limit <= count as u64 {
         return Turn::Stop;
     }
     if bytes < (sum + cost) as u64 {
@@ -27,5 +41,31 @@ pub(crate) fn room_turn(
         }
         return Turn::Stop;
     }
-    Turn::Add(rowat, rowlen, cost)
+    Turn::Add(s, cost)
+}
+
+// "its refusal refuses the page even if the page is already full. With no row, go on."
+pub(crate) fn turn_of(
+    inside: bool,
+    lets: Answer,
+    line: Listed,
+    limit: u64,
+    bytes: u64,
+    count: usize,
+    sum: usize,
+) -> Turn
+    requires { ⌜ sum ≤ 1048576 ⌝ }
+    ensures { λ r. ⌜ r ≡ turnOf inside lets line limit bytes count sum ⌝ }
+{
+    if !inside {
+        return Turn::On;
+    }
+    match lets {
+        Answer::Accepted => match line {
+            Listed::Nothing => Turn::On,
+            Listed::Line(s) => room_turn(s, limit, bytes, count, sum),
+        },
+        Answer::No(n) => Turn::Refuse(Answer::No(n)),
+        Answer::Held(h) => Turn::Refuse(Answer::Held(h)),
+    }
 }

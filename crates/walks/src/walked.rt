@@ -1,88 +1,46 @@
-// What a judging walk leaves: the answer, and the places of what the page is to hold. specs/Walked.antt gives the page that they show.
+// What a page is asked for, and what the judging walk leaves: the answer, and the lines that the page is to hold. specs/Walked.antt gives the
+// page that they show.
 ghost use mathlib.Core.Path.{_≡_};
-ghost use mathlib.Core.Bool.{false};
-ghost use lib.ListN.{replicate};
-ghost use Rattle.walks.specs.Walked.{noSpot};
+ghost use Rattle.walks.specs.Walked.{emptyOf};
+use lines::Slot;
 use rules::Answer;
 
-// One that a page holds: its line, by number, and its row, the `rowlen` bytes of the area from `rowat`; of a lock there is no row.
-pub struct Spot {
-    pub line: u16,
-    pub rowat: u16,
-    pub rowlen: u8,
+// "Page", "Intent page", "Conflicting intents".
+pub enum Scan {
+    Rows,
+    Intents,
+    Conflicts,
 }
 
-// "At most 1,024 lines": so many has a page at most. Spots from the count on say nothing. `size` is how many bytes the page has.
+// The moment, the limit of rows or locks, and that of bytes. An intent page has no moment, and a byte limit that no page reaches.
+pub struct Asked {
+    pub scan: Scan,
+    pub moment: u64,
+    pub limit: u64,
+    pub bytes: u64,
+}
+
+// "At most 1,024 lines": so many has a page at most. A record stands for its key and row, an intent for its key and lock. Slots from the count
+// on say nothing. `size` is how many bytes the page has.
 pub struct Walked {
     pub answer: Answer,
     pub more: bool,
     pub count: usize,
     pub size: usize,
-    pub spots: [Spot; 1024],
-}
-
-pub(crate) fn no_spot() -> Spot
-    ensures { λ r. ⌜ r ≡ noSpot ⌝ }
-{
-    Spot {
-        line: 0,
-        rowat: 0,
-        rowlen: 0,
-    }
-}
-
-// What one line does to a page: the walk goes on without it, stops with more, is refused, or adds it (its row's place and length, and its
-// cost).
-pub enum Turn {
-    On,
-    Stop,
-    Refuse(Answer),
-    Add(u16, u8, usize),
-}
-
-// What is asked of the locks: all of them up to a limit, or those that stand in the way of a read at a moment, within the limits of a page.
-pub enum Asked {
-    Every { limit: u64 },
-    Before { moment: u64, locks: u64, bytes: u64 },
-}
-
-// A page of the first `count` spots.
-pub(crate) fn listed(more: bool, count: usize, size: usize, spots: [Spot; 1024]) -> Walked
-    ensures { λ r. ⌜ r ≡ record { answer = Answer.Accepted; more = more; count = count; size = size; spots = spots } ⌝ }
-{
-    Walked {
-        answer: Answer::Accepted,
-        more: more,
-        count: count,
-        size: size,
-        spots: spots,
-    }
-}
-
-// No page.
-pub(crate) fn refused(answer: Answer, spots: [Spot; 1024]) -> Walked
-    ensures { λ r. ⌜ r ≡ record { answer = answer; more = false; count = 0; size = 0; spots = spots } ⌝ }
-{
-    Walked {
-        answer: answer,
-        more: false,
-        count: 0,
-        size: 0,
-        spots: spots,
-    }
+    pub slots: [Slot; 1024],
 }
 
 // The empty page without more, its count and its last byte; or none, where the answer refuses.
 pub(crate) fn empty(answer: Answer) -> Walked
-    ensures { λ r. ⌜ r ≡ record { answer = answer; more = false; count = 0; size = 3; spots = replicate 1024 noSpot } ⌝ }
+    ensures { λ r. ⌜ r ≡ emptyOf answer ⌝ }
 {
-    let none = no_spot();
-    let spots = [none; 1024];
+    let none = lines::store::no_slot();
+    let slots = [none; 1024];
     Walked {
         answer: answer,
         more: false,
         count: 0,
         size: 3,
-        spots: spots,
+        slots: slots,
     }
 }

@@ -3,9 +3,8 @@ use Rattle.driving.proofs.RunLaws.{ran-within}
 use lib.Seq.{length-take-le}
 use borrow.Author.Needs.{needs}
 use native.Mathlib.Omega.{arith}
-use Prim.Native.Nat.{ℕ, suc, _+_, _-_, _*_, _<_, _≤_}
-use mathlib.Core.Path.{_≡_, refl, sym, ap, _∙_}
-use lib.ListN.{length, getD, take, drop, set, length-set}
+use Prim.Native.Nat.{_-_}
+use mathlib.Core.Path.{sym}
 use Rattle.drive.proofs.answer_calls.Statement.{statement}
 use Rattle.drive.proofs.answer_calls.Tie as tie
 use Rattle.drive.proofs.answer_calls.Reads as reads
@@ -16,7 +15,7 @@ use Rattle.traces.proofs.call_at.Reads as call-at-reads
 use Rattle.traces.proofs.first_call.Reads as first-call-reads
 
 abbrev Inv-loop : tie.InvT-loop
-Inv-loop trace area₀ out₀ kept₀ at₀ left₀ area out kept at left = Keeps area₀ out₀ kept area out
+Inv-loop trace area₀ out₀ kept₀ at₀ left₀ area out kept at left = Keeps out₀ kept area out
 
 abbrev μ-loop : tie.MeasureT-loop
 μ-loop trace area₀ out₀ kept₀ at₀ left₀ area out kept at left = left
@@ -25,7 +24,7 @@ first-call-requires : tie.Need-first-call-requires Inv-loop μ-loop
 first-call-requires c κs = search needs
 
 loop-holds : tie.Need-loop-holds Inv-loop μ-loop
-loop-holds c = keeps-start (c .before .before .before .before .pre)
+loop-holds c = keeps-start (c .before .before .before .pre)
 
 call-at-requires : tie.Need-call-at-requires Inv-loop μ-loop
 call-at-requires c κs = search needs
@@ -46,10 +45,10 @@ run-call-requires : tie.Need-run-call-requires Inv-loop μ-loop
 run-call-requires c κs = (c .before .before .before .before .before .before .loop) .inv .made
 
 slice-reshare-prefix-write-all : tie.Need-slice-reshare-prefix-write-all Inv-loop μ-loop
-slice-reshare-prefix-write-all c = omega (arith, ran-within ((c .before .before .before .before .run-call) .ensures))
+slice-reshare-prefix-write-all c = omega (arith, ran-within ((c .before .before .run-call) .ensures))
 
 slice-aggregate-write-all : tie.Need-slice-aggregate-write-all Inv-loop μ-loop
-slice-aggregate-write-all c = sym (length-take-le _ _ (omega (arith, ran-within ((c .before .before .before .before .before .run-call) .ensures))))
+slice-aggregate-write-all c = sym (length-take-le _ _ (omega (arith, ran-within ((c .before .before .before .run-call) .ensures))))
 
 write-all-requires : tie.Need-write-all-requires Inv-loop μ-loop
 write-all-requires c κs = search needs
@@ -70,13 +69,7 @@ loop-less : tie.Need-loop-less Inv-loop μ-loop
 loop-less c = search needs
 
 loop-again : tie.Need-loop-again Inv-loop μ-loop
-loop-again c = keeps-more ((c .before .before .before .before .before .before .before .before .before .before .before .before .before .before .before .loop) .inv) ((c .before .before .before .before .before .before .before .before .run-call) .ensures) (omega arith) (omega arith)
-
-same-length-3 : tie.Need-same-length-3 Inv-loop μ-loop
-same-length-3 c = search needs
-
-same-length-4 : tie.Need-same-length-4 Inv-loop μ-loop
-same-length-4 c = search needs
+loop-again c = keeps-more ((c .before .before .before .before .before .before .before .before .before .before .before .before .before .loop) .inv) ((c .before .before .before .before .before .before .run-call) .ensures) (omega arith)
 
 returns-2 : tie.Need-returns-2 Inv-loop μ-loop
 returns-2 c = search needs
@@ -99,11 +92,9 @@ answer-calls-spec =
     slice-aggregate-write-all
     write-all-requires
     same-length
-    same-length-2
     returns
     sub-left
     loop-less
     loop-again
-    same-length-3
-    same-length-4
+    same-length-2
     returns-2)

@@ -1,8 +1,7 @@
 use borrow.Author.Needs.{needs}
-use native.Mathlib.Omega.{arith}
-use Prim.Native.Nat.{ℕ, suc, _+_, _-_, _*_, _<_, _≤_}
-use mathlib.Core.Path.{_≡_, refl, sym, ap, _∙_}
-use lib.ListN.{length, getD, take, drop, set, length-set}
+use Prim.Native.Nat.{_-_}
+use mathlib.Core.Path.{_≡_}
+use lib.ListN.{length}
 use Rattle.drive.proofs.answer_many.Statement.{statement}
 use Rattle.drive.proofs.answer_many.Tie as tie
 use Rattle.drive.proofs.answer_many.Reads as reads
@@ -10,10 +9,10 @@ use Rattle.drive.proofs.answer_many.Lts as lts
 use Rattle.drive.proofs.answer_next.Reads as answer-next-reads
 
 abbrev Inv-loop : tie.InvT-loop
-Inv-loop trace₀ area₀ out₀ turns₀ trace area out turns = (length area ≡ 65536) × (length area ≡ length area₀) × (length trace ≡ length trace₀) × (length out ≡ length out₀)
+Inv-loop trace₀ out₀ turns₀ trace out turns = (length trace ≡ length trace₀) × (length out ≡ length out₀)
 
 abbrev μ-loop : tie.MeasureT-loop
-μ-loop trace₀ area₀ out₀ turns₀ trace area out turns = turns
+μ-loop trace₀ out₀ turns₀ trace out turns = turns
 
 loop-holds : tie.Need-loop-holds Inv-loop μ-loop
 loop-holds c = search needs
@@ -45,12 +44,6 @@ returns c = search needs
 same-length-4 : tie.Need-same-length-4 Inv-loop μ-loop
 same-length-4 c = search needs
 
-same-length-5 : tie.Need-same-length-5 Inv-loop μ-loop
-same-length-5 c = search needs
-
-same-length-6 : tie.Need-same-length-6 Inv-loop μ-loop
-same-length-6 c = search needs
-
 returns-2 : tie.Need-returns-2 Inv-loop μ-loop
 returns-2 c = search needs
 
@@ -67,9 +60,7 @@ answer-many-spec =
     loop-again
     same-length
     same-length-2
-    same-length-3
     returns
+    same-length-3
     same-length-4
-    same-length-5
-    same-length-6
     returns-2)

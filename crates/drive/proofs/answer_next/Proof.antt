@@ -1,10 +1,8 @@
 use Rattle.streams.proofs.NextLaws.{next-in}
 use lib.Seq.{length-take-le}
 use borrow.Author.Needs.{needs}
-use native.Mathlib.Omega.{arith}
-use Prim.Native.Nat.{ℕ, suc, _+_, _-_, _*_, _<_, _≤_}
-use mathlib.Core.Path.{_≡_, refl, sym, ap, _∙_}
-use lib.ListN.{length, getD, take, drop, set, length-set}
+use Prim.Native.Nat.{_-_}
+use mathlib.Core.Path.{sym}
 use borrow.Author.Needs.{needs}
 use Rattle.drive.proofs.answer_next.Statement.{statement}
 use Rattle.drive.proofs.answer_next.Tie as tie
@@ -59,9 +57,6 @@ same-length-4 c = search needs
 same-length-5 : tie.Need-same-length-5
 same-length-5 c = search needs
 
-same-length-6 : tie.Need-same-length-6
-same-length-6 c = search needs
-
 returns-3 : tie.Need-returns-3
 returns-3 c = search needs
 
@@ -84,5 +79,4 @@ answer-next-spec =
     returns-2
     same-length-4
     same-length-5
-    same-length-6
     returns-3)

@@ -1,8 +1,6 @@
 use borrow.Author.Needs.{needs}
-use native.Mathlib.Omega.{arith}
-use Prim.Native.Nat.{ℕ, suc, _+_, _-_, _*_, _<_, _≤_}
-use mathlib.Core.Path.{_≡_, refl, sym, ap, _∙_}
-use lib.ListN.{length, getD, take, drop, set, length-set}
+use lib.ListN.{length-replicate}
+use Prim.Native.Nat.{ℕ, _-_}
 use borrow.Author.Needs.{needs}
 use Rattle.drive.proofs.answer_trace.Statement.{statement}
 use Rattle.drive.proofs.answer_trace.Tie as tie
@@ -29,13 +27,10 @@ fresh-requires : tie.Need-fresh-requires
 fresh-requires c κs = search needs
 
 answer-calls-requires : tie.Need-answer-calls-requires
-answer-calls-requires c κs = ((c .before .before .fresh) .ensures) _ ((c .before .before .before .before .before .before .before .before .pre)) .made
+answer-calls-requires c κs = (c .before .before .fresh) .ensures _ (length-replicate {A = ℕ} 131072 0) .made
 
 same-length-2 : tie.Need-same-length-2
 same-length-2 c = search needs
-
-same-length-3 : tie.Need-same-length-3
-same-length-3 c = search needs
 
 returns-2 : tie.Need-returns-2
 returns-2 c = search needs
@@ -51,5 +46,4 @@ answer-trace-spec =
     fresh-requires
     answer-calls-requires
     same-length-2
-    same-length-3
     returns-2)

@@ -15,34 +15,19 @@ slice-aggregate-asks-figures-2 : tie.Need-slice-aggregate-asks-figures-2
 slice-aggregate-asks-figures-2 c = search needs
 
 asks-figures-requires : tie.Need-asks-figures-requires
-asks-figures-requires c κs = (c .before .before .fresh) .ensures _ (length-replicate {A = ℕ} 65536 0) .made
-
-slice-aggregate-two-labels : tie.Need-slice-aggregate-two-labels
-slice-aggregate-two-labels c = search needs
+asks-figures-requires c κs = (c .before .before .fresh) .ensures _ (length-replicate {A = ℕ} 131072 0) .made
 
 two-labels-requires : tie.Need-two-labels-requires
-two-labels-requires c κs = (c .before .before .before .before .before .fresh) .ensures _ (length-replicate {A = ℕ} 65536 0) .made
-
-slice-aggregate-asks-page : tie.Need-slice-aggregate-asks-page
-slice-aggregate-asks-page c = search needs
+two-labels-requires c κs = (c .before .before .before .before .before .fresh) .ensures _ (length-replicate {A = ℕ} 131072 0) .made
 
 asks-page-requires : tie.Need-asks-page-requires
-asks-page-requires c κs = (c .before .before .two-labels) .ensures
-
-slice-aggregate-withdrawn-label : tie.Need-slice-aggregate-withdrawn-label
-slice-aggregate-withdrawn-label c = search needs
+asks-page-requires c κs = (c .before .two-labels) .ensures
 
 withdrawn-label-requires : tie.Need-withdrawn-label-requires
-withdrawn-label-requires c κs = (c .before .before .before .before .before .two-labels) .ensures
-
-slice-aggregate-asks-figures-3 : tie.Need-slice-aggregate-asks-figures-3
-slice-aggregate-asks-figures-3 c = search needs
-
-slice-aggregate-asks-figures-4 : tie.Need-slice-aggregate-asks-figures-4
-slice-aggregate-asks-figures-4 c = search needs
+withdrawn-label-requires c κs = (c .before .before .before .before .two-labels) .ensures
 
 asks-figures-requires-2 : tie.Need-asks-figures-requires-2
-asks-figures-requires-2 c κs = (c .before .before .before .withdrawn-label) .ensures
+asks-figures-requires-2 c κs = (c .before .before .withdrawn-label) .ensures
 
 returns : tie.Need-returns
 returns c = search needs
@@ -53,15 +38,10 @@ main-spec =
     (tie.spec
     fresh-requires
     slice-aggregate-asks-figures
-    slice-aggregate-asks-figures-2
     asks-figures-requires
-    slice-aggregate-two-labels
     two-labels-requires
-    slice-aggregate-asks-page
     asks-page-requires
-    slice-aggregate-withdrawn-label
     withdrawn-label-requires
-    slice-aggregate-asks-figures-3
-    slice-aggregate-asks-figures-4
+    slice-aggregate-asks-figures-2
     asks-figures-requires-2
     returns)

@@ -1,6 +1,5 @@
 -- `session::withdrawn_label` meets its contract: each step hands a made store to the next. Assumes nothing.
 use borrow.Author.Needs.{needs}
-use native.Mathlib.Omega.{arith}
 use Rattle.session.proofs.withdrawn_label.Statement.{statement}
 use Rattle.session.proofs.withdrawn_label.Tie as tie
 
@@ -19,9 +18,6 @@ asks-key-requires-2 c κs = search needs
 commits-requires : tie.Need-commits-requires
 commits-requires c κs = search needs
 
-same-length : tie.Need-same-length
-same-length c = omega (arith, (c .before .before .before .before .before .before .before .before .withdraws) .ensures .built .area-long, (c .before .before .before .before .before .before .before .before .before .before .before .before .before .before .before .before .before .before .before .before .before .before .before .before .pre) .built .area-long)
-
 returns : tie.Need-returns
 returns c = search needs
 
@@ -34,5 +30,4 @@ withdrawn-label-spec =
     withdraws-requires
     asks-key-requires-2
     commits-requires
-    same-length
     returns)

@@ -8,11 +8,8 @@ use Rattle.bounds.proofs.arguments.absent_or.Tie as tie
 returns : tie.Need-returns
 returns c = absent ((c .before .before .args) .present) ((c .before .before .args) .key .now) ((c .if1) .taken)
 
-key-in-form-requires : tie.Need-key-in-form-requires
-key-in-form-requires c κs = search needs
-
 returns-2 : tie.Need-returns-2
 returns-2 c = present ((c .before .before .before .args) .present) ((c .before .before .before .args) .key .now) ((c .before .if1) .left) ((c .key-in-form) .ensures)
 
 pub absent-or-spec : {M : Type 1} → statement M
-absent-or-spec = tie.close (tie.spec returns key-in-form-requires returns-2)
+absent-or-spec = tie.close (tie.spec returns (λ c κs. search needs) returns-2)

@@ -11,11 +11,8 @@ returns c = both-first ((c .before .before .before .args) .starts) ((c .before .
 returns-2 : tie.Need-returns-2
 returns-2 c = both-second ((c .before .before .before .before .args) .starts) ((c .before .before .before .before .args) .ends) ((c .before .before .before .before .args) .start .now) ((c .before .before .before .before .args) .end .now) ((c .before .if1) .left) ((c .if2) .taken)
 
-below-requires : tie.Need-below-requires
-below-requires c κs = search needs
-
 returns-3 : tie.Need-returns-3
 returns-3 c = both-there ((c .before .before .before .before .before .args) .starts) ((c .before .before .before .before .before .args) .ends) ((c .before .before .before .before .before .args) .start .now) ((c .before .before .before .before .before .args) .end .now) ((c .before .before .if1) .left) ((c .before .if2) .left) ((c .below) .ensures)
 
 pub both-below-spec : {M : Type 1} → statement M
-both-below-spec = tie.close (tie.spec returns returns-2 below-requires returns-3)
+both-below-spec = tie.close (tie.spec returns returns-2 (λ c κs. search needs) returns-3)

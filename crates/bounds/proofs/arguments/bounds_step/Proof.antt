@@ -6,29 +6,17 @@ use borrow.Author.Needs.{needs}
 use Rattle.bounds.proofs.arguments.bounds_step.Statement.{statement}
 use Rattle.bounds.proofs.arguments.bounds_step.Tie as tie
 
-absent-or-requires : tie.Need-absent-or-requires
-absent-or-requires c κs = search needs
-
 returns : tie.Need-returns
 unfolding boundsStep
 returns c = out _ _ _ (denied _ _ ((c .before .absent-or) .ensures) ((c .if1) .taken))
-
-absent-or-requires-2 : tie.Need-absent-or-requires-2
-absent-or-requires-2 c κs = search needs
 
 returns-2 : tie.Need-returns-2
 unfolding boundsStep
 returns-2 c = on _ _ _ _ (granted _ _ ((c .before .before .before .absent-or) .ensures) ((c .before .before .if1) .left)) (out _ _ _ (denied _ _ ((c .before .absent-or2) .ensures) ((c .if2) .taken)))
 
-both-below-requires : tie.Need-both-below-requires
-both-below-requires c κs = search needs
-
 returns-3 : tie.Need-returns-3
 unfolding boundsStep
 returns-3 c = on _ _ _ _ (granted _ _ ((c .before .before .before .before .before .absent-or) .ensures) ((c .before .before .before .before .if1) .left)) (on _ _ _ _ (granted _ _ ((c .before .before .before .absent-or2) .ensures) ((c .before .before .if2) .left)) (out _ _ _ (denied _ _ ((c .before .both-below) .ensures) ((c .if3) .taken))))
-
-absent-or-requires-3 : tie.Need-absent-or-requires-3
-absent-or-requires-3 c κs = search needs
 
 returns-4 : tie.Need-returns-4
 unfolding boundsStep
@@ -42,12 +30,12 @@ pub bounds-step-spec : {M : Type 1} → statement M
 bounds-step-spec =
     tie.close
     (tie.spec
-    absent-or-requires
+    (λ c κs. search needs)
     returns
-    absent-or-requires-2
+    (λ c κs. search needs)
     returns-2
-    both-below-requires
+    (λ c κs. search needs)
     returns-3
-    absent-or-requires-3
+    (λ c κs. search needs)
     returns-4
     returns-5)

@@ -14,12 +14,9 @@ returns-2 : tie.Need-returns-2
 unfolding pageArguments
 returns-2 c = on _ _ _ _ (zero-not _ ((c .before .if1) .left)) (out _ _ _ (zero-is _ ((c .if2) .taken)))
 
-bounds-step-requires : tie.Need-bounds-step-requires
-bounds-step-requires c κs = search needs
-
 returns-3 : tie.Need-returns-3
 unfolding pageArguments
 returns-3 c = on _ _ _ _ (zero-not _ ((c .before .before .if1) .left)) (on _ _ _ _ (zero-not _ ((c .before .if2) .left)) ((c .bounds-step) .ensures))
 
 pub page-arguments-spec : {M : Type 1} → statement M
-page-arguments-spec = tie.close (tie.spec returns returns-2 bounds-step-requires returns-3)
+page-arguments-spec = tie.close (tie.spec returns returns-2 (λ c κs. search needs) returns-3)

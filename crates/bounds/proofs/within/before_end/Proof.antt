@@ -8,11 +8,8 @@ use Rattle.bounds.proofs.within.before_end.Tie as tie
 returns : tie.Need-returns
 returns c = no-end ((c .before .before .before .args) .ends) ((c .before .before .before .args) .end .now) ((c .before .before .before .args) .key .now) ((c .if1) .taken)
 
-below-requires : tie.Need-below-requires
-below-requires c κs = search needs
-
 returns-2 : tie.Need-returns-2
 returns-2 c = at-end ((c .before .before .before .before .args) .ends) ((c .before .before .before .before .args) .end .now) ((c .before .before .before .before .args) .key .now) ((c .before .if1) .left) ((c .below) .ensures)
 
 pub before-end-spec : {M : Type 1} → statement M
-before-end-spec = tie.close (tie.spec returns below-requires returns-2)
+before-end-spec = tie.close (tie.spec returns (λ c κs. search needs) returns-2)

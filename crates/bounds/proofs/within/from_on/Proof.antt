@@ -8,29 +8,14 @@ use Rattle.bounds.proofs.within.from_on.Tie as tie
 returns : tie.Need-returns
 returns c = from-any ((c .before .before .before .before .before .args) .starts) ((c .before .before .before .before .before .args) .resumes) ((c .before .before .before .before .before .args) .start .now) ((c .before .before .before .before .before .args) .resume .now) ((c .before .before .before .before .before .args) .key .now) ((c .before .if1) .taken) ((c .if2) .taken)
 
-below-requires : tie.Need-below-requires
-below-requires c κs = search needs
-
 returns-2 : tie.Need-returns-2
 returns-2 c = from-resume ((c .before .before .before .before .before .before .args) .starts) ((c .before .before .before .before .before .before .args) .resumes) ((c .before .before .before .before .before .before .args) .start .now) ((c .before .before .before .before .before .before .args) .resume .now) ((c .before .before .before .before .before .before .args) .key .now) ((c .before .before .if1) .taken) ((c .before .if2) .left) ((c .below) .ensures)
-
-below-requires-2 : tie.Need-below-requires-2
-below-requires-2 c κs = search needs
 
 returns-3 : tie.Need-returns-3
 returns-3 c = from-start ((c .before .before .before .before .before .before .args) .starts) ((c .before .before .before .before .before .before .args) .resumes) ((c .before .before .before .before .before .before .args) .start .now) ((c .before .before .before .before .before .before .args) .resume .now) ((c .before .before .before .before .before .before .args) .key .now) ((c .before .before .if1) .left) ((c .before .if3) .taken) ((c .below2) .ensures)
 
-below-requires-3 : tie.Need-below-requires-3
-below-requires-3 c κs = search needs
-
-below-requires-4 : tie.Need-below-requires-4
-below-requires-4 c κs = search needs
-
 returns-4 : tie.Need-returns-4
 returns-4 c = from-above ((c .before .before .before .before .before .before .before .before .args) .starts) ((c .before .before .before .before .before .before .before .before .args) .resumes) ((c .before .before .before .before .before .before .before .before .args) .start .now) ((c .before .before .before .before .before .before .before .before .args) .resume .now) ((c .before .before .before .before .before .before .before .before .args) .key .now) ((c .before .before .before .before .if1) .left) ((c .before .before .before .if3) .left) ((c .before .before .below3) .ensures) ((c .before .if4) .taken) ((c .below4) .ensures)
-
-below-requires-5 : tie.Need-below-requires-5
-below-requires-5 c κs = search needs
 
 returns-5 : tie.Need-returns-5
 returns-5 c = from-after ((c .before .before .before .before .before .before .before .before .args) .starts) ((c .before .before .before .before .before .before .before .before .args) .resumes) ((c .before .before .before .before .before .before .before .before .args) .start .now) ((c .before .before .before .before .before .before .before .before .args) .resume .now) ((c .before .before .before .before .before .before .before .before .args) .key .now) ((c .before .before .before .before .if1) .left) ((c .before .before .before .if3) .left) ((c .before .before .below3) .ensures) ((c .before .if4) .left) ((c .below5) .ensures)
@@ -40,12 +25,12 @@ from-on-spec =
     tie.close
     (tie.spec
     returns
-    below-requires
+    (λ c κs. search needs)
     returns-2
-    below-requires-2
+    (λ c κs. search needs)
     returns-3
-    below-requires-3
-    below-requires-4
+    (λ c κs. search needs)
+    (λ c κs. search needs)
     returns-4
-    below-requires-5
+    (λ c κs. search needs)
     returns-5)

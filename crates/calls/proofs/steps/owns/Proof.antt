@@ -1,13 +1,8 @@
+-- `calls::steps::owns` meets its contract.
+-- Assumes nothing.
 use Rattle.calls.proofs.EntryLaws.{owns-other, owns-txn}
-use borrow.Author.Needs.{needs}
-use native.Mathlib.Omega.{arith}
-use Prim.Native.Nat.{ℕ, suc, _+_, _-_, _*_, _<_, _≤_}
-use mathlib.Core.Path.{_≡_, refl, sym, ap, _∙_}
-use lib.ListN.{length, getD, take, drop, set, length-set}
 use Rattle.calls.proofs.steps.owns.Statement.{statement}
 use Rattle.calls.proofs.steps.owns.Tie as tie
-use Rattle.calls.proofs.steps.owns.Reads as reads
-use Rattle.calls.proofs.steps.owns.Lts as lts
 
 returns : tie.Need-returns
 returns c = λ area. owns-other area ((c .before .before .args) .l) ((c .before .before .args) .txn) ((c .before .before .args) .start) ((c .if1) .taken)

@@ -1,14 +1,9 @@
+-- `calls::steps::zero_step` meets its contract.
+-- Assumes nothing.
 use Rattle.rules.specs.Calls.{zeroStep}
 use Rattle.laws.proofs.ChainLaws.{chain}
-use borrow.Author.Needs.{needs}
-use native.Mathlib.Omega.{arith}
-use Prim.Native.Nat.{ℕ, suc, _+_, _-_, _*_, _<_, _≤_}
-use mathlib.Core.Path.{_≡_, refl, sym, ap, _∙_}
-use lib.ListN.{length, getD, take, drop, set, length-set}
 use Rattle.calls.proofs.steps.zero_step.Statement.{statement}
 use Rattle.calls.proofs.steps.zero_step.Tie as tie
-use Rattle.calls.proofs.steps.zero_step.Reads as reads
-use Rattle.calls.proofs.steps.zero_step.Lts as lts
 
 returns : tie.Need-returns
 unfolding zeroStep

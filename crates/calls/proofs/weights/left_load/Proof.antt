@@ -5,14 +5,11 @@ use borrow.Author.Needs.{needs}
 use Rattle.calls.proofs.weights.left_load.Statement.{statement}
 use Rattle.calls.proofs.weights.left_load.Tie as tie
 
-plus-load-requires : tie.Need-plus-load-requires
-plus-load-requires c κs = search needs
-
-minus-load-requires : tie.Need-minus-load-requires
-minus-load-requires c κs = left-there ((c .before .before .before .pre)) ((c .plus-load) .ensures)
+less-requires : tie.Need-less-requires
+less-requires c κs = left-there ((c .before .before .before .pre)) ((c .more) .ensures)
 
 returns : tie.Need-returns
-returns c = left-is ((c .before .before .before .before .pre)) ((c .before .plus-load) .ensures) ((c .minus-load) .ensures)
+returns c = left-is ((c .before .before .before .before .pre)) ((c .before .more) .ensures) ((c .less) .ensures)
 
 pub left-load-spec : {M : Type 1} → statement M
-left-load-spec = tie.close (tie.spec plus-load-requires minus-load-requires returns)
+left-load-spec = tie.close (tie.spec (λ c κs. search needs) less-requires returns)

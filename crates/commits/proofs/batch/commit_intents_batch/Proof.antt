@@ -1,44 +1,28 @@
 -- `commits::batch::commit_intents_batch` meets its contract: 6, 5, its head, or its keys decide (`BatchLaws`).
 -- Assumes nothing.
+use Rattle.applies.specs.Applies.{endingFor}
 use Rattle.calls.proofs.SettledLaws.{is-accepted, is-refusal}
-use Rattle.commits.proofs.BatchLaws.{batch-form, batch-empty, batch-asks, batch-head, batch-all}
+use Rattle.commits.proofs.BatchLaws.{batch-refused, batch-asks, batch-done}
 use borrow.Author.Needs.{needs}
 use Rattle.commits.proofs.batch.commit_intents_batch.Statement.{statement}
 use Rattle.commits.proofs.batch.commit_intents_batch.Tie as tie
 
-keys-of-requires : tie.Need-keys-of-requires
-keys-of-requires c κs = search needs
-
 returns : tie.Need-returns
-returns c = batch-form ((c .before .before .before .before .before .pre)) (record { txn = (c .before .before .before .before .before .args) .txn; start = (c .before .before .before .before .before .args) .start; commit = (c .before .before .before .before .before .args) .commit }) ((c .before .before .keys-of) .ensures) ((c .if1) .taken)
-
-returns-2 : tie.Need-returns-2
-returns-2 c = batch-empty ((c .before .before .before .before .before .before .pre)) (record { txn = (c .before .before .before .before .before .before .args) .txn; start = (c .before .before .before .before .before .before .args) .start; commit = (c .before .before .before .before .before .before .args) .commit }) ((c .before .before .before .keys-of) .ensures) ((c .before .if1) .left) ((c .if2) .taken)
-
-ending-step-requires : tie.Need-ending-step-requires
-ending-step-requires c κs = search needs
-
-accepted-requires : tie.Need-accepted-requires
-accepted-requires c κs = search needs
-
-returns-3 : tie.Need-returns-3
-returns-3 c = batch-head ((c .before .before .before .before .before .before .before .before .before .pre)) (record { txn = (c .before .before .before .before .before .before .before .before .before .args) .txn; start = (c .before .before .before .before .before .before .before .before .before .args) .start; commit = (c .before .before .before .before .before .before .before .before .before .args) .commit }) ((c .before .before .before .before .before .before .keys-of) .ensures) ((c .before .before .before .before .if1) .left) ((c .before .before .before .if2) .left) ((c .before .before .ending-step) .ensures) (is-refusal _ ((c .before .accepted) .ensures) ((c .if3) .taken))
+returns c = let a = (c .before .before .before .before .before .args) in batch-refused (c .before .before .before .before .before .pre) (endingFor (a .txn) (a .start) (a .commit)) (c .before .before .before .keys-of .ensures) (c .before .before .head-step .ensures) (is-refusal _ (c .before .accepted .ensures) (c .if1 .taken))
 
 commit-all-requires : tie.Need-commit-all-requires
-commit-all-requires c κs = batch-asks ((c .before .before .before .before .before .before .before .before .before .before .pre)) (record { txn = (c .before .before .before .before .before .before .before .before .before .before .args) .txn; start = (c .before .before .before .before .before .before .before .before .before .before .args) .start; commit = (c .before .before .before .before .before .before .before .before .before .before .args) .commit }) ((c .before .before .before .before .before .before .before .keys-of) .ensures) ((c .before .before .before .before .before .if1) .left)
+commit-all-requires c κs = let a = (c .before .before .before .before .before .before .before .args) in batch-asks (c .before .before .before .before .before .before .before .pre) (endingFor (a .txn) (a .start) (a .commit)) (c .before .before .before .before .before .keys-of .ensures) (c .before .before .before .before .head-step .ensures) (is-accepted _ (c .before .before .before .accepted .ensures) (c .before .before .if1 .left))
 
-returns-4 : tie.Need-returns-4
-returns-4 c = batch-all ((c .before .before .before .before .before .before .before .before .before .before .before .pre)) (record { txn = (c .before .before .before .before .before .before .before .before .before .before .before .args) .txn; start = (c .before .before .before .before .before .before .before .before .before .before .before .args) .start; commit = (c .before .before .before .before .before .before .before .before .before .before .before .args) .commit }) ((c .before .before .before .before .before .before .before .before .keys-of) .ensures) ((c .before .before .before .before .before .before .if1) .left) ((c .before .before .before .before .before .if2) .left) ((c .before .before .before .before .ending-step) .ensures) (is-accepted _ ((c .before .before .before .accepted) .ensures) ((c .before .before .if3) .left)) ((c .commit-all) .ensures)
+returns-2 : tie.Need-returns-2
+returns-2 c = let a = (c .before .before .before .before .before .before .before .before .args) in batch-done (c .before .before .before .before .before .before .before .before .pre) (endingFor (a .txn) (a .start) (a .commit)) (c .before .before .before .before .before .before .keys-of .ensures) (c .before .before .before .before .before .head-step .ensures) (is-accepted _ (c .before .before .before .before .accepted .ensures) (c .before .before .before .if1 .left)) (c .commit-all .ensures)
 
 pub commit-intents-batch-spec : {M : Type 1} → statement M
 commit-intents-batch-spec =
     tie.close
     (tie.spec
-    keys-of-requires
+    (λ c κs. search needs)
+    (λ c κs. search needs)
+    (λ c κs. search needs)
     returns
-    returns-2
-    ending-step-requires
-    accepted-requires
-    returns-3
     commit-all-requires
-    returns-4)
+    returns-2)

@@ -4,12 +4,9 @@ use Rattle.rules.specs.Commit.{commit}
 use Rattle.demands.proofs.ties.commit_intent.Statement.{statement}
 use Rattle.demands.proofs.ties.commit_intent.Tie as tie
 
-commit-intent-requires : tie.Need-commit-intent-requires
-commit-intent-requires c κs = search needs
-
 returns : tie.Need-returns
 unfolding commit
 returns c buffer = c .commit-intent .ensures
 
 pub commit-intent-spec : {M : Type 1} → statement M
-commit-intent-spec = tie.close (tie.spec commit-intent-requires returns)
+commit-intent-spec = tie.close (tie.spec (λ c κs. search needs) returns)

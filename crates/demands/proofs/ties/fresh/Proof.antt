@@ -3,11 +3,8 @@ use borrow.Author.Needs.{needs}
 use Rattle.demands.proofs.ties.fresh.Statement.{statement}
 use Rattle.demands.proofs.ties.fresh.Tie as tie
 
-fresh-requires : tie.Need-fresh-requires
-fresh-requires c κs = search needs
-
 returns : tie.Need-returns
 returns c w long = c .fresh .ensures (w .area) long
 
 pub fresh-spec : {M : Type 1} → statement M
-fresh-spec = tie.close (tie.spec fresh-requires returns)
+fresh-spec = tie.close (tie.spec (λ c κs. search needs) returns)

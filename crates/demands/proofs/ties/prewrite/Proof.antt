@@ -4,15 +4,9 @@ use Rattle.rules.specs.Prewrite.{prewrite}
 use Rattle.demands.proofs.ties.prewrite.Statement.{statement}
 use Rattle.demands.proofs.ties.prewrite.Tie as tie
 
-prewrite-requires : tie.Need-prewrite-requires
-prewrite-requires c κs = search needs
-
-same-length : tie.Need-same-length
-same-length c = search needs
-
 returns : tie.Need-returns
 unfolding prewrite
-returns c buffer = c .before .before .prewrite .ensures
+returns c buffer = c .prewrite .ensures
 
 pub prewrite-spec : {M : Type 1} → statement M
-prewrite-spec = tie.close (tie.spec prewrite-requires same-length returns)
+prewrite-spec = tie.close (tie.spec (λ c κs. search needs) returns)

@@ -4,15 +4,9 @@ use Rattle.rules.specs.Rollback.{rollback}
 use Rattle.demands.proofs.ties.rollback_intent.Statement.{statement}
 use Rattle.demands.proofs.ties.rollback_intent.Tie as tie
 
-rollback-intent-requires : tie.Need-rollback-intent-requires
-rollback-intent-requires c κs = search needs
-
-same-length : tie.Need-same-length
-same-length c = search needs
-
 returns : tie.Need-returns
 unfolding rollback
-returns c buffer = c .before .before .rollback-intent .ensures
+returns c buffer = c .rollback-intent .ensures
 
 pub rollback-intent-spec : {M : Type 1} → statement M
-rollback-intent-spec = tie.close (tie.spec rollback-intent-requires same-length returns)
+rollback-intent-spec = tie.close (tie.spec (λ c κs. search needs) returns)

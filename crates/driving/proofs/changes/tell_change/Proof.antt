@@ -4,14 +4,8 @@ use borrow.Author.Needs.{needs}
 use Rattle.driving.proofs.changes.tell_change.Statement.{statement}
 use Rattle.driving.proofs.changes.tell_change.Tie as tie
 
-tell-plain-requires : tie.Need-tell-plain-requires
-tell-plain-requires c κs = search needs
-
-same-length : tie.Need-same-length
-same-length c = search needs
-
 returns : tie.Need-returns
 returns c = tells-change (c .before .before .before .before .before .before .pre) ((c .before .before .tell-plain) .ensures)
 
 pub tell-change-spec : {M : Type 1} → statement M
-tell-change-spec = tie.close (tie.spec tell-plain-requires same-length returns)
+tell-change-spec = tie.close (tie.spec (λ c κs. search needs) (λ c. search needs) returns)

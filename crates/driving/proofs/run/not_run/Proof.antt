@@ -6,14 +6,8 @@ use mathlib.Core.Path.{refl}
 use Rattle.driving.proofs.run.not_run.Statement.{statement}
 use Rattle.driving.proofs.run.not_run.Tie as tie
 
-tell-plain-requires : tie.Need-tell-plain-requires
-tell-plain-requires c κs = search needs
-
-same-length : tie.Need-same-length
-same-length c = search needs
-
 returns : tie.Need-returns
-returns c = showed _ 0 ((c .before .before .before .before .before .before .pre) .0) refl (omega arith) (omega arith) ((c .before .before .before .before .before .before .pre) .1) ((c .before .before .tell-plain) .ensures)
+returns c = showed _ 0 ((c .before .before .before .before .before .pre) .0) refl (omega arith) (omega arith) ((c .before .before .before .before .before .pre) .1) ((c .before .before .tell-plain) .ensures)
 
 pub not-run-spec : {M : Type 1} → statement M
-not-run-spec = tie.close (tie.spec tell-plain-requires same-length returns)
+not-run-spec = tie.close (tie.spec (λ c κs. search needs) (λ c. search needs) returns)

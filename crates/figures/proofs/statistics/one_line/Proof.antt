@@ -1,28 +1,40 @@
--- `figures::statistics::one_line` meets its contract, one law for each kind of line.
+-- `figures::statistics::one_line` meets its contract, one law for both kinds of line.
 -- Assumes nothing.
-use Rattle.figures.proofs.StatLaws.{line-lock, line-record}
+use native.Mathlib.Nat.{add-sub-cancel-left}
+use Rattle.figures.proofs.StatLaws.{line-counted}
+use mathlib.Core.Path.{_∙_}
 use borrow.Author.Needs.{needs}
 use Rattle.figures.proofs.statistics.one_line.Statement.{statement}
 use Rattle.figures.proofs.statistics.one_line.Tie as tie
 
-enum-told : tie.Need-enum-told
-enum-told c = search needs
-
-add-t8 : tie.Need-add-t8
-add-t8 c = search needs
-
-enum-told-2 : tie.Need-enum-told-2
-enum-told-2 c = search needs
-
-one-key-requires : tie.Need-one-key-requires
-one-key-requires c κs = search needs
-
 returns : tie.Need-returns
-returns c = line-lock (c .before .before .before .before .before .pre) ((c .before .enum-told) .given .1)
+returns c = line-counted (c .before .before .before .before .before .before .before .before .before .before .before .before .before .before .before .pre) ((c .before .before .before .before .line) .given .1) ((c .before .before .before .before .before .before .before .before .same) .ensures ∙ simp add-sub-cancel-left) ((c .before .before .if-row) .ensures .0) ((c .before .next-run) .ensures) ((c .next-run2) .ensures)
 
 returns-2 : tie.Need-returns-2
-returns-2 c = line-record (c .before .before .before .before .before .pre) ((c .before .enum-told2) .given .1) ((c .one-key) .ensures)
+returns-2 c = line-counted (c .before .before .before .before .before .before .before .before .before .before .before .before .before .before .before .pre) ((c .before .before .before .before .line2) .given .1) ((c .before .before .before .before .before .before .before .before .same) .ensures ∙ simp add-sub-cancel-left) ((c .before .before .if-row2) .ensures .0) ((c .before .next-run3) .ensures) ((c .next-run4) .ensures)
 
 pub one-line-spec : {M : Type 1} → statement M
 one-line-spec =
-    tie.close (tie.spec enum-told add-t8 enum-told-2 one-key-requires returns returns-2)
+    tie.close
+    (tie.spec
+    (λ c. search needs)
+    (λ c. search needs)
+    (λ c. search needs)
+    (λ c. search needs)
+    (λ c. search needs)
+    (λ c. search needs)
+    (λ c. search needs)
+    (λ c. search needs)
+    (λ c. search needs)
+    (λ c. search needs)
+    (λ c κs. search needs)
+    (λ c. search needs)
+    (λ c κs. search needs)
+    (λ c κs. search needs)
+    (λ c κs. search needs)
+    (λ c. search needs)
+    (λ c κs. search needs)
+    (λ c κs. search needs)
+    (λ c κs. search needs)
+    returns
+    returns-2)

@@ -11,11 +11,8 @@ returns c = class-below _ _ _ _ ((c .if1) .taken)
 returns-2 : tie.Need-returns-2
 returns-2 c = class-above _ _ _ _ ((c .before .if1) .left) ((c .if2) .taken)
 
-add-result : tie.Need-add-result
-add-result c = search needs
-
 returns-3 : tie.Need-returns-3
 returns-3 c = class-in _ _ _ _ ((c .before .if1) .left) ((c .if2) .left)
 
 pub from-to-spec : {M : Type 1} → statement M
-from-to-spec = tie.close (tie.spec returns returns-2 add-result returns-3)
+from-to-spec = tie.close (tie.spec returns returns-2 (λ c. search needs) returns-3)

@@ -6,17 +6,8 @@ use borrow.Author.Needs.{needs}
 use Rattle.forms.proofs.batch.decode.Statement.{statement}
 use Rattle.forms.proofs.batch.decode.Tie as tie
 
-number-at-requires : tie.Need-number-at-requires
-number-at-requires c κs = search needs
-
-no-entries-requires : tie.Need-no-entries-requires
-no-entries-requires c κs = search needs
-
 returns : tie.Need-returns
 returns c = rw ((c .no-entries) .ensures) (decode-short _ _ _ ((c .before .before .before .number-at) .ensures) ((c .before .if1) .taken))
-
-no-entries-requires-2 : tie.Need-no-entries-requires-2
-no-entries-requires-2 c κs = search needs
 
 returns-2 : tie.Need-returns-2
 returns-2 c = rw ((c .no-entries2) .ensures) (decode-many _ _ _ ((c .before .before .before .before .before .number-at) .ensures) ((c .before .before .before .if1) .left) ((c .before .if2) .taken))
@@ -31,10 +22,10 @@ pub decode-spec : {M : Type 1} → statement M
 decode-spec =
     tie.close
     (tie.spec
-    number-at-requires
-    no-entries-requires
+    (λ c κs. search needs)
+    (λ c κs. search needs)
     returns
-    no-entries-requires-2
+    (λ c κs. search needs)
     returns-2
     read-all-requires
     returns-3)

@@ -5,12 +5,9 @@ use borrow.Author.Needs.{needs}
 use Rattle.forms.proofs.batch.keys_of.Statement.{statement}
 use Rattle.forms.proofs.batch.keys_of.Tie as tie
 
-decode-requires : tie.Need-decode-requires
-decode-requires c κs = search needs
-
 returns : tie.Need-returns
 unfolding keys
 returns c = (c .decode) .ensures
 
 pub keys-of-spec : {M : Type 1} → statement M
-keys-of-spec = tie.close (tie.spec decode-requires returns)
+keys-of-spec = tie.close (tie.spec (λ c κs. search needs) returns)

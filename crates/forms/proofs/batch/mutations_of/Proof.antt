@@ -5,12 +5,9 @@ use borrow.Author.Needs.{needs}
 use Rattle.forms.proofs.batch.mutations_of.Statement.{statement}
 use Rattle.forms.proofs.batch.mutations_of.Tie as tie
 
-decode-requires : tie.Need-decode-requires
-decode-requires c κs = search needs
-
 returns : tie.Need-returns
 unfolding mutations
 returns c = (c .decode) .ensures
 
 pub mutations-of-spec : {M : Type 1} → statement M
-mutations-of-spec = tie.close (tie.spec decode-requires returns)
+mutations-of-spec = tie.close (tie.spec (λ c κs. search needs) returns)

@@ -13,17 +13,8 @@ Inv-loop s rows count prev₀ list₀ at₀ i₀ prev list at i = Reading rows s
 abbrev μ-loop : tie.MeasureT-loop
 μ-loop s rows count prev₀ list₀ at₀ i₀ prev list at i = count - i
 
-no-entry-requires : tie.Need-no-entry-requires Inv-loop μ-loop
-no-entry-requires c κs = search needs
-
 loop-holds : tie.Need-loop-holds Inv-loop μ-loop
 loop-holds c = reading-start _ _ _ (((c .before .before .pre)) .0) (((c .before .before .pre)) .1) ((c .no-entry) .ensures)
-
-step-at-requires : tie.Need-step-at-requires Inv-loop μ-loop
-step-at-requires c κs = search needs
-
-no-entries-requires : tie.Need-no-entries-requires Inv-loop μ-loop
-no-entries-requires c κs = search needs
 
 returns : tie.Need-returns Inv-loop μ-loop
 returns c = rw ((c .no-entries) .ensures) (reading-bad _ _ _ ((c .before .before .before .before .before .loop) .inv) ((c .before .before .before .step-at) .ensures) ((c .before .before .before .before .loop-test) .taken) ((c .before .if1) .taken))
@@ -31,29 +22,11 @@ returns c = rw ((c .no-entries) .ensures) (reading-bad _ _ _ ((c .before .before
 follows-requires : tie.Need-follows-requires Inv-loop μ-loop
 follows-requires c κs = ((c .before .before .before .before .before .loop) .inv .prev-in, (c .before .before .before .step-at) .ensures .inside)
 
-no-entries-requires-2 : tie.Need-no-entries-requires-2 Inv-loop μ-loop
-no-entries-requires-2 c κs = search needs
-
 returns-2 : tie.Need-returns-2 Inv-loop μ-loop
 returns-2 c = rw ((c .no-entries2) .ensures) (reading-low _ _ _ ((c .before .before .before .before .before .before .before .before .loop) .inv) ((c .before .before .before .before .before .before .step-at) .ensures) ((c .before .before .before .before .before .before .before .loop-test) .taken) ((c .before .before .before .before .if1) .left) ((c .before .before .follows) .ensures) ((c .before .if2) .taken))
 
-mul-list : tie.Need-mul-list Inv-loop μ-loop
-mul-list c = search needs
-
-array-set-from-list : tie.Need-array-set-from-list Inv-loop μ-loop
-array-set-from-list c = search needs
-
-add-i : tie.Need-add-i Inv-loop μ-loop
-add-i c = search needs
-
-loop-less : tie.Need-loop-less Inv-loop μ-loop
-loop-less c = search needs
-
 loop-again : tie.Need-loop-again Inv-loop μ-loop
 loop-again c = reading-more _ _ _ ((c .before .before .before .before .before .before .before .loop) .inv) ((c .before .before .before .before .before .step-at) .ensures) ((c .before .before .before .before .before .before .loop-test) .taken) ((c .before .before .before .if1) .left) ((c .before .follows) .ensures) ((c .if2) .left)
-
-no-entries-requires-3 : tie.Need-no-entries-requires-3 Inv-loop μ-loop
-no-entries-requires-3 c κs = search needs
 
 returns-3 : tie.Need-returns-3 Inv-loop μ-loop
 returns-3 c = rw ((c .no-entries3) .ensures) (reading-over _ _ _ ((c .before .before .before .loop) .inv) ((c .before .before .loop-test) .left) ((c .before .if3) .taken))
@@ -67,19 +40,19 @@ read-all-spec =
     (tie.spec
     Inv-loop
     μ-loop
-    no-entry-requires
+    (λ c κs. search needs)
     loop-holds
-    step-at-requires
-    no-entries-requires
+    (λ c κs. search needs)
+    (λ c κs. search needs)
     returns
     follows-requires
-    no-entries-requires-2
+    (λ c κs. search needs)
     returns-2
-    mul-list
-    array-set-from-list
-    add-i
-    loop-less
+    (λ c. search needs)
+    (λ c. search needs)
+    (λ c. search needs)
+    (λ c. search needs)
     loop-again
-    no-entries-requires-3
+    (λ c κs. search needs)
     returns-3
     returns-4)

@@ -6,18 +6,6 @@ use mathlib.Core.Path.{sym, ap, _∙_}
 use Rattle.forms.proofs.key.below.Statement.{statement}
 use Rattle.forms.proofs.key.below.Tie as tie
 
-compare-requires : tie.Need-compare-requires
-compare-requires c κs = search needs
-
-enum-told : tie.Need-enum-told
-enum-told c = search needs
-
-enum-told-2 : tie.Need-enum-told-2
-enum-told-2 c = search needs
-
-enum-told-3 : tie.Need-enum-told-3
-enum-told-3 c = search needs
-
 returns : tie.Need-returns
 unfolding ltBytes
 returns c = ap isLess (sym (c .enum-told .given .1) ∙ c .before .before .compare .ensures)
@@ -33,4 +21,4 @@ returns-3 c = ap isLess (sym (c .enum-told3 .given .1) ∙ c .before .before .co
 pub below-spec : {M : Type 1} → statement M
 below-spec =
     tie.close
-    (tie.spec compare-requires enum-told enum-told-2 enum-told-3 returns returns-2 returns-3)
+    (tie.spec (λ c κs. search needs) (λ c. search needs) (λ c. search needs) (λ c. search needs) returns returns-2 returns-3)

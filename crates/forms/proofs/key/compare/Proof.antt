@@ -20,29 +20,11 @@ loop-holds c = agree-start _ _
 returns : tie.Need-returns Inv-loop μ-loop
 returns c = agree-right-end (c .before .before .loop .inv) (c .before .loop-test .taken) (c .if1 .taken)
 
-shared-slice-read-if2 : tie.Need-shared-slice-read-if2 Inv-loop μ-loop
-shared-slice-read-if2 c = search needs
-
-shared-slice-read-if2-2 : tie.Need-shared-slice-read-if2-2 Inv-loop μ-loop
-shared-slice-read-if2-2 c = search needs
-
 returns-2 : tie.Need-returns-2 Inv-loop μ-loop
 returns-2 c = agree-less (c .before .before .before .before .before .loop .inv) (omega arith) (omega arith) (c .if2 .taken)
 
-shared-slice-read-if3 : tie.Need-shared-slice-read-if3 Inv-loop μ-loop
-shared-slice-read-if3 c = search needs
-
-shared-slice-read-if3-2 : tie.Need-shared-slice-read-if3-2 Inv-loop μ-loop
-shared-slice-read-if3-2 c = search needs
-
 returns-3 : tie.Need-returns-3 Inv-loop μ-loop
 returns-3 c = agree-greater (c .before .before .before .before .before .before .before .before .loop .inv) (omega arith) (omega arith) (c .if3 .taken)
-
-add-i : tie.Need-add-i Inv-loop μ-loop
-add-i c = search needs
-
-loop-less : tie.Need-loop-less Inv-loop μ-loop
-loop-less c = search needs
 
 loop-again : tie.Need-loop-again Inv-loop μ-loop
 loop-again c = agree-more (c .before .before .before .before .before .before .before .before .loop .inv) (omega arith) (omega arith) (omega arith) (omega arith)
@@ -61,14 +43,14 @@ compare-spec =
     μ-loop
     loop-holds
     returns
-    shared-slice-read-if2
-    shared-slice-read-if2-2
+    (λ c. search needs)
+    (λ c. search needs)
     returns-2
-    shared-slice-read-if3
-    shared-slice-read-if3-2
+    (λ c. search needs)
+    (λ c. search needs)
     returns-3
-    add-i
-    loop-less
+    (λ c. search needs)
+    (λ c. search needs)
     loop-again
     returns-4
     returns-5)

@@ -11,11 +11,8 @@ returns c = key-short _ (c .if1 .taken)
 returns-2 : tie.Need-returns-2
 returns-2 c = key-long _ (c .if2 .taken)
 
-number-at-requires : tie.Need-number-at-requires
-number-at-requires c κs = search needs
-
 returns-3 : tie.Need-returns-3
 returns-3 c = key-table (c .before .number-at .ensures) (c .before .before .before .if1 .left) (c .before .before .if2 .left)
 
 pub key-in-form-spec : {M : Type 1} → statement M
-key-in-form-spec = tie.close (tie.spec returns returns-2 number-at-requires returns-3)
+key-in-form-spec = tie.close (tie.spec returns returns-2 (λ c κs. search needs) returns-3)

@@ -14,20 +14,11 @@ Inv-loop s at w end value₀ i₀ value i = Reading w s at value i
 abbrev μ-loop : tie.MeasureT-loop
 μ-loop s at w end value₀ i₀ value i = at + w - i
 
-bytes-in-requires : tie.Need-bytes-in-requires Inv-loop μ-loop
-bytes-in-requires c κs = search needs
-
 returns : tie.Need-returns Inv-loop μ-loop
 returns c = rw (← c .before .bytes-in .ensures) (number-none _ _ _ (omega arith))
 
-sub-if2 : tie.Need-sub-if2 Inv-loop μ-loop
-sub-if2 c = search needs
-
 returns-2 : tie.Need-returns-2 Inv-loop μ-loop
 returns-2 c = rw (← c .before .before .bytes-in .ensures) (number-none _ _ _ (omega (arith, width-some (c .before .before .before .before .args .width))))
-
-add-end : tie.Need-add-end Inv-loop μ-loop
-add-end c = search needs
 
 loop-holds : tie.Need-loop-holds Inv-loop μ-loop
 loop-holds c = reading-start _ _ _ (omega (arith, width-small (c .before .before .before .before .args .width))) (omega arith)
@@ -47,9 +38,6 @@ add-value c = omega (arith, reading-fits (c .before .before .loop .inv) (omega a
 add-i : tie.Need-add-i Inv-loop μ-loop
 add-i c = omega arith
 
-loop-less : tie.Need-loop-less Inv-loop μ-loop
-loop-less c = search needs
-
 loop-again : tie.Need-loop-again Inv-loop μ-loop
 loop-again c = reading-more (c .before .before .loop .inv) (omega arith) (omega (arith, c .shared-slice-known2 .given (c .before .before .loop .i)))
 
@@ -62,17 +50,17 @@ number-at-spec =
     (tie.spec
     Inv-loop
     μ-loop
-    bytes-in-requires
+    (λ c κs. search needs)
     returns
-    sub-if2
+    (λ c. search needs)
     returns-2
-    add-end
+    (λ c. search needs)
     loop-holds
     mul-value
     shared-slice-read-value
     cast-value
     add-value
     add-i
-    loop-less
+    (λ c. search needs)
     loop-again
     returns-3)

@@ -13,9 +13,6 @@ Inv-loop out₀ value w i₀ v₀ out i v = Writing w value out₀ i v out
 abbrev μ-loop : tie.MeasureT-loop
 μ-loop out₀ value w i₀ v₀ out i v = i
 
-bytes-in-requires : tie.Need-bytes-in-requires Inv-loop μ-loop
-bytes-in-requires c κs = search needs
-
 returns : tie.Need-returns Inv-loop μ-loop
 returns c = rw (← c .before .bytes-in .ensures) (put-none _ _ _ (c .if1 .taken))
 
@@ -25,17 +22,8 @@ loop-holds c = writing-start _ _ _ (c .if1 .left)
 loop-again : tie.Need-loop-again Inv-loop μ-loop
 loop-again c = writing-more (c .before .loop .inv) (c .loop-test .taken)
 
-sub-i : tie.Need-sub-i Inv-loop μ-loop
-sub-i c = search needs
-
-cast-out : tie.Need-cast-out Inv-loop μ-loop
-cast-out c = search needs
-
 slice-write-out : tie.Need-slice-write-out Inv-loop μ-loop
 slice-write-out c = omega (arith, c .before .loop .inv .to, c .before .loop .inv .within, c .before .loop .inv .long)
-
-loop-less : tie.Need-loop-less Inv-loop μ-loop
-loop-less c = search needs
 
 same-length : tie.Need-same-length Inv-loop μ-loop
 same-length c = c .before .loop .inv .long
@@ -49,13 +37,13 @@ put-number-spec =
     (tie.spec
     Inv-loop
     μ-loop
-    bytes-in-requires
+    (λ c κs. search needs)
     returns
     loop-holds
-    sub-i
-    cast-out
+    (λ c. search needs)
+    (λ c. search needs)
     slice-write-out
-    loop-less
+    (λ c. search needs)
     loop-again
     same-length
     returns-2)

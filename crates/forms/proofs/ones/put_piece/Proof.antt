@@ -7,14 +7,8 @@ use mathlib.Core.Path.{sym}
 use Rattle.forms.proofs.ones.put_piece.Statement.{statement}
 use Rattle.forms.proofs.ones.put_piece.Tie as tie
 
-fitting-requires : tie.Need-fitting-requires
-fitting-requires c κs = search needs
-
 cast-put-byte : tie.Need-cast-put-byte
 cast-put-byte c = omega (arith, piece-short (c .before .before .before .before .args .s .now) (c .before .fitting .ensures))
-
-put-byte-requires : tie.Need-put-byte-requires
-put-byte-requires c κs = search needs
 
 slice-aggregate-append : tie.Need-slice-aggregate-append
 slice-aggregate-append c = sym (piece-long (c .before .before .before .before .before .before .before .before .before .args .s .now) (c .before .before .before .before .before .before .fitting .ensures))
@@ -25,11 +19,8 @@ append-requires c κs = omega (arith, piece-long (c .before .before .before .bef
 add-result : tie.Need-add-result
 add-result c = omega (arith, piece-short (c .before .before .before .before .before .before .before .before .before .before .before .before .args .s .now) (c .before .before .before .before .before .before .before .before .before .fitting .ensures), c .before .before .before .before .before .before .before .before .before .before .before .before .pre, c .before .before .before .before .before .before .before .put-byte .ensures .next)
 
-same-length : tie.Need-same-length
-same-length c = search needs
-
 returns : tie.Need-returns
 returns c = piece-grown (c .before .before .before .before .before .before .before .before .before .before .before .before .args .s .now) (c .before .before .before .before .before .before .before .before .before .fitting .ensures) (c .before .before .before .before .before .before .before .put-byte .ensures) (c .before .before .before .before .before .before .before .before .before .before .before .before .pre) (c .before .before .append .ensures)
 
 pub put-piece-spec : {M : Type 1} → statement M
-put-piece-spec = tie.close (tie.spec fitting-requires cast-put-byte put-byte-requires slice-aggregate-append append-requires add-result same-length returns)
+put-piece-spec = tie.close (tie.spec (λ c κs. search needs) cast-put-byte (λ c κs. search needs) slice-aggregate-append append-requires add-result (λ c. search needs) returns)

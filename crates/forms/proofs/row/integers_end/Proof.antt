@@ -9,32 +9,14 @@ use Rattle.forms.proofs.row.integers_end.Tie as tie
 returns : tie.Need-returns
 returns c = integers-none _ _ (c .if1 .taken)
 
-shared-slice-read-n : tie.Need-shared-slice-read-n
-shared-slice-read-n c = search needs
-
 cast-n : tie.Need-cast-n
 cast-n c = omega (arith, c .shared-slice-known .given (c .before .before .args .at))
 
 returns-2 : tie.Need-returns-2
 returns-2 c = integers-many _ _ (c .before .before .if1 .left) (c .if2 .taken)
 
-mul-size : tie.Need-mul-size
-mul-size c = search needs
-
-sub-if3 : tie.Need-sub-if3
-sub-if3 c = search needs
-
-sub-if3-2 : tie.Need-sub-if3-2
-sub-if3-2 c = search needs
-
 returns-3 : tie.Need-returns-3
 returns-3 c = integers-short _ _ (c .before .before .before .if1 .left) (c .before .if2 .left) (c .if3 .taken)
-
-add-t5 : tie.Need-add-t5
-add-t5 c = search needs
-
-add-t9 : tie.Need-add-t9
-add-t9 c = search needs
 
 returns-4 : tie.Need-returns-4
 returns-4 c = integers-good _ _ (c .before .before .before .if1 .left) (c .before .if2 .left) (c .if3 .left)
@@ -44,13 +26,13 @@ integers-end-spec =
     tie.close
     (tie.spec
     returns
-    shared-slice-read-n
+    (λ c. search needs)
     cast-n
     returns-2
-    mul-size
-    sub-if3
-    sub-if3-2
+    (λ c. search needs)
+    (λ c. search needs)
+    (λ c. search needs)
     returns-3
-    add-t5
-    add-t9
+    (λ c. search needs)
+    (λ c. search needs)
     returns-4)

@@ -16,20 +16,11 @@ abbrev μ-loop : tie.MeasureT-loop
 loop-holds : tie.Need-loop-holds Inv-loop μ-loop
 loop-holds c = passing-start _ (c .before .pre)
 
-part-at-requires : tie.Need-part-at-requires Inv-loop μ-loop
-part-at-requires c κs = search needs
-
 returns : tie.Need-returns Inv-loop μ-loop
 returns c = passing-bad (c .before .before .before .before .loop .inv) (c .before .before .part-at .ensures) (c .before .before .before .loop-test .taken) (c .if1 .taken)
 
 add-end : tie.Need-add-end Inv-loop μ-loop
 add-end c = omega (arith, c .before .before .before .part-at .ensures .within)
-
-sub-left : tie.Need-sub-left Inv-loop μ-loop
-sub-left c = search needs
-
-loop-less : tie.Need-loop-less Inv-loop μ-loop
-loop-less c = search needs
 
 loop-again : tie.Need-loop-again Inv-loop μ-loop
 loop-again c = passing-more (c .before .before .before .before .before .loop .inv) (c .before .before .before .part-at .ensures) (c .before .before .before .before .loop-test .taken) (c .before .if1 .left)
@@ -44,10 +35,10 @@ pieces-end-spec =
     Inv-loop
     μ-loop
     loop-holds
-    part-at-requires
+    (λ c κs. search needs)
     returns
     add-end
-    sub-left
-    loop-less
+    (λ c. search needs)
+    (λ c. search needs)
     loop-again
     returns-2)

@@ -11,14 +11,8 @@ returns c = row-tiny _ (c .if1 .taken)
 returns-2 : tie.Need-returns-2
 returns-2 c = row-long _ (c .if2 .taken)
 
-integers-end-requires : tie.Need-integers-end-requires
-integers-end-requires c κs = search needs
-
 returns-3 : tie.Need-returns-3
 returns-3 c = row-integers _ (c .before .before .before .before .if1 .left) (c .before .before .before .if2 .left) (c .before .before .integers-end .ensures) (c .if3 .taken)
-
-texts-end-requires : tie.Need-texts-end-requires
-texts-end-requires c κs = search needs
 
 returns-4 : tie.Need-returns-4
 returns-4 c = row-no-texts _ (c .before .before .before .before .before .before .before .if1 .left) (c .before .before .before .before .before .before .if2 .left) (c .before .before .before .before .before .integers-end .ensures) (c .before .before .before .if3 .left) (c .before .before .texts-end .ensures) (c .if4 .taken)
@@ -32,8 +26,8 @@ row-in-form-spec =
     (tie.spec
     returns
     returns-2
-    integers-end-requires
+    (λ c κs. search needs)
     returns-3
-    texts-end-requires
+    (λ c κs. search needs)
     returns-4
     returns-5)

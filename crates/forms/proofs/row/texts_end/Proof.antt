@@ -9,20 +9,11 @@ use Rattle.forms.proofs.row.texts_end.Tie as tie
 returns : tie.Need-returns
 returns c = texts-none _ _ (c .if1 .taken)
 
-shared-slice-read-n : tie.Need-shared-slice-read-n
-shared-slice-read-n c = search needs
-
 cast-n : tie.Need-cast-n
 cast-n c = omega (arith, c .shared-slice-known2 .given (c .before .before .before .args .at))
 
 returns-2 : tie.Need-returns-2
 returns-2 c = texts-many _ _ (c .before .before .if1 .left) (c .if2 .taken)
-
-add-pieces-end : tie.Need-add-pieces-end
-add-pieces-end c = search needs
-
-pieces-end-requires : tie.Need-pieces-end-requires
-pieces-end-requires c κs = search needs
 
 returns-3 : tie.Need-returns-3
 returns-3 c = texts-good _ _ (c .before .before .before .if1 .left) (c .before .if2 .left) (c .pieces-end .ensures)
@@ -32,9 +23,9 @@ texts-end-spec =
     tie.close
     (tie.spec
     returns
-    shared-slice-read-n
+    (λ c. search needs)
     cast-n
     returns-2
-    add-pieces-end
-    pieces-end-requires
+    (λ c. search needs)
+    (λ c κs. search needs)
     returns-3)

@@ -2,9 +2,7 @@ use Rattle.forms.proofs.NumberLaws.{number-long}
 use Rattle.images.proofs.EntryLaws.{entry-no-key, entry-no-one, entry-no-piece, entry-no-tail, entry-good}
 use borrow.Author.Needs.{needs}
 use native.Mathlib.Omega.{arith}
-use Prim.Native.Nat.{ℕ, suc, _+_, _-_, _*_, _<_, _≤_}
-use mathlib.Core.Path.{_≡_, refl, sym, ap, _∙_}
-use lib.ListN.{length, getD, take, drop, set, length-set}
+use Prim.Native.Nat.{_-_}
 use borrow.Author.Needs.{needs}
 use Rattle.images.proofs.entries.entry_at.Statement.{statement}
 use Rattle.images.proofs.entries.entry_at.Tie as tie
@@ -16,23 +14,8 @@ use Rattle.images.proofs.entries.no_entry.Reads as no-entry-reads
 use Rattle.images.proofs.entries.piece_at.Reads as piece-at-reads
 use Rattle.images.proofs.entries.tail_at.Reads as tail-at-reads
 
-part-at-requires : tie.Need-part-at-requires
-part-at-requires c κs = search needs
-
-no-entry-requires : tie.Need-no-entry-requires
-no-entry-requires c κs = search needs
-
 returns : tie.Need-returns
 returns c = rw ((c .no-entry) .ensures) (entry-no-key _ ((c .before .before .before .part-at) .ensures) ((c .before .if1) .taken))
-
-add-a : tie.Need-add-a
-add-a c = search needs
-
-number-at-requires : tie.Need-number-at-requires
-number-at-requires c κs = search needs
-
-no-entry-requires-2 : tie.Need-no-entry-requires-2
-no-entry-requires-2 c κs = search needs
 
 returns-2 : tie.Need-returns-2
 returns-2 c = rw ((c .no-entry2) .ensures) (entry-no-one _ ((c .before .before .before .before .before .before .before .part-at) .ensures) ((c .before .before .before .before .before .if1) .left) ((c .before .before .before .number-at) .ensures) ((c .before .if2) .taken))
@@ -43,20 +26,11 @@ add-piece-at c = omega (arith, number-long ((c .before .before .number-at) .ensu
 piece-at-requires : tie.Need-piece-at-requires
 piece-at-requires c κs = omega (arith, number-long ((c .before .before .number-at) .ensures) ((c .if2) .left))
 
-no-entry-requires-3 : tie.Need-no-entry-requires-3
-no-entry-requires-3 c κs = search needs
-
 returns-3 : tie.Need-returns-3
 returns-3 c = rw ((c .no-entry3) .ensures) (entry-no-piece _ ((c .before .before .before .before .before .before .before .before .before .before .part-at) .ensures) ((c .before .before .before .before .before .before .before .before .if1) .left) ((c .before .before .before .before .before .before .number-at) .ensures) ((c .before .before .before .before .if2) .left) ((c .before .before .before .piece-at) .ensures) ((c .before .if3) .taken))
 
-add-tail-at : tie.Need-add-tail-at
-add-tail-at c = search needs
-
 tail-at-requires : tie.Need-tail-at-requires
 tail-at-requires c κs = (c .before .before .before .piece-at) .ensures .within
-
-no-entry-requires-4 : tie.Need-no-entry-requires-4
-no-entry-requires-4 c κs = search needs
 
 returns-4 : tie.Need-returns-4
 returns-4 c = rw ((c .no-entry4) .ensures) (entry-no-tail _ ((c .before .before .before .before .before .before .before .before .before .before .before .before .before .before .part-at) .ensures) ((c .before .before .before .before .before .before .before .before .before .before .before .before .if1) .left) ((c .before .before .before .before .before .before .before .before .before .before .number-at) .ensures) ((c .before .before .before .before .before .before .before .before .if2) .left) ((c .before .before .before .before .before .before .before .piece-at) .ensures) ((c .before .before .before .before .before .if3) .left) ((c .before .before .before .tail-at) .ensures) ((c .before .if4) .taken))
@@ -68,19 +42,19 @@ pub entry-at-spec : {M : Type 1} → statement M
 entry-at-spec =
     tie.close
     (tie.spec
-    part-at-requires
-    no-entry-requires
+    (λ c κs. search needs)
+    (λ c κs. search needs)
     returns
-    add-a
-    number-at-requires
-    no-entry-requires-2
+    (λ c. search needs)
+    (λ c κs. search needs)
+    (λ c κs. search needs)
     returns-2
     add-piece-at
     piece-at-requires
-    no-entry-requires-3
+    (λ c κs. search needs)
     returns-3
-    add-tail-at
+    (λ c. search needs)
     tail-at-requires
-    no-entry-requires-4
+    (λ c κs. search needs)
     returns-4
     returns-5)

@@ -2,9 +2,7 @@ use Rattle.forms.proofs.NumberLaws.{number-long}
 use Rattle.images.proofs.EntryLaws.{tail-no-two, tail-no-three, tail-no-kind, tail-good}
 use borrow.Author.Needs.{needs}
 use native.Mathlib.Omega.{arith}
-use Prim.Native.Nat.{ℕ, suc, _+_, _-_, _*_, _<_, _≤_}
-use mathlib.Core.Path.{_≡_, refl, sym, ap, _∙_}
-use lib.ListN.{length, getD, take, drop, set, length-set}
+use Prim.Native.Nat.{_-_}
 use borrow.Author.Needs.{needs}
 use Rattle.images.proofs.entries.numbers_at.Statement.{statement}
 use Rattle.images.proofs.entries.numbers_at.Tie as tie
@@ -13,23 +11,11 @@ use Rattle.images.proofs.entries.numbers_at.Lts as lts
 use Rattle.forms.proofs.number_at.Reads as number-at-reads
 use Rattle.images.proofs.entries.no_tail.Reads as no-tail-reads
 
-number-at-requires : tie.Need-number-at-requires
-number-at-requires c κs = search needs
-
-no-tail-requires : tie.Need-no-tail-requires
-no-tail-requires c κs = search needs
-
 returns : tie.Need-returns
 returns c = rw ((c .no-tail) .ensures) (tail-no-two ((c .before .before .before .number-at) .ensures) ((c .before .if1) .taken))
 
 add-number-at : tie.Need-add-number-at
 add-number-at c = omega (arith, number-long ((c .before .before .number-at) .ensures) ((c .if1) .left))
-
-number-at-requires-2 : tie.Need-number-at-requires-2
-number-at-requires-2 c κs = search needs
-
-no-tail-requires-2 : tie.Need-no-tail-requires-2
-no-tail-requires-2 c κs = search needs
 
 returns-2 : tie.Need-returns-2
 returns-2 c = rw ((c .no-tail2) .ensures) (tail-no-three ((c .before .before .before .before .before .before .number-at) .ensures) ((c .before .before .before .before .if1) .left) ((c .before .before .before .number-at2) .ensures) ((c .before .if2) .taken))
@@ -37,17 +23,8 @@ returns-2 c = rw ((c .no-tail2) .ensures) (tail-no-three ((c .before .before .be
 add-b : tie.Need-add-b
 add-b c = omega (arith, number-long ((c .before .before .before .before .before .number-at) .ensures) ((c .before .before .before .if1) .left), number-long ((c .before .before .number-at2) .ensures) ((c .if2) .left))
 
-no-tail-requires-3 : tie.Need-no-tail-requires-3
-no-tail-requires-3 c κs = search needs
-
 returns-3 : tie.Need-returns-3
 returns-3 c = rw ((c .no-tail3) .ensures) (tail-no-kind ((c .before .before .before .before .before .before .before .number-at) .ensures) ((c .before .before .before .before .before .if1) .left) ((c .before .before .before .before .number-at2) .ensures) ((c .before .before .if2) .left) ((c .before .if3) .taken))
-
-shared-slice-read-t10 : tie.Need-shared-slice-read-t10
-shared-slice-read-t10 c = search needs
-
-add-t8 : tie.Need-add-t8
-add-t8 c = search needs
 
 returns-4 : tie.Need-returns-4
 returns-4 c = tail-good ((c .before .before .before .before .before .before .before .number-at) .ensures) ((c .before .before .before .before .before .if1) .left) ((c .before .before .before .before .number-at2) .ensures) ((c .before .before .if2) .left) ((c .before .if3) .left)
@@ -56,16 +33,16 @@ pub numbers-at-spec : {M : Type 1} → statement M
 numbers-at-spec =
     tie.close
     (tie.spec
-    number-at-requires
-    no-tail-requires
+    (λ c κs. search needs)
+    (λ c κs. search needs)
     returns
     add-number-at
-    number-at-requires-2
-    no-tail-requires-2
+    (λ c κs. search needs)
+    (λ c κs. search needs)
     returns-2
     add-b
-    no-tail-requires-3
+    (λ c κs. search needs)
     returns-3
-    shared-slice-read-t10
-    add-t8
+    (λ c. search needs)
+    (λ c. search needs)
     returns-4)

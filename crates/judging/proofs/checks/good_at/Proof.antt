@@ -1,9 +1,6 @@
-use Rattle.judging.proofs.PassLaws.{good-none, good-bad, good-good, entry-lies}
+use Rattle.judging.proofs.PassLaws.{good-none, good-bad, good-good}
 use borrow.Author.Needs.{needs}
-use native.Mathlib.Omega.{arith}
-use Prim.Native.Nat.{ℕ, suc, _+_, _-_, _*_, _<_, _≤_}
-use mathlib.Core.Path.{_≡_, refl, sym, ap, _∙_}
-use lib.ListN.{length, getD, take, drop, set, length-set}
+use Prim.Native.Nat.{_-_}
 use borrow.Author.Needs.{needs}
 use Rattle.judging.proofs.checks.good_at.Statement.{statement}
 use Rattle.judging.proofs.checks.good_at.Tie as tie
@@ -13,20 +10,11 @@ use Rattle.images.proofs.entry_at.Reads as entry-at-reads
 use Rattle.images.proofs.no_entry.Reads as no-entry-reads
 use Rattle.judging.proofs.checks.entry_good.Reads as entry-good-reads
 
-entry-at-requires : tie.Need-entry-at-requires
-entry-at-requires c κs = search needs
-
-no-entry-requires : tie.Need-no-entry-requires
-no-entry-requires c κs = search needs
-
 returns : tie.Need-returns
 returns c = rw ((c .no-entry) .ensures) (good-none _ _ ((c .before .before .before .entry-at) .ensures) ((c .before .if1) .taken))
 
 entry-good-requires : tie.Need-entry-good-requires
 entry-good-requires c κs = record { key-in = (c .before .before .entry-at) .ensures .key-in; piece-in = (c .before .before .entry-at) .ensures .piece-in }
-
-no-entry-requires-2 : tie.Need-no-entry-requires-2
-no-entry-requires-2 c κs = search needs
 
 returns-2 : tie.Need-returns-2
 returns-2 c = rw ((c .no-entry2) .ensures) (good-bad _ _ ((c .before .before .before .before .before .entry-at) .ensures) ((c .before .before .before .if1) .left) ((c .before .before .entry-good) .ensures) ((c .before .if2) .taken))
@@ -38,10 +26,10 @@ pub good-at-spec : {M : Type 1} → statement M
 good-at-spec =
     tie.close
     (tie.spec
-    entry-at-requires
-    no-entry-requires
+    (λ c κs. search needs)
+    (λ c κs. search needs)
     returns
     entry-good-requires
-    no-entry-requires-2
+    (λ c κs. search needs)
     returns-2
     returns-3)

@@ -1,9 +1,6 @@
 use Rattle.judging.proofs.GoodLaws.{table-no-key, table-is}
 use borrow.Author.Needs.{needs}
-use native.Mathlib.Omega.{arith}
-use Prim.Native.Nat.{ℕ, suc, _+_, _-_, _*_, _<_, _≤_}
-use mathlib.Core.Path.{_≡_, refl, sym, ap, _∙_}
-use lib.ListN.{length, getD, take, drop, set, length-set}
+use Prim.Native.Nat.{_-_}
 use borrow.Author.Needs.{needs}
 use Rattle.judging.proofs.checks.of_table.Statement.{statement}
 use Rattle.judging.proofs.checks.of_table.Tie as tie
@@ -12,17 +9,11 @@ use Rattle.judging.proofs.checks.of_table.Lts as lts
 use Rattle.forms.proofs.key_in_form.Reads as key-in-form-reads
 use Rattle.forms.proofs.number_at.Reads as number-at-reads
 
-key-in-form-requires : tie.Need-key-in-form-requires
-key-in-form-requires c κs = search needs
-
 returns : tie.Need-returns
 returns c = table-no-key _ _ ((c .before .key-in-form) .ensures) ((c .if1) .taken)
-
-number-at-requires : tie.Need-number-at-requires
-number-at-requires c κs = search needs
 
 returns-2 : tie.Need-returns-2
 returns-2 c = table-is _ _ ((c .before .before .before .key-in-form) .ensures) ((c .before .before .if1) .left) ((c .before .number-at) .ensures)
 
 pub of-table-spec : {M : Type 1} → statement M
-of-table-spec = tie.close (tie.spec key-in-form-requires returns number-at-requires returns-2)
+of-table-spec = tie.close (tie.spec (λ c κs. search needs) returns (λ c κs. search needs) returns-2)

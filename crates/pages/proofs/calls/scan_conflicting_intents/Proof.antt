@@ -1,24 +1,20 @@
--- `pages::calls::scan_conflicting_intents` meets its contract: what the walk judged, finished.
+-- `pages::calls::scan_conflicting_intents` meets its contract: the entries of the walk's page are their bytes.
 -- Assumes nothing.
-use Rattle.pages.proofs.PageLaws.{finish-asked, finished}
 use Rattle.rules.specs.Written.{scanConflictingIntents}
+use Rattle.pages.proofs.PageLaws.{paged-on}
 use borrow.Author.Needs.{needs}
+use native.Mathlib.Omega.{arith}
+use Prim.Native.Nat.{ℕ}
+use mathlib.Core.Path.{_≡_}
 use Rattle.pages.proofs.calls.scan_conflicting_intents.Statement.{statement}
 use Rattle.pages.proofs.calls.scan_conflicting_intents.Tie as tie
 
-judge-conflicts-requires : tie.Need-judge-conflicts-requires
-judge-conflicts-requires c κs = search needs
-
-finish-locks-requires : tie.Need-finish-locks-requires
-finish-locks-requires c κs = finish-asked ((c .before .before .before .before .before .before .before .args) .store) ((c .before .before .before .before .before .before .before .pre) .built) ((c .before .judge-conflicts) .ensures)
-
-same-length : tie.Need-same-length
-same-length c = search needs
+scan-requires : tie.Need-scan-requires
+scan-requires c κs = record { built = (c .before .before .before .before .before .before .pre) .built; large = λ e. let z : _≡_ {A = ℕ} 0 1 = cc in omega arith }
 
 returns : tie.Need-returns
 unfolding scanConflictingIntents
-returns c = finished _ ((c .before .before .before .before .judge-conflicts) .ensures) ((c .before .before .finish-locks) .ensures)
+returns c = paged-on _ _ _ ((c .before .before .scan) .ensures)
 
 pub scan-conflicting-intents-spec : {M : Type 1} → statement M
-scan-conflicting-intents-spec =
-    tie.close (tie.spec judge-conflicts-requires finish-locks-requires same-length returns)
+scan-conflicting-intents-spec = tie.close (tie.spec scan-requires (λ c. search needs) returns)

@@ -1,3 +1,5 @@
+-- `prewrites::heads::head_step` meets its contract.
+-- Assumes nothing.
 use Rattle.rules.specs.Prewrite.{headStep}
 use Rattle.laws.proofs.ChainLaws.{chain}
 use borrow.Author.Needs.{needs}
@@ -20,9 +22,6 @@ returns-4 : tie.Need-returns-4
 unfolding headStep
 returns-4 c = search chain depth 8
 
-key-in-form-requires : tie.Need-key-in-form-requires
-key-in-form-requires c κs = search needs
-
 returns-5 : tie.Need-returns-5
 unfolding headStep
 returns-5 c = search chain depth 9
@@ -43,7 +42,7 @@ head-step-spec =
     returns-2
     returns-3
     returns-4
-    key-in-form-requires
+    (λ c κs. search needs)
     returns-5
     returns-6
     returns-7)

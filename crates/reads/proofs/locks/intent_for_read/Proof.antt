@@ -1,12 +1,8 @@
--- `reads::locks::intent_for_read` meets its contract: the key's form, and of a key in form its lock, judged. Assumes nothing.
 use Rattle.laws.proofs.ChainLaws.{denied, granted}
-use Rattle.reads.proofs.LockLaws.{point-invalid, point-valid}
+use Rattle.reads.proofs.LockLaws.{point-invalid, point-nobody, point-above, point-lock}
 use borrow.Author.Needs.{needs}
 use Rattle.reads.proofs.locks.intent_for_read.Statement.{statement}
 use Rattle.reads.proofs.locks.intent_for_read.Tie as tie
-
-key-in-form-requires : tie.Need-key-in-form-requires
-key-in-form-requires c κs = search needs
 
 returns : tie.Need-returns
 returns c = point-invalid _ _ _ _ (denied _ _ ((c .before .key-in-form) .ensures) ((c .if1) .taken))
@@ -14,12 +10,24 @@ returns c = point-invalid _ _ _ _ (denied _ _ ((c .before .key-in-form) .ensures
 look-requires : tie.Need-look-requires
 look-requires c κs = (c .before .before .before .before .pre) .built
 
-judged-lock-requires : tie.Need-judged-lock-requires
-judged-lock-requires c κs = (c .look) .ensures .lock-in
-
 returns-2 : tie.Need-returns-2
-returns-2 c = point-valid _ _ ((c .before .look) .ensures) (granted _ _ ((c .before .before .before .key-in-form) .ensures) ((c .before .before .if1) .left)) ((c .judged-lock) .ensures)
+returns-2 c = point-above ((c .before .before .before .before .before .before .before .before .before .before .pre) .built) (granted _ _ ((c .before .before .before .before .before .before .before .before .key-in-form) .ensures) ((c .before .before .before .before .before .before .before .if1) .left)) ((c .before .before .before .before .before .look) .ensures) ((c .before .before .before .lock) .given .1) ((c .if2) .taken)
+
+returns-3 : tie.Need-returns-3
+returns-3 c = point-nobody ((c .before .before .before .before .before .before .before .pre) .built) (granted _ _ ((c .before .before .before .before .before .key-in-form) .ensures) ((c .before .before .before .before .if1) .left)) ((c .before .before .look) .ensures) ((c .enum-told) .given .1)
+
+returns-4 : tie.Need-returns-4
+returns-4 c = point-lock ((c .before .before .before .before .before .before .before .before .before .before .pre) .built) (granted _ _ ((c .before .before .before .before .before .before .before .before .key-in-form) .ensures) ((c .before .before .before .before .before .before .before .if1) .left)) ((c .before .before .before .before .before .look) .ensures) ((c .before .before .before .lock) .given .1) ((c .if2) .left)
 
 pub intent-for-read-spec : {M : Type 1} → statement M
 intent-for-read-spec =
-    tie.close (tie.spec key-in-form-requires returns look-requires judged-lock-requires returns-2)
+    tie.close
+    (tie.spec
+    (λ c κs. search needs)
+    returns
+    look-requires
+    (λ c. search needs)
+    (λ c. search needs)
+    returns-2
+    returns-3
+    returns-4)

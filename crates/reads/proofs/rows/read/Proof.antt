@@ -1,21 +1,36 @@
--- `reads::rows::read` meets its contract: the key's form, and of a key in form the steps of `read_key`. Assumes nothing.
 use Rattle.laws.proofs.ChainLaws.{denied, granted}
-use Rattle.reads.proofs.RowLaws.{read-invalid, read-on}
+use Rattle.reads.proofs.ReadLaws.{read-invalid, read-no, read-held, read-newest}
 use borrow.Author.Needs.{needs}
 use Rattle.reads.proofs.rows.read.Statement.{statement}
 use Rattle.reads.proofs.rows.read.Tie as tie
 
-key-in-form-requires : tie.Need-key-in-form-requires
-key-in-form-requires c κs = search needs
-
 returns : tie.Need-returns
 returns c = read-invalid _ _ _ _ (denied _ _ ((c .before .key-in-form) .ensures) ((c .if1) .taken))
 
-read-key-requires : tie.Need-read-key-requires
-read-key-requires c κs = (c .before .before .before .before .pre) .built
+look-requires : tie.Need-look-requires
+look-requires c κs = (c .before .before .before .before .pre) .built
 
 returns-2 : tie.Need-returns-2
-returns-2 c = read-on ((c .read-key) .ensures) (granted _ _ ((c .before .before .key-in-form) .ensures) ((c .before .if1) .left))
+returns-2 c = read-newest ((c .before .before .before .before .before .before .before .before .before .before .pre) .built) (granted _ _ ((c .before .before .before .before .before .before .before .before .key-in-form) .ensures) ((c .before .before .before .before .before .before .before .if1) .left)) ((c .before .before .before .before .before .look) .ensures) ((c .before .before .before .before .lock-lets) .ensures) ((c .before .before .enum-told) .given .1) ((c .newest-row) .ensures)
+
+returns-3 : tie.Need-returns-3
+returns-3 c = read-no ((c .before .before .before .before .before .before .before .before .before .pre) .built) (granted _ _ ((c .before .before .before .before .before .before .before .key-in-form) .ensures) ((c .before .before .before .before .before .before .if1) .left)) ((c .before .before .before .before .look) .ensures) ((c .before .before .before .lock-lets) .ensures) ((c .before .lets) .given .1)
+
+returns-4 : tie.Need-returns-4
+returns-4 c = read-held ((c .before .before .before .before .before .before .before .before .before .pre) .built) (granted _ _ ((c .before .before .before .before .before .before .before .key-in-form) .ensures) ((c .before .before .before .before .before .before .if1) .left)) ((c .before .before .before .before .look) .ensures) ((c .before .before .before .lock-lets) .ensures) ((c .before .lets2) .given .1)
 
 pub read-spec : {M : Type 1} → statement M
-read-spec = tie.close (tie.spec key-in-form-requires returns read-key-requires returns-2)
+read-spec =
+    tie.close
+    (tie.spec
+    (λ c κs. search needs)
+    returns
+    look-requires
+    (λ c κs. search needs)
+    (λ c. search needs)
+    (λ c κs. search needs)
+    (λ c. search needs)
+    (λ c. search needs)
+    returns-2
+    returns-3
+    returns-4)

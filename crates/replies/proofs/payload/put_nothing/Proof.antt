@@ -8,14 +8,8 @@ use Rattle.replies.proofs.payload.put_nothing.Tie as tie
 returns : tie.Need-returns
 returns c = nothing-short ((c .if1) .taken)
 
-byte-to-requires : tie.Need-byte-to-requires
-byte-to-requires c κs = search needs
-
-same-length : tie.Need-same-length
-same-length c = search needs
-
 returns-2 : tie.Need-returns-2
 returns-2 c = nothing-put ((c .before .before .before .before .if1) .left) ((c .before .before .byte-to) .ensures)
 
 pub put-nothing-spec : {M : Type 1} → statement M
-put-nothing-spec = tie.close (tie.spec returns byte-to-requires same-length returns-2)
+put-nothing-spec = tie.close (tie.spec returns (λ c κs. search needs) (λ c. search needs) returns-2)

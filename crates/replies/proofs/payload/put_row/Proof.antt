@@ -8,20 +8,8 @@ use Rattle.replies.proofs.payload.put_row.Tie as tie
 returns : tie.Need-returns
 returns c = row-short ((c .if1) .taken)
 
-sub-if2 : tie.Need-sub-if2
-sub-if2 c = search needs
-
 returns-2 : tie.Need-returns-2
 returns-2 c = row-long ((c .before .if1) .left) ((c .if2) .taken)
-
-byte-to-requires : tie.Need-byte-to-requires
-byte-to-requires c κs = search needs
-
-bytes-to-requires : tie.Need-bytes-to-requires
-bytes-to-requires c κs = search needs
-
-same-length : tie.Need-same-length
-same-length c = search needs
 
 returns-3 : tie.Need-returns-3
 returns-3 c = row-put ((c .before .before .before .before .before .before .before .before .before .if1) .left) ((c .before .before .before .before .before .before .before .before .if2) .left) ((c .before .before .before .before .before .before .byte-to) .ensures) ((c .before .before .bytes-to) .ensures)
@@ -29,4 +17,4 @@ returns-3 c = row-put ((c .before .before .before .before .before .before .befor
 pub put-row-spec : {M : Type 1} → statement M
 put-row-spec =
     tie.close
-    (tie.spec returns sub-if2 returns-2 byte-to-requires bytes-to-requires same-length returns-3)
+    (tie.spec returns (λ c. search needs) returns-2 (λ c κs. search needs) (λ c κs. search needs) (λ c. search needs) returns-3)

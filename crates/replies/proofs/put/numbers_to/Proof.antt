@@ -20,20 +20,8 @@ returns c = listing-none _ _ ((c .if1) .taken)
 loop-holds : tie.Need-loop-holds Inv-loop μ-loop
 loop-holds c = listing-start _ _ ((c .if1) .left)
 
-mul-number-to : tie.Need-mul-number-to Inv-loop μ-loop
-mul-number-to c = search needs
-
-shared-slice-read-number-to : tie.Need-shared-slice-read-number-to Inv-loop μ-loop
-shared-slice-read-number-to c = search needs
-
 number-to-requires : tie.Need-number-to-requires Inv-loop μ-loop
 number-to-requires c κs = listing-room ((c .before .before .before .loop) .inv) ((c .before .before .loop-test) .taken)
-
-add-i : tie.Need-add-i Inv-loop μ-loop
-add-i c = search needs
-
-loop-less : tie.Need-loop-less Inv-loop μ-loop
-loop-less c = search needs
 
 loop-again : tie.Need-loop-again Inv-loop μ-loop
 loop-again c = listing-more ((c .before .before .before .before .before .before .loop) .inv) ((c .before .before .before .before .before .loop-test) .taken) ((c .before .before .number-to) .ensures)
@@ -52,11 +40,11 @@ numbers-to-spec =
     μ-loop
     returns
     loop-holds
-    mul-number-to
-    shared-slice-read-number-to
+    (λ c. search needs)
+    (λ c. search needs)
     number-to-requires
-    add-i
-    loop-less
+    (λ c. search needs)
+    (λ c. search needs)
     loop-again
     same-length
     returns-2)

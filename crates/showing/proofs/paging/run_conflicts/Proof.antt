@@ -9,28 +9,19 @@ use borrow.Author.Needs.{needs}
 use Rattle.showing.proofs.paging.run_conflicts.Statement.{statement}
 use Rattle.showing.proofs.paging.run_conflicts.Tie as tie
 
-array-borrow-prefix-page : tie.Need-array-borrow-prefix-page
-array-borrow-prefix-page c = search needs
-
 slice-aggregate-tell-conflicts : tie.Need-slice-aggregate-tell-conflicts
-slice-aggregate-tell-conflicts c = sym (length-take-le _ _ (lent-fits 65535 ((c .before .before .before .before .pre) .places .buffer)))
-
-tell-conflicts-requires : tie.Need-tell-conflicts-requires
-tell-conflicts-requires c κs = search needs
-
-same-length : tie.Need-same-length
-same-length c = search needs
+slice-aggregate-tell-conflicts c = sym (length-take-le _ _ (lent-fits 65535 ((c .before .before .before .pre) .places .buffer)))
 
 returns : tie.Need-returns
 unfolding told
-returns c = showed _ 65535 ((c .before .before .before .before .before .before .before .before .before .pre) .made) refl (conflicts-short _ _ _ _ _ ((c .before .before .before .before .before .before .before .before .before .pre) .places .buffer)) (omega arith) ((c .before .before .before .before .before .before .before .before .before .pre) .long) (conflicts-lent _ _ _ _ _ 65535 ((c .before .before .before .before .before .before .before .before .before .pre) .places .buffer) ((c .before .before .before .tell-conflicts) .ensures))
+returns c = showed _ 65535 ((c .before .before .before .before .before .before .before .before .pre) .made) refl (conflicts-short _ _ _ _ _ ((c .before .before .before .before .before .before .before .before .pre) .places .buffer)) (omega arith) ((c .before .before .before .before .before .before .before .before .pre) .long) (conflicts-lent _ _ _ _ _ 65535 ((c .before .before .before .before .before .before .before .before .pre) .places .buffer) ((c .before .before .before .tell-conflicts) .ensures))
 
 pub run-conflicts-spec : {M : Type 1} → statement M
 run-conflicts-spec =
     tie.close
     (tie.spec
-    array-borrow-prefix-page
+    (λ c. search needs)
     slice-aggregate-tell-conflicts
-    tell-conflicts-requires
-    same-length
+    (λ c κs. search needs)
+    (λ c. search needs)
     returns)

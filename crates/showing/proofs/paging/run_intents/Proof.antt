@@ -9,28 +9,19 @@ use borrow.Author.Needs.{needs}
 use Rattle.showing.proofs.paging.run_intents.Statement.{statement}
 use Rattle.showing.proofs.paging.run_intents.Tie as tie
 
-array-borrow-prefix-page : tie.Need-array-borrow-prefix-page
-array-borrow-prefix-page c = search needs
-
 slice-aggregate-tell-intents : tie.Need-slice-aggregate-tell-intents
-slice-aggregate-tell-intents c = sym (length-take-le _ _ (lent-fits 65535 ((c .before .before .before .before .pre) .places .buffer)))
-
-tell-intents-requires : tie.Need-tell-intents-requires
-tell-intents-requires c κs = search needs
-
-same-length : tie.Need-same-length
-same-length c = search needs
+slice-aggregate-tell-intents c = sym (length-take-le _ _ (lent-fits 65535 ((c .before .before .before .pre) .places .buffer)))
 
 returns : tie.Need-returns
 unfolding told
-returns c = showed _ 65535 ((c .before .before .before .before .before .before .before .before .before .pre) .made) refl (intents-short _ _ _ _ ((c .before .before .before .before .before .before .before .before .before .pre) .places .buffer)) (omega arith) ((c .before .before .before .before .before .before .before .before .before .pre) .long) (intents-lent _ _ _ _ 65535 ((c .before .before .before .before .before .before .before .before .before .pre) .places .buffer) ((c .before .before .before .tell-intents) .ensures))
+returns c = showed _ 65535 ((c .before .before .before .before .before .before .before .before .pre) .made) refl (intents-short _ _ _ _ ((c .before .before .before .before .before .before .before .before .pre) .places .buffer)) (omega arith) ((c .before .before .before .before .before .before .before .before .pre) .long) (intents-lent _ _ _ _ 65535 ((c .before .before .before .before .before .before .before .before .pre) .places .buffer) ((c .before .before .before .tell-intents) .ensures))
 
 pub run-intents-spec : {M : Type 1} → statement M
 run-intents-spec =
     tie.close
     (tie.spec
-    array-borrow-prefix-page
+    (λ c. search needs)
     slice-aggregate-tell-intents
-    tell-intents-requires
-    same-length
+    (λ c κs. search needs)
+    (λ c. search needs)
     returns)

@@ -9,28 +9,19 @@ use borrow.Author.Needs.{needs}
 use Rattle.showing.proofs.paging.run_page.Statement.{statement}
 use Rattle.showing.proofs.paging.run_page.Tie as tie
 
-array-borrow-prefix-page : tie.Need-array-borrow-prefix-page
-array-borrow-prefix-page c = search needs
-
 slice-aggregate-tell-page : tie.Need-slice-aggregate-tell-page
-slice-aggregate-tell-page c = sym (length-take-le _ _ (lent-fits 65535 ((c .before .before .before .before .pre) .places .buffer)))
-
-tell-page-requires : tie.Need-tell-page-requires
-tell-page-requires c κs = search needs
-
-same-length : tie.Need-same-length
-same-length c = search needs
+slice-aggregate-tell-page c = sym (length-take-le _ _ (lent-fits 65535 ((c .before .before .before .pre) .places .buffer)))
 
 returns : tie.Need-returns
 unfolding told
-returns c = showed _ 65535 ((c .before .before .before .before .before .before .before .before .before .pre) .made) refl (page-short _ _ _ _ _ ((c .before .before .before .before .before .before .before .before .before .pre) .places .buffer)) (omega arith) ((c .before .before .before .before .before .before .before .before .before .pre) .long) (page-lent _ _ _ _ _ 65535 ((c .before .before .before .before .before .before .before .before .before .pre) .places .buffer) ((c .before .before .before .tell-page) .ensures))
+returns c = showed _ 65535 ((c .before .before .before .before .before .before .before .before .pre) .made) refl (page-short _ _ _ _ _ ((c .before .before .before .before .before .before .before .before .pre) .places .buffer)) (omega arith) ((c .before .before .before .before .before .before .before .before .pre) .long) (page-lent _ _ _ _ _ 65535 ((c .before .before .before .before .before .before .before .before .pre) .places .buffer) ((c .before .before .before .tell-page) .ensures))
 
 pub run-page-spec : {M : Type 1} → statement M
 run-page-spec =
     tie.close
     (tie.spec
-    array-borrow-prefix-page
+    (λ c. search needs)
     slice-aggregate-tell-page
-    tell-page-requires
-    same-length
+    (λ c κs. search needs)
+    (λ c. search needs)
     returns)

@@ -8,15 +8,6 @@ use mathlib.Core.Path.{sym, ap}
 use Rattle.showing.proofs.replying.pointed_answer.Statement.{statement}
 use Rattle.showing.proofs.replying.pointed_answer.Tie as tie
 
-enum-told : tie.Need-enum-told
-enum-told c = search needs
-
-enum-told-2 : tie.Need-enum-told-2
-enum-told-2 c = search needs
-
-enum-known-pointed : tie.Need-enum-known-pointed
-enum-known-pointed c = search needs
-
 returns : tie.Need-returns
 returns c = λ (area : Bytes). ap (λ (s : Pointed). answerOf (pointedIn area s)) (sym ((c .enum-told) .given .1))
 
@@ -28,4 +19,4 @@ returns-3 c = λ (area : Bytes). ap (λ (s : Pointed). answerOf (pointedIn area 
 
 pub pointed-answer-spec : {M : Type 1} → statement M
 pointed-answer-spec =
-    tie.close (tie.spec enum-told enum-told-2 enum-known-pointed returns returns-2 returns-3)
+    tie.close (tie.spec (λ c. search needs) (λ c. search needs) (λ c. search needs) returns returns-2 returns-3)

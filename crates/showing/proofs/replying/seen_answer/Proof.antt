@@ -8,15 +8,6 @@ use mathlib.Core.Path.{sym, ap}
 use Rattle.showing.proofs.replying.seen_answer.Statement.{statement}
 use Rattle.showing.proofs.replying.seen_answer.Tie as tie
 
-enum-told : tie.Need-enum-told
-enum-told c = search needs
-
-enum-told-2 : tie.Need-enum-told-2
-enum-told-2 c = search needs
-
-enum-known-seen : tie.Need-enum-known-seen
-enum-known-seen c = search needs
-
 returns : tie.Need-returns
 returns c = λ (area : Bytes). ap (λ (s : Seen). answerOf (seenIn area s)) (sym ((c .enum-told) .given .1))
 
@@ -28,4 +19,4 @@ returns-3 c = λ (area : Bytes). ap (λ (s : Seen). answerOf (seenIn area s)) (s
 
 pub seen-answer-spec : {M : Type 1} → statement M
 seen-answer-spec =
-    tie.close (tie.spec enum-told enum-told-2 enum-known-seen returns returns-2 returns-3)
+    tie.close (tie.spec (λ c. search needs) (λ c. search needs) (λ c. search needs) returns returns-2 returns-3)

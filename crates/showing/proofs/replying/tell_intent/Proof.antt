@@ -9,20 +9,8 @@ use mathlib.Core.Path.{sym}
 use Rattle.showing.proofs.replying.tell_intent.Statement.{statement}
 use Rattle.showing.proofs.replying.tell_intent.Tie as tie
 
-intent-for-read-requires : tie.Need-intent-for-read-requires
-intent-for-read-requires c κs = search needs
-
-pointed-answer-requires : tie.Need-pointed-answer-requires
-pointed-answer-requires c κs = search needs
-
-primary-of-requires : tie.Need-primary-of-requires
-primary-of-requires c κs = search needs
-
-slice-aggregate-put-pointed : tie.Need-slice-aggregate-put-pointed
-slice-aggregate-put-pointed c = search needs
-
 put-pointed-requires : tie.Need-put-pointed-requires
-put-pointed-requires c κs = primary-short ((c .before .before .before .intent-for-read) .ensures) (intent-short _ _ _) ((c .before .primary-of) .ensures)
+put-pointed-requires c κs = primary-short ((c .before .before .before .before .intent-for-read) .ensures) (intent-short _ _ _) ((c .before .primary-of) .ensures)
 
 array-share-prefix-payload : tie.Need-array-share-prefix-payload
 array-share-prefix-payload c = omega (arith, at-most 75 (search needs) ((c .before .before .put-pointed) .ensures))
@@ -30,26 +18,20 @@ array-share-prefix-payload c = omega (arith, at-most 75 (search needs) ((c .befo
 slice-aggregate-tell : tie.Need-slice-aggregate-tell
 slice-aggregate-tell c = sym (length-take-le _ _ (omega (arith, at-most 75 (search needs) ((c .before .before .before .put-pointed) .ensures))))
 
-tell-requires : tie.Need-tell-requires
-tell-requires c κs = search needs
-
-same-length : tie.Need-same-length
-same-length c = search needs
-
 returns : tie.Need-returns
-returns c = reply-told intentPayload _ 75 (pointed-answer ((c .before .before .before .before .before .before .before .before .before .before .intent-for-read) .ensures) ((c .before .before .before .before .before .before .before .before .before .pointed-answer) .ensures)) (pointed-payload ((c .before .before .before .before .before .before .before .before .before .before .intent-for-read) .ensures) ((c .before .before .before .before .before .before .before .before .primary-of) .ensures)) (intent-short _ _ _) (search needs) ((c .before .before .before .before .before .before .put-pointed) .ensures) ((c .before .before .tell) .ensures)
+returns c = reply-told intentPayload _ 75 (pointed-answer ((c .before .before .before .before .before .before .before .before .before .before .before .intent-for-read) .ensures) ((c .before .before .before .before .before .before .before .before .before .before .pointed-answer) .ensures)) (pointed-payload ((c .before .before .before .before .before .before .before .before .before .before .before .intent-for-read) .ensures) ((c .before .before .before .before .before .before .before .before .primary-of) .ensures)) (intent-short _ _ _) (search needs) ((c .before .before .before .before .before .before .put-pointed) .ensures) ((c .before .before .tell) .ensures)
 
 pub tell-intent-spec : {M : Type 1} → statement M
 tell-intent-spec =
     tie.close
     (tie.spec
-    intent-for-read-requires
-    pointed-answer-requires
-    primary-of-requires
-    slice-aggregate-put-pointed
+    (λ c κs. search needs)
+    (λ c κs. search needs)
+    (λ c κs. search needs)
+    (λ c. search needs)
     put-pointed-requires
     array-share-prefix-payload
     slice-aggregate-tell
-    tell-requires
-    same-length
+    (λ c κs. search needs)
+    (λ c. search needs)
     returns)

@@ -8,15 +8,9 @@ use mathlib.Core.Path.{refl}
 use Rattle.showing.proofs.shows.run_marks.Statement.{statement}
 use Rattle.showing.proofs.shows.run_marks.Tie as tie
 
-tell-marks-requires : tie.Need-tell-marks-requires
-tell-marks-requires c κs = search needs
-
-same-length : tie.Need-same-length
-same-length c = search needs
-
 returns : tie.Need-returns
 unfolding told
-returns c = showed _ 16 ((c .before .before .before .before .before .before .pre) .0) refl (marks-short _) (omega arith) ((c .before .before .before .before .before .before .pre) .1) ((c .before .before .tell-marks) .ensures)
+returns c = showed _ 16 ((c .before .before .before .before .before .pre) .0) refl (marks-short _) (omega arith) ((c .before .before .before .before .before .pre) .1) ((c .before .before .tell-marks) .ensures)
 
 pub run-marks-spec : {M : Type 1} → statement M
-run-marks-spec = tie.close (tie.spec tell-marks-requires same-length returns)
+run-marks-spec = tie.close (tie.spec (λ c κs. search needs) (λ c. search needs) returns)

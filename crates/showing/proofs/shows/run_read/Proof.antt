@@ -9,36 +9,18 @@ use mathlib.Core.Path.{refl}
 use Rattle.showing.proofs.shows.run_read.Statement.{statement}
 use Rattle.showing.proofs.shows.run_read.Tie as tie
 
-add-end : tie.Need-add-end
-add-end c = search needs
-
-sub-tell-read : tie.Need-sub-tell-read
-sub-tell-read c = search needs
-
-part-tell-read-start : tie.Need-part-tell-read-start
-part-tell-read-start c = search needs
-
-part-tell-read-end : tie.Need-part-tell-read-end
-part-tell-read-end c = search needs
-
-tell-read-requires : tie.Need-tell-read-requires
-tell-read-requires c κs = search needs
-
-same-length : tie.Need-same-length
-same-length c = search needs
-
 returns : tie.Need-returns
 unfolding told
-returns c = showed _ 256 ((c .before .before .before .before .before .before .before .before .before .pre) .made) refl (read-short _ _ _) (omega arith) ((c .before .before .before .before .before .before .before .before .before .pre) .long) (simp add-sub-cancel-left at ((c .before .before .tell-read) .ensures))
+returns c = showed _ 256 ((c .before .before .before .before .before .before .before .before .pre) .made) refl (read-short _ _ _) (omega arith) ((c .before .before .before .before .before .before .before .before .pre) .long) (simp add-sub-cancel-left at ((c .before .before .tell-read) .ensures))
 
 pub run-read-spec : {M : Type 1} → statement M
 run-read-spec =
     tie.close
     (tie.spec
-    add-end
-    sub-tell-read
-    part-tell-read-start
-    part-tell-read-end
-    tell-read-requires
-    same-length
+    (λ c. search needs)
+    (λ c. search needs)
+    (λ c. search needs)
+    (λ c. search needs)
+    (λ c κs. search needs)
+    (λ c. search needs)
     returns)

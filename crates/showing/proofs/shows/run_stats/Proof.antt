@@ -8,15 +8,9 @@ use mathlib.Core.Path.{refl}
 use Rattle.showing.proofs.shows.run_stats.Statement.{statement}
 use Rattle.showing.proofs.shows.run_stats.Tie as tie
 
-tell-stats-requires : tie.Need-tell-stats-requires
-tell-stats-requires c κs = search needs
-
-same-length : tie.Need-same-length
-same-length c = search needs
-
 returns : tie.Need-returns
 unfolding told
-returns c = showed _ 120 ((c .before .before .before .before .before .before .pre) .0) refl (stats-short _) (omega arith) ((c .before .before .before .before .before .before .pre) .1) ((c .before .before .tell-stats) .ensures)
+returns c = showed _ 120 ((c .before .before .before .before .before .pre) .0) refl (stats-short _) (omega arith) ((c .before .before .before .before .before .pre) .1) ((c .before .before .tell-stats) .ensures)
 
 pub run-stats-spec : {M : Type 1} → statement M
-run-stats-spec = tie.close (tie.spec tell-stats-requires same-length returns)
+run-stats-spec = tie.close (tie.spec (λ c κs. search needs) (λ c. search needs) returns)

@@ -4,22 +4,10 @@ use borrow.Author.Needs.{needs}
 use Rattle.showing.proofs.telling.tell.Statement.{statement}
 use Rattle.showing.proofs.telling.tell.Tie as tie
 
-number-of-requires : tie.Need-number-of-requires
-number-of-requires c κs = search needs
-
-holder-of-requires : tie.Need-holder-of-requires
-holder-of-requires c κs = search needs
-
-put-answer-requires : tie.Need-put-answer-requires
-put-answer-requires c κs = search needs
-
-same-length : tie.Need-same-length
-same-length c = search needs
-
 returns : tie.Need-returns
 returns c = tell-as (c .before .before .before .before .before .before .before .before .args .answer) (c .before .before .before .before .before .before .before .before .args .count) (c .before .before .before .before .before .before .before .before .args .payload .now) ((c .before .before .before .before .before .number-of) .ensures) ((c .before .before .before .before .holder-of) .ensures) ((c .before .before .put-answer) .ensures)
 
 pub tell-spec : {M : Type 1} → statement M
 tell-spec =
     tie.close
-    (tie.spec number-of-requires holder-of-requires put-answer-requires same-length returns)
+    (tie.spec (λ c κs. search needs) (λ c κs. search needs) (λ c κs. search needs) (λ c. search needs) returns)

@@ -7,26 +7,11 @@ use mathlib.Core.Path.{sym}
 use Rattle.showing.proofs.telling.tell_marks.Statement.{statement}
 use Rattle.showing.proofs.telling.tell_marks.Tie as tie
 
-allocator-high-water-marks-requires : tie.Need-allocator-high-water-marks-requires
-allocator-high-water-marks-requires c κs = search needs
-
-slice-aggregate-put-marks : tie.Need-slice-aggregate-put-marks
-slice-aggregate-put-marks c = search needs
-
-put-marks-requires : tie.Need-put-marks-requires
-put-marks-requires c κs = search needs
-
 array-share-prefix-payload : tie.Need-array-share-prefix-payload
 array-share-prefix-payload c = omega (arith, marks-count _ (search needs) ((c .before .before .put-marks) .ensures))
 
 slice-aggregate-tell : tie.Need-slice-aggregate-tell
 slice-aggregate-tell c = sym (length-take-le _ _ (omega (arith, marks-count _ (search needs) ((c .before .before .before .put-marks) .ensures))))
-
-tell-requires : tie.Need-tell-requires
-tell-requires c κs = search needs
-
-same-length : tie.Need-same-length
-same-length c = search needs
 
 returns : tie.Need-returns
 returns c = marks-told _ (search needs) ((c .before .before .before .before .before .before .put-marks) .ensures) _ ((c .before .before .before .before .before .before .before .before .allocator-high-water-marks) .ensures) ((c .before .before .tell) .ensures)
@@ -35,11 +20,11 @@ pub tell-marks-spec : {M : Type 1} → statement M
 tell-marks-spec =
     tie.close
     (tie.spec
-    allocator-high-water-marks-requires
-    slice-aggregate-put-marks
-    put-marks-requires
+    (λ c κs. search needs)
+    (λ c. search needs)
+    (λ c κs. search needs)
     array-share-prefix-payload
     slice-aggregate-tell
-    tell-requires
-    same-length
+    (λ c κs. search needs)
+    (λ c. search needs)
     returns)

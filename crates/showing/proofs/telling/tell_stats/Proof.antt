@@ -7,26 +7,11 @@ use mathlib.Core.Path.{sym}
 use Rattle.showing.proofs.telling.tell_stats.Statement.{statement}
 use Rattle.showing.proofs.telling.tell_stats.Tie as tie
 
-stats-requires : tie.Need-stats-requires
-stats-requires c κs = search needs
-
-slice-aggregate-put-stats : tie.Need-slice-aggregate-put-stats
-slice-aggregate-put-stats c = search needs
-
-put-stats-requires : tie.Need-put-stats-requires
-put-stats-requires c κs = search needs
-
 array-share-prefix-payload : tie.Need-array-share-prefix-payload
 array-share-prefix-payload c = omega (arith, stats-count _ (search needs) ((c .before .before .put-stats) .ensures))
 
 slice-aggregate-tell : tie.Need-slice-aggregate-tell
 slice-aggregate-tell c = sym (length-take-le _ _ (omega (arith, stats-count _ (search needs) ((c .before .before .before .put-stats) .ensures))))
-
-tell-requires : tie.Need-tell-requires
-tell-requires c κs = search needs
-
-same-length : tie.Need-same-length
-same-length c = search needs
 
 returns : tie.Need-returns
 returns c = stats-told _ (search needs) ((c .before .before .before .before .before .before .put-stats) .ensures) _ ((c .before .before .before .before .before .before .before .before .stats) .ensures) ((c .before .before .tell) .ensures)
@@ -35,11 +20,11 @@ pub tell-stats-spec : {M : Type 1} → statement M
 tell-stats-spec =
     tie.close
     (tie.spec
-    stats-requires
-    slice-aggregate-put-stats
-    put-stats-requires
+    (λ c κs. search needs)
+    (λ c. search needs)
+    (λ c κs. search needs)
     array-share-prefix-payload
     slice-aggregate-tell
-    tell-requires
-    same-length
+    (λ c κs. search needs)
+    (λ c. search needs)
     returns)

@@ -41,14 +41,8 @@ number-from-requires-4 c κs = (c .bound-from3) .ensures .goes .within
 rest-from-requires : tie.Need-rest-from-requires
 rest-from-requires c κs = (c .number-from4) .ensures .goes .within
 
-no-args-requires : tie.Need-no-args-requires
-no-args-requires c κs = search needs
-
 returns : tie.Need-returns
 returns c = rw ((c .no-args) .ensures) (args-bad (walked _ ((c .before .before .before .before .before .before .before .before .before .before .before .before .before .before .before .before .number-from) .ensures .goes) ((c .before .before .before .before .before .before .before .before .before .before .before .before .before .before .number-from2) .ensures .goes) ((c .before .before .before .before .before .before .before .before .before .before .before .before .number-from3) .ensures .goes) ((c .before .before .before .before .before .before .before .before .before .before .before .kind-from) .ensures) ((c .before .before .before .before .before .before .before .before .before .before .text-from) .ensures .goes) ((c .before .before .before .before .before .before .before .before .before .text-from2) .ensures .goes) ((c .before .before .before .before .before .before .before .before .text-from3) .ensures .goes) ((c .before .before .before .before .before .before .before .bound-from) .ensures .goes) ((c .before .before .before .before .before .before .bound-from2) .ensures .goes) ((c .before .before .before .before .before .bound-from3) .ensures .goes) ((c .before .before .before .before .number-from4) .ensures .goes) ((c .before .before .before .rest-from) .ensures .goes)) ((c .before .if1) .taken))
-
-no-args-requires-2 : tie.Need-no-args-requires-2
-no-args-requires-2 c κs = search needs
 
 returns-2 : tie.Need-returns-2
 returns-2 c = rw ((c .no-args2) .ensures) (args-left (walked _ ((c .before .before .before .before .before .before .before .before .before .before .before .before .before .before .before .before .before .before .number-from) .ensures .goes) ((c .before .before .before .before .before .before .before .before .before .before .before .before .before .before .before .before .number-from2) .ensures .goes) ((c .before .before .before .before .before .before .before .before .before .before .before .before .before .before .number-from3) .ensures .goes) ((c .before .before .before .before .before .before .before .before .before .before .before .before .before .kind-from) .ensures) ((c .before .before .before .before .before .before .before .before .before .before .before .before .text-from) .ensures .goes) ((c .before .before .before .before .before .before .before .before .before .before .before .text-from2) .ensures .goes) ((c .before .before .before .before .before .before .before .before .before .before .text-from3) .ensures .goes) ((c .before .before .before .before .before .before .before .before .before .bound-from) .ensures .goes) ((c .before .before .before .before .before .before .before .before .bound-from2) .ensures .goes) ((c .before .before .before .before .before .before .before .bound-from3) .ensures .goes) ((c .before .before .before .before .before .before .number-from4) .ensures .goes) ((c .before .before .before .before .before .rest-from) .ensures .goes)) ((c .before .before .before .if1) .left) ((c .before .if2) .taken))
@@ -72,8 +66,8 @@ args-for-spec =
     bound-from-requires-3
     number-from-requires-4
     rest-from-requires
-    no-args-requires
+    (λ c κs. search needs)
     returns
-    no-args-requires-2
+    (λ c κs. search needs)
     returns-2
     returns-3)

@@ -6,35 +6,14 @@ use native.Mathlib.Omega.{arith}
 use Rattle.traces.proofs.args.args_of.Statement.{statement}
 use Rattle.traces.proofs.args.args_of.Tie as tie
 
-no-args-requires : tie.Need-no-args-requires
-no-args-requires c κs = search needs
-
 returns : tie.Need-returns
 returns c = rw ((c .no-args) .ensures) (args-empty ((c .before .if1) .taken))
-
-shared-slice-read-b : tie.Need-shared-slice-read-b
-shared-slice-read-b c = search needs
-
-known-op-requires : tie.Need-known-op-requires
-known-op-requires c κs = search needs
-
-no-args-requires-2 : tie.Need-no-args-requires-2
-no-args-requires-2 c κs = search needs
 
 returns-2 : tie.Need-returns-2
 returns-2 c = rw ((c .no-args2) .ensures) (args-unknown (omega arith) ((c .before .before .known-op) .ensures) ((c .before .if2) .taken))
 
-shape-of-requires : tie.Need-shape-of-requires
-shape-of-requires c κs = search needs
-
-no-args-requires-3 : tie.Need-no-args-requires-3
-no-args-requires-3 c κs = search needs
-
 returns-3 : tie.Need-returns-3
 returns-3 c = rw ((c .no-args3) .ensures) (args-nameless (omega arith) ((c .before .before .before .before .before .known-op) .ensures) ((c .before .before .before .before .if2) .left) ((c .before .before .before .shape-of) .ensures) ((c .before .if3) .taken))
-
-args-for-requires : tie.Need-args-for-requires
-args-for-requires c κs = search needs
 
 returns-4 : tie.Need-returns-4
 returns-4 c = args-known (omega arith) ((c .before .before .before .before .before .known-op) .ensures) ((c .before .before .before .before .if2) .left) ((c .before .before .before .shape-of) .ensures) ((c .before .if3) .left) ((c .args-for) .ensures)
@@ -43,14 +22,14 @@ pub args-of-spec : {M : Type 1} → statement M
 args-of-spec =
     tie.close
     (tie.spec
-    no-args-requires
+    (λ c κs. search needs)
     returns
-    shared-slice-read-b
-    known-op-requires
-    no-args-requires-2
+    (λ c. search needs)
+    (λ c κs. search needs)
+    (λ c κs. search needs)
     returns-2
-    shape-of-requires
-    no-args-requires-3
+    (λ c κs. search needs)
+    (λ c κs. search needs)
     returns-3
-    args-for-requires
+    (λ c κs. search needs)
     returns-4)

@@ -5,38 +5,20 @@ use borrow.Author.Needs.{needs}
 use Rattle.traces.proofs.argument.bound_from.Statement.{statement}
 use Rattle.traces.proofs.argument.bound_from.Tie as tie
 
-no-bound-requires : tie.Need-no-bound-requires
-no-bound-requires c κs = search needs
-
 returns : tie.Need-returns
 returns c = rw ((c .no-bound) .ensures) (bound-stopped ((c .before .if1) .taken))
 
 returns-2 : tie.Need-returns-2
 returns-2 c = bound-past ((c .before .if1) .left) ((c .if2) .taken) (c .before .before .before .pre)
 
-no-bound-requires-2 : tie.Need-no-bound-requires-2
-no-bound-requires-2 c κs = search needs
-
 returns-3 : tie.Need-returns-3
 returns-3 c = rw ((c .no-bound2) .ensures) (bound-none ((c .before .before .before .if1) .left) ((c .before .before .if2) .left) ((c .before .if3) .taken))
-
-shared-slice-read-b : tie.Need-shared-slice-read-b
-shared-slice-read-b c = search needs
-
-add-f : tie.Need-add-f
-add-f c = search needs
 
 returns-4 : tie.Need-returns-4
 returns-4 c = bound-absent ((c .before .before .before .before .if1) .left) ((c .before .before .before .if2) .left) ((c .before .before .if3) .left) ((c .if4) .taken)
 
-text-from-requires : tie.Need-text-from-requires
-text-from-requires c κs = search needs
-
 returns-5 : tie.Need-returns-5
 returns-5 c = bound-present ((c .before .before .before .before .before .before .if1) .left) ((c .before .before .before .before .before .if2) .left) ((c .before .before .before .before .if3) .left) ((c .before .before .if4) .left) ((c .before .if5) .taken) ((c .text-from) .ensures)
-
-no-bound-requires-3 : tie.Need-no-bound-requires-3
-no-bound-requires-3 c κs = search needs
 
 returns-6 : tie.Need-returns-6
 returns-6 c = rw ((c .no-bound3) .ensures) (bound-other ((c .before .before .before .before .before .before .if1) .left) ((c .before .before .before .before .before .if2) .left) ((c .before .before .before .before .if3) .left) ((c .before .before .if4) .left) ((c .before .if5) .left))
@@ -45,15 +27,15 @@ pub bound-from-spec : {M : Type 1} → statement M
 bound-from-spec =
     tie.close
     (tie.spec
-    no-bound-requires
+    (λ c κs. search needs)
     returns
     returns-2
-    no-bound-requires-2
+    (λ c κs. search needs)
     returns-3
-    shared-slice-read-b
-    add-f
+    (λ c. search needs)
+    (λ c. search needs)
     returns-4
-    text-from-requires
+    (λ c κs. search needs)
     returns-5
-    no-bound-requires-3
+    (λ c κs. search needs)
     returns-6)

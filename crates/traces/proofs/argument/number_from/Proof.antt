@@ -12,14 +12,8 @@ returns c = value-stopped ((c .if1) .taken)
 returns-2 : tie.Need-returns-2
 returns-2 c = value-past ((c .before .if1) .left) ((c .if2) .taken) (c .before .before .before .pre)
 
-number-at-requires : tie.Need-number-at-requires
-number-at-requires c κs = search needs
-
 returns-3 : tie.Need-returns-3
 returns-3 c = value-none ((c .before .before .before .before .if1) .left) ((c .before .before .before .if2) .left) ((c .before .before .number-at) .ensures) ((c .if3) .taken)
-
-bytes-in-requires : tie.Need-bytes-in-requires
-bytes-in-requires c κs = search needs
 
 add-t9 : tie.Need-add-t9
 add-t9 c = omega (arith, (c .bytes-in) .ensures, number-in ((c .before .before .before .before .before .before .before .args) .width) ((c .before .before .before .number-at) .ensures) ((c .before .if3) .left))
@@ -30,4 +24,4 @@ returns-4 c = rw ((c .bytes-in) .ensures) (value-good ((c .before .before .befor
 pub number-from-spec : {M : Type 1} → statement M
 number-from-spec =
     tie.close
-    (tie.spec returns returns-2 number-at-requires returns-3 bytes-in-requires add-t9 returns-4)
+    (tie.spec returns returns-2 (λ c κs. search needs) returns-3 (λ c κs. search needs) add-t9 returns-4)

@@ -5,20 +5,14 @@ use borrow.Author.Needs.{needs}
 use Rattle.traces.proofs.argument.rest_from.Statement.{statement}
 use Rattle.traces.proofs.argument.rest_from.Tie as tie
 
-no-text-requires : tie.Need-no-text-requires
-no-text-requires c κs = search needs
-
 returns : tie.Need-returns
 returns c = rw ((c .no-text) .ensures) (text-stopped ((c .before .if1) .taken))
 
 returns-2 : tie.Need-returns-2
 returns-2 c = text-past ((c .before .if1) .left) ((c .if2) .taken) (c .before .before .before .pre)
 
-sub-t7 : tie.Need-sub-t7
-sub-t7 c = search needs
-
 returns-3 : tie.Need-returns-3
 returns-3 c = rest-good ((c .before .if1) .left) ((c .if2) .left) (c .before .before .before .pre)
 
 pub rest-from-spec : {M : Type 1} → statement M
-rest-from-spec = tie.close (tie.spec no-text-requires returns returns-2 sub-t7 returns-3)
+rest-from-spec = tie.close (tie.spec (λ c κs. search needs) returns returns-2 (λ c. search needs) returns-3)

@@ -7,20 +7,11 @@ use native.Mathlib.Omega.{arith}
 use Rattle.traces.proofs.argument.text_from.Statement.{statement}
 use Rattle.traces.proofs.argument.text_from.Tie as tie
 
-no-text-requires : tie.Need-no-text-requires
-no-text-requires c κs = search needs
-
 returns : tie.Need-returns
 returns c = rw ((c .no-text) .ensures) (text-stopped ((c .before .if1) .taken))
 
 returns-2 : tie.Need-returns-2
 returns-2 c = text-past ((c .before .if1) .left) ((c .if2) .taken) (c .before .before .before .pre)
-
-number-at-requires : tie.Need-number-at-requires
-number-at-requires c κs = search needs
-
-no-text-requires-2 : tie.Need-no-text-requires-2
-no-text-requires-2 c κs = search needs
 
 returns-3 : tie.Need-returns-3
 returns-3 c = rw ((c .no-text2) .ensures) (text-none ((c .before .before .before .before .before .if1) .left) ((c .before .before .before .before .if2) .left) ((c .before .before .before .number-at) .ensures) ((c .before .if3) .taken))
@@ -31,14 +22,8 @@ add-a c = omega (arith, number-long ((c .before .before .number-at) .ensures) ((
 sub-if4 : tie.Need-sub-if4
 sub-if4 c = omega (arith, number-long ((c .before .before .number-at) .ensures) ((c .if3) .left))
 
-no-text-requires-3 : tie.Need-no-text-requires-3
-no-text-requires-3 c κs = search needs
-
 returns-4 : tie.Need-returns-4
 returns-4 c = rw ((c .no-text3) .ensures) (text-short ((c .before .before .before .before .before .before .if1) .left) ((c .before .before .before .before .before .if2) .left) ((c .before .before .before .before .number-at) .ensures) ((c .before .before .if3) .left) ((c .before .if4) .taken))
-
-add-t10 : tie.Need-add-t10
-add-t10 c = search needs
 
 returns-5 : tie.Need-returns-5
 returns-5 c = text-good ((c .before .before .before .before .before .if1) .left) ((c .before .before .before .before .if2) .left) ((c .before .before .before .number-at) .ensures) ((c .before .if3) .left) ((c .if4) .left)
@@ -47,15 +32,15 @@ pub text-from-spec : {M : Type 1} → statement M
 text-from-spec =
     tie.close
     (tie.spec
-    no-text-requires
+    (λ c κs. search needs)
     returns
     returns-2
-    number-at-requires
-    no-text-requires-2
+    (λ c κs. search needs)
+    (λ c κs. search needs)
     returns-3
     add-a
     sub-if4
-    no-text-requires-3
+    (λ c κs. search needs)
     returns-4
-    add-t10
+    (λ c. search needs)
     returns-5)

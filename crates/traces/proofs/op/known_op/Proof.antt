@@ -4,14 +4,8 @@ use borrow.Author.Needs.{needs}
 use Rattle.traces.proofs.op.known_op.Statement.{statement}
 use Rattle.traces.proofs.op.known_op.Tie as tie
 
-slice-aggregate-is-in : tie.Need-slice-aggregate-is-in
-slice-aggregate-is-in c = search needs
-
-is-in-requires : tie.Need-is-in-requires
-is-in-requires c κs = search needs
-
 returns : tie.Need-returns
 returns c = c .is-in .ensures
 
 pub known-op-spec : {M : Type 1} → statement M
-known-op-spec = tie.close (tie.spec slice-aggregate-is-in is-in-requires returns)
+known-op-spec = tie.close (tie.spec (λ c. search needs) (λ c κs. search needs) returns)

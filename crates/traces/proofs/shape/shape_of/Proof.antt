@@ -7,54 +7,6 @@ use Rattle.traces.proofs.OpLaws.{at-op, no-op}
 use Rattle.traces.proofs.shape.shape_of.Statement.{statement}
 use Rattle.traces.proofs.shape.shape_of.Tie as tie
 
-with-key-requires : tie.Need-with-key-requires
-with-key-requires c κs = search needs
-
-with-page-requires : tie.Need-with-page-requires
-with-page-requires c κs = search needs
-
-with-page-requires-2 : tie.Need-with-page-requires-2
-with-page-requires-2 c κs = search needs
-
-with-page-requires-3 : tie.Need-with-page-requires-3
-with-page-requires-3 c κs = search needs
-
-with-key-requires-2 : tie.Need-with-key-requires-2
-with-key-requires-2 c κs = search needs
-
-with-key-requires-3 : tie.Need-with-key-requires-3
-with-key-requires-3 c κs = search needs
-
-with-rest-requires : tie.Need-with-rest-requires
-with-rest-requires c κs = search needs
-
-with-key-requires-4 : tie.Need-with-key-requires-4
-with-key-requires-4 c κs = search needs
-
-with-rest-requires-2 : tie.Need-with-rest-requires-2
-with-rest-requires-2 c κs = search needs
-
-with-key-requires-5 : tie.Need-with-key-requires-5
-with-key-requires-5 c κs = search needs
-
-with-rest-requires-3 : tie.Need-with-rest-requires-3
-with-rest-requires-3 c κs = search needs
-
-with-rest-requires-4 : tie.Need-with-rest-requires-4
-with-rest-requires-4 c κs = search needs
-
-with-rest-requires-5 : tie.Need-with-rest-requires-5
-with-rest-requires-5 c κs = search needs
-
-with-rest-requires-6 : tie.Need-with-rest-requires-6
-with-rest-requires-6 c κs = search needs
-
-with-rest-requires-7 : tie.Need-with-rest-requires-7
-with-rest-requires-7 c κs = search needs
-
-no-shape-requires : tie.Need-no-shape-requires
-no-shape-requires c κs = search needs
-
 returns : tie.Need-returns
 unfolding opOf
 returns c = at-op 1 (c .with-key .ensures) (c .before .match .keys1)
@@ -122,22 +74,22 @@ pub shape-of-spec : {M : Type 1} → statement M
 shape-of-spec =
     tie.close
     (tie.spec
-    with-key-requires
-    with-page-requires
-    with-page-requires-2
-    with-page-requires-3
-    with-key-requires-2
-    with-key-requires-3
-    with-rest-requires
-    with-key-requires-4
-    with-rest-requires-2
-    with-key-requires-5
-    with-rest-requires-3
-    with-rest-requires-4
-    with-rest-requires-5
-    with-rest-requires-6
-    with-rest-requires-7
-    no-shape-requires
+    (λ c κs. search needs)
+    (λ c κs. search needs)
+    (λ c κs. search needs)
+    (λ c κs. search needs)
+    (λ c κs. search needs)
+    (λ c κs. search needs)
+    (λ c κs. search needs)
+    (λ c κs. search needs)
+    (λ c κs. search needs)
+    (λ c κs. search needs)
+    (λ c κs. search needs)
+    (λ c κs. search needs)
+    (λ c κs. search needs)
+    (λ c κs. search needs)
+    (λ c κs. search needs)
+    (λ c κs. search needs)
     returns
     returns-2
     returns-3

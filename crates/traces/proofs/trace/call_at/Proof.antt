@@ -6,23 +6,11 @@ use native.Mathlib.Omega.{arith}
 use Rattle.traces.proofs.trace.call_at.Statement.{statement}
 use Rattle.traces.proofs.trace.call_at.Tie as tie
 
-number-at-requires : tie.Need-number-at-requires
-number-at-requires c κs = search needs
-
-no-call-requires : tie.Need-no-call-requires
-no-call-requires c κs = search needs
-
 returns : tie.Need-returns
 returns c = rw ((c .no-call) .ensures) (call-none ((c .before .before .before .number-at) .ensures) ((c .before .if1) .taken))
 
 add-b : tie.Need-add-b
 add-b c = omega (arith, call-in ((c .before .before .number-at) .ensures) ((c .if1) .left))
-
-number-at-requires-2 : tie.Need-number-at-requires-2
-number-at-requires-2 c κs = search needs
-
-no-call-requires-2 : tie.Need-no-call-requires-2
-no-call-requires-2 c κs = search needs
 
 returns-2 : tie.Need-returns-2
 returns-2 c = rw ((c .no-call2) .ensures) (call-cut ((c .before .before .before .before .before .before .before .before .number-at) .ensures) ((c .before .before .before .before .before .before .if1) .left) ((c .before .before .before .before .if2) .taken) ((c .before .before .before .number-at2) .ensures) ((c .before .if3) .taken))
@@ -46,12 +34,12 @@ pub call-at-spec : {M : Type 1} → statement M
 call-at-spec =
     tie.close
     (tie.spec
-    number-at-requires
-    no-call-requires
+    (λ c κs. search needs)
+    (λ c κs. search needs)
     returns
     add-b
-    number-at-requires-2
-    no-call-requires-2
+    (λ c κs. search needs)
+    (λ c κs. search needs)
     returns-2
     add-stretch-at
     stretch-at-requires

@@ -5,9 +5,6 @@ use borrow.Author.Needs.{needs}
 use Rattle.traces.proofs.trace.first_call.Statement.{statement}
 use Rattle.traces.proofs.trace.first_call.Tie as tie
 
-number-at-requires : tie.Need-number-at-requires
-number-at-requires c κs = search needs
-
 returns : tie.Need-returns
 returns c = first-none (c .before .before .number-at .ensures) (c .if1 .taken)
 
@@ -15,4 +12,4 @@ returns-2 : tie.Need-returns-2
 returns-2 c = first-some (c .before .before .number-at .ensures) (c .if1 .left)
 
 pub first-call-spec : {M : Type 1} → statement M
-first-call-spec = tie.close (tie.spec number-at-requires returns returns-2)
+first-call-spec = tie.close (tie.spec (λ c κs. search needs) returns returns-2)

@@ -8,9 +8,6 @@ use Rattle.traces.proofs.trace.stretch_at.Tie as tie
 sub-if1 : tie.Need-sub-if1
 sub-if1 c = (c .before .pre)
 
-no-call-requires : tie.Need-no-call-requires
-no-call-requires c κs = search needs
-
 returns : tie.Need-returns
 returns c = rw ((c .no-call) .ensures) (stretch-none _ _ _ ((c .before .if1) .taken))
 
@@ -18,4 +15,4 @@ returns-2 : tie.Need-returns-2
 returns-2 c = stretch-found _ _ _ (c .before .before .pre) ((c .if1) .left)
 
 pub stretch-at-spec : {M : Type 1} → statement M
-stretch-at-spec = tie.close (tie.spec sub-if1 no-call-requires returns returns-2)
+stretch-at-spec = tie.close (tie.spec sub-if1 (λ c κs. search needs) returns returns-2)

@@ -20,17 +20,11 @@ abbrev μ-loop : tie.MeasureT-loop
 returns : tie.Need-returns Inv-loop μ-loop
 returns c = trace-long _ ((c .if1) .taken)
 
-number-at-requires : tie.Need-number-at-requires Inv-loop μ-loop
-number-at-requires c κs = search needs
-
 returns-2 : tie.Need-returns-2 Inv-loop μ-loop
 returns-2 c = trace-empty ((c .before .before .before .if1) .left) ((c .before .before .number-at) .ensures) ((c .if2) .taken)
 
 loop-holds : tie.Need-loop-holds Inv-loop μ-loop
 loop-holds c = counting-start _ _ _ (trace-two ((c .before .before .number-at) .ensures) ((c .if2) .left))
-
-call-at-requires : tie.Need-call-at-requires Inv-loop μ-loop
-call-at-requires c κs = search needs
 
 returns-3 : tie.Need-returns-3 Inv-loop μ-loop
 returns-3 c = trace-counted ((c .before .before .before .before .before .before .before .before .if1) .left) ((c .before .before .before .before .before .before .before .number-at) .ensures) ((c .before .before .before .before .before .if2) .left) (counting-bad ((c .before .before .before .before .loop) .inv) ((c .before .before .before .loop-test) .taken) (call-bad ((c .before .before .call-at) .ensures) ((c .if3) .taken)))
@@ -47,17 +41,8 @@ part-args-of-start c = omega (arith, (c .before .before .before .call-at) .ensur
 part-args-of-end : tie.Need-part-args-of-end Inv-loop μ-loop
 part-args-of-end c = omega (arith, (c .before .before .before .call-at) .ensures .within)
 
-args-of-requires : tie.Need-args-of-requires Inv-loop μ-loop
-args-of-requires c κs = search needs
-
 returns-4 : tie.Need-returns-4 Inv-loop μ-loop
 returns-4 c = trace-counted ((c .before .before .before .before .before .before .before .before .before .before .before .before .before .if1) .left) ((c .before .before .before .before .before .before .before .before .before .before .before .before .number-at) .ensures) ((c .before .before .before .before .before .before .before .before .before .before .if2) .left) (counting-bad ((c .before .before .before .before .before .before .before .before .before .loop) .inv) ((c .before .before .before .before .before .before .before .before .loop-test) .taken) (reads-bad (call-reads ((c .before .before .before .before .before .before .before .call-at) .ensures) (simp add-sub-cancel-left at ((c .before .before .args-of) .ensures)) ((c .before .before .before .before .before .if3) .left)) ((c .if4) .taken)))
-
-sub-left : tie.Need-sub-left Inv-loop μ-loop
-sub-left c = search needs
-
-loop-less : tie.Need-loop-less Inv-loop μ-loop
-loop-less c = search needs
 
 loop-again : tie.Need-loop-again Inv-loop μ-loop
 loop-again c = counting-more ((c .before .before .before .before .before .before .before .before .before .loop) .inv) ((c .before .before .before .before .before .before .before .before .loop-test) .taken) (reads-good (call-reads ((c .before .before .before .before .before .before .before .call-at) .ensures) (simp add-sub-cancel-left at ((c .before .before .args-of) .ensures)) ((c .before .before .before .before .before .if3) .left)) ((c .if4) .left)) ((c .before .before .before .before .before .before .before .call-at) .ensures .within)
@@ -72,18 +57,18 @@ trace-in-form-spec =
     Inv-loop
     μ-loop
     returns
-    number-at-requires
+    (λ c κs. search needs)
     returns-2
     loop-holds
-    call-at-requires
+    (λ c κs. search needs)
     returns-3
     add-e
     sub-args-of
     part-args-of-start
     part-args-of-end
-    args-of-requires
+    (λ c κs. search needs)
     returns-4
-    sub-left
-    loop-less
+    (λ c. search needs)
+    (λ c. search needs)
     loop-again
     returns-5)

@@ -1,68 +1,34 @@
--- `walks::judge::judge_page` meets its contract: the arguments refuse, resume is at or past end, or the walk decides.
--- Assumes nothing.
-use Rattle.walks.proofs.JudgeLaws.{judge-no, judge-held, judge-past, judge-walk}
-use Rattle.rules.specs.Page.{page}
+use Rattle.walks.proofs.WalkLaws.{judge-past, judge-walk, judge-no, judge-held}
 use borrow.Author.Needs.{needs}
 use Rattle.walks.proofs.judge.judge_page.Statement.{statement}
 use Rattle.walks.proofs.judge.judge_page.Tie as tie
 
-page-arguments-requires : tie.Need-page-arguments-requires
-page-arguments-requires c κs = search needs
-
-enum-told : tie.Need-enum-told
-enum-told c = search needs
-
-past-end-requires : tie.Need-past-end-requires
-past-end-requires c κs = search needs
-
-empty-requires : tie.Need-empty-requires
-empty-requires c κs = search needs
-
 returns : tie.Need-returns
-unfolding page
-returns c = judge-past ((c .before .before .before .before .before .page-arguments) .ensures) _ _ ((c .before .before .before .enum-told) .given .1) ((c .before .before .past-end) .ensures) ((c .before .if1) .taken) ((c .empty) .ensures)
-
-walk-rows-requires : tie.Need-walk-rows-requires
-walk-rows-requires c κs = (c .before .before .before .before .before .before .before .before .before .pre) .built
-
-enum-known-arguments : tie.Need-enum-known-arguments
-enum-known-arguments c = search needs
-
-empty-requires-2 : tie.Need-empty-requires-2
-empty-requires-2 c κs = search needs
-
-enum-known-arguments-2 : tie.Need-enum-known-arguments-2
-enum-known-arguments-2 c = search needs
-
-empty-requires-3 : tie.Need-empty-requires-3
-empty-requires-3 c κs = search needs
+returns c = judge-past (c .before .before .before .before .before .before .before .before .before .before .pre) _ _ ((c .before .before .before .before .before .page-arguments) .ensures) ((c .before .before .before .enum-told) .given .1) ((c .before .before .past-end) .ensures) ((c .before .if1) .taken) ((c .empty) .ensures)
 
 returns-2 : tie.Need-returns-2
-unfolding page
-returns-2 c = judge-walk ((c .before .before .before .before .before .page-arguments) .ensures) _ _ ((c .before .before .before .enum-told) .given .1) ((c .before .before .past-end) .ensures) ((c .before .if1) .left) ((c .walk-rows) .ensures)
+returns-2 c = judge-walk (c .before .before .before .before .before .before .before .before .before .before .pre) _ _ ((c .before .before .before .before .before .page-arguments) .ensures) ((c .before .before .before .enum-told) .given .1) ((c .before .before .past-end) .ensures) ((c .before .if1) .left) ((c .walk-lines) .ensures)
 
 returns-3 : tie.Need-returns-3
-unfolding page
-returns-3 c = judge-no ((c .before .before .before .before .page-arguments) .ensures) _ _ ((c .before .before .arguments) .given .1) ((c .empty2) .ensures)
+returns-3 c = judge-no (c .before .before .before .before .before .before .before .before .before .pre) _ _ ((c .before .before .before .before .page-arguments) .ensures) ((c .before .before .arguments) .given .1) ((c .empty2) .ensures)
 
 returns-4 : tie.Need-returns-4
-unfolding page
-returns-4 c = judge-held ((c .before .before .before .before .page-arguments) .ensures) _ _ ((c .before .before .arguments2) .given .1) ((c .empty3) .ensures)
+returns-4 c = judge-held (c .before .before .before .before .before .before .before .before .before .pre) _ _ ((c .before .before .before .before .page-arguments) .ensures) ((c .before .before .arguments2) .given .1) ((c .empty3) .ensures)
 
 pub judge-page-spec : {M : Type 1} → statement M
 judge-page-spec =
     tie.close
     (tie.spec
-    page-arguments-requires
-    enum-told
-    past-end-requires
-    empty-requires
+    (λ c κs. search needs)
+    (λ c. search needs)
+    (λ c κs. search needs)
+    (λ c κs. search needs)
     returns
-    walk-rows-requires
-    enum-known-arguments
-    empty-requires-2
-    enum-known-arguments-2
-    empty-requires-3
+    (λ c κs. search needs)
+    (λ c. search needs)
+    (λ c κs. search needs)
+    (λ c. search needs)
+    (λ c κs. search needs)
     returns-2
     returns-3
     returns-4)

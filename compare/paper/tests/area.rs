@@ -1,0 +1,121 @@
+//! The model of the area: the bytes that each call brings, the place for which it asks, and what packing leaves.
+
+mod common;
+
+use common::*;
+use paper::area::{AREA, Area};
+use paper::store::{Kind, Store};
+use paper::trace::Call;
+
+/// A store with its area, and the bytes of the Rollbacks that filled it.
+#[derive(Default)]
+struct Filled {
+    store: Store,
+    area: Area,
+    keys: u16,
+    rolled_back: usize,
+}
+
+impl Filled {
+    /// The call is accepted: the bytes by which the top moved, or none if the area was packed anew.
+    fn run(&mut self, call: &Call) -> Option<usize> {
+        let gap = self.area.gap();
+        let (answer, packed) = self.area.run(&mut self.store, call);
+        assert_eq!(answer.number, 0, "{call:?}");
+        (!packed).then(|| gap - self.area.gap())
+    }
+
+    /// Rolls back a new key of this length, 7 to 48; it is locked with the longest row before, if asked.
+    fn rollback(&mut self, length: usize, locked: bool) {
+        self.keys += 1;
+        let mut new = key(&self.keys.to_be_bytes());
+        new.resize(length, b'n');
+        if locked {
+            let (start, kind, primary, row) = (1, Kind::Put, a(), [vec![0, 1, 252], vec![0; 252]].concat());
+            let key = new.clone();
+            let call = Call::Prewrite { transaction: TRANSACTION, start, time_to_live: 1, kind, primary, key, row };
+            assert_eq!(self.run(&call), Some(length + 16 + 255 + 8 + 5));
+        }
+        assert_eq!(self.run(&rollback(new, 1)), Some(length + 16));
+        self.rolled_back += length + 16;
+    }
+
+    /// Uses the area up to just so many bytes before its end, 63 or more.
+    fn close(&mut self, left: usize) {
+        while self.area.gap() > left {
+            match self.area.gap() - left {
+                over @ ..=64 => self.rollback(over - 16, false),
+                over @ ..=700 => self.rollback((over - 23).min(64) - 16, false),
+                _ => self.rollback(7, true),
+            }
+        }
+        assert_eq!(self.area.gap(), left);
+    }
+}
+
+fn key_batch(keys: [Vec<u8>; 2]) -> Vec<u8> {
+    let [first, second] = keys;
+    [vec![0, 2, 5], first, vec![5], second].concat()
+}
+
+fn commit_batch(keys: [Vec<u8>; 2], start: u64, commit: u64) -> Call {
+    Call::CommitBatch { transaction: TRANSACTION, start, commit, batch: key_batch(keys) }
+}
+
+fn rollback_batch(keys: [Vec<u8>; 2], start: u64) -> Call {
+    Call::RollbackBatch { transaction: TRANSACTION, start, batch: key_batch(keys) }
+}
+
+/// The stretches of keys of 5 bytes, rows of 2 and a primary of 5.
+const LOCK: usize = 5 + 16 + 2 + 8 + 5;
+const PUT: usize = 5 + 16 + 2;
+const ROLLBACK: usize = 5 + 16;
+
+#[test]
+fn each_call_brings_its_stretches() {
+    let mut all = Filled::default();
+    assert_eq!(all.run(&prewrite(a(), 10)), Some(LOCK));
+    assert_eq!(all.run(&prewrite(a(), 10)), Some(0), "a replay");
+    assert_eq!(all.run(&prewrite_batch(&[a(), b()], 10)), Some(LOCK), "one of two is new");
+    assert_eq!(all.run(&commit(a(), 10, 12)), Some(PUT));
+    assert_eq!(all.run(&commit(a(), 10, 12)), Some(0), "a replay");
+    assert_eq!(all.run(&commit_batch([a(), b()], 10, 12)), Some(PUT), "one of two is new");
+    assert_eq!(all.run(&rollback(a(), 13)), Some(ROLLBACK));
+    assert_eq!(all.run(&rollback_batch([a(), b()], 13)), Some(ROLLBACK), "one of two is new");
+    assert_eq!(all.run(&rollback_batch([a(), b()], 13)), Some(0), "a replay");
+    assert_eq!(all.run(&one_step(&[a(), b()], 14, 15)), Some(2 * PUT));
+    assert_eq!(all.run(&one_step(&[a(), b()], 14, 15)), Some(0), "a replay");
+    assert_eq!(all.run(&read(a(), 20)), Some(0));
+    let gap = all.area.gap();
+    assert_eq!(all.area.run(&mut all.store, &prewrite(a(), 14)).0.number, 8);
+    assert_eq!(all.area.gap(), gap, "a refused call leaves the area");
+    let (answer, packed) = all.area.run(&mut all.store, &restore(&image_of_lines(100, 3)));
+    assert_eq!((answer.number, packed), (0, false));
+    assert_eq!(AREA - all.area.gap(), 100 * (6 + 16) + 3 * (7 + 16 + 8 + 5));
+}
+
+/// A call packs the area if that lacks one byte of what the longest entries would need. Then what stands is left, the locks
+/// that the call ends among it, and what the call brings.
+#[test]
+fn each_call_asks_for_the_longest() {
+    let (c, d) = (|| key(b"c"), || key(b"d"));
+    for (asked, brought, call) in [
+        (375, LOCK, prewrite(b(), 10)),
+        (2 * 375, LOCK, prewrite_batch(&[a(), b()], 10)),
+        (319, PUT, commit(a(), 10, 12)),
+        (2 * 319, 2 * PUT, commit_batch([a(), c()], 10, 12)),
+        (64, ROLLBACK, rollback(a(), 10)),
+        (2 * 64, 2 * ROLLBACK, rollback_batch([b(), d()], 13)),
+        (2 * 319, 2 * PUT, one_step(&[a(), c()], 10, 12)),
+    ] {
+        for (left, packs) in [(asked, false), (asked - 1, true)] {
+            let mut filled = Filled::default();
+            filled.run(&prewrite_batch(&[a(), c()], 10));
+            filled.close(left);
+            assert_eq!(filled.run(&call), (!packs).then_some(brought), "{left} bytes left for {call:?}");
+            if packs {
+                assert_eq!(AREA - filled.area.gap(), 2 * LOCK + filled.rolled_back + brought, "{call:?}");
+            }
+        }
+    }
+}

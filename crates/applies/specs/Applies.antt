@@ -1,0 +1,61 @@
+-- What applying one entry asks, and what it leaves.
+-- Assumes nothing.
+use mathlib.Core.Path.{_≡_}
+use mathlib.Core.Bool.{Bool, true}
+use mathlib.Core.Option.{none}
+use Prim.Native.Nat.{ℕ, _+_, _≤_, _<_}
+use Rattle.forms.specs.Bytes.{Bytes}
+use Rattle.forms.specs.Key.{Key, keyForm}
+use Rattle.forms.specs.Row.{Row}
+use Rattle.forms.specs.Readers.{when}
+use Rattle.rules.specs.declared.answers.Answer.the-variants.{Accepted}
+use Rattle.rules.specs.Box as box
+use Rattle.rules.specs.Calls.{kindOf, allBelow, stampedAt}
+use Rattle.rules.specs.Prewrite.{Head, headStep, prewriteEntry}
+use Rattle.rules.specs.Commit.{Ending, endingStep, commitKey}
+use Rattle.rules.specs.Rollback.{rollbackKey}
+use Rattle.rules.specs.OneStep.{stepEntry}
+use Rattle.lines.specs.declared.store.Store.{Store}
+use Rattle.lines.specs.View.{boxOf}
+use Rattle.lines.specs.Made.{Built}
+use Rattle.stretches.specs.Changes.{entryFor, RowFits, Leaves}
+
+-- the definition's box; where that is the box that was, nothing has changed
+pub record Applied (st : Store) (area : Bytes) (b : box.Box) (top : ℕ) (r : Store) (area′ : Bytes) : Type 0 where
+  pub leaves : Leaves b top r area′
+  pub still : b ≡ boxOf st area → (r ≡ st) × (area′ ≡ area)
+
+abbrev pub endingFor : ℕ → ℕ → ℕ → Ending
+endingFor txn start commit = record { txn = txn; start = start; commit = commit }
+
+-- at most 375 bytes come: two keys of 48, a row of 255, three numbers
+pub record PrewriteAsks (st : Store) (area : Bytes) (h : Head) (key : Key) (put : Bool) (row : Row) : Type 0 where
+  pub built : Built st area
+  pub head : headStep h ≡ Accepted
+  pub passed : prewriteEntry h (boxOf st area) (entryFor key put row) ≡ Accepted
+  pub row-fits : RowFits (kindOf (when put row)) row
+  pub slot-free : box.lockOf key (boxOf st area .lines) ≡ none → st .load .lines < 1024
+  pub area-room : st .top + 375 ≤ 131072
+
+pub record CommitAsks (st : Store) (area : Bytes) (h : Ending) (key : Key) : Type 0 where
+  pub built : Built st area
+  pub head : endingStep h ≡ Accepted
+  pub passed : commitKey h (boxOf st area) key ≡ Accepted
+  pub area-room : st .top + 319 ≤ 131072
+
+pub record RollbackAsks (st : Store) (area : Bytes) (txn start : ℕ) (key : Key) : Type 0 where
+  pub built : Built st area
+  pub head : start ≡ 0 → ⊥
+  pub passed : rollbackKey txn start (boxOf st area) key ≡ Accepted
+  pub slot-free : stampedAt start (box.recordsOf key (boxOf st area .lines)) ≡ none → box.lockOf key (boxOf st area .lines) ≡ none → st .load .lines < 1024
+  pub area-room : st .top + 64 ≤ 131072
+
+pub record StepAsks (st : Store) (area : Bytes) (h : Ending) (key : Key) (put : Bool) (row : Row) : Type 0 where
+  pub built : Built st area
+  pub head : endingStep h ≡ Accepted
+  pub form : keyForm key ≡ true
+  pub row-fits : RowFits (kindOf (when put row)) row
+  pub passed : stepEntry h (boxOf st area) (entryFor key put row) ≡ Accepted
+  pub newest : allBelow (h .commit) (box.recordsOf key (boxOf st area .lines)) ≡ true
+  pub slot-free : box.lockOf key (boxOf st area .lines) ≡ none → st .load .lines < 1024
+  pub area-room : st .top + 319 ≤ 131072

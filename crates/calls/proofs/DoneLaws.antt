@@ -1,0 +1,140 @@
+-- The ways out of a changing call over a batch, for every check and every change of one entry: "batch 6, 5; ..", its entries, "Then 11".
+-- Assumes nothing.
+use Prim.Native.Nat.{ℕ, _*_}
+use mathlib.Core.Path.{_≡_, refl, sym, ap, _∙_, subst}
+use mathlib.Core.Bool.{Bool, true, false, not}
+use mathlib.Core.List.{List}
+use mathlib.Core.Option.{Option, none, some}
+use lib.Dec.{eqb}
+use borrow.Author.Tests.{not-true, not-false, eqb-true, eqb-false}
+use Rattle.seqs.specs.Tables.{shown}
+use Rattle.forms.specs.Bytes.{Bytes}
+use Rattle.forms.specs.Places.{Decoded}
+use Rattle.forms.specs.declared.batch.Entry.{Entry}
+use Rattle.forms.specs.declared.batch.Entries.{Entries}
+use Rattle.rules.specs.declared.answers.Answer.{Answer}
+use Rattle.rules.specs.declared.answers.Answer.the-variants.{Accepted, No, Held}
+use Rattle.rules.specs.Answers.{_▸_, need}
+use Rattle.rules.specs.Box.{Box}
+use Rattle.rules.specs.Room.{loadOf, roomFor, Fits}
+use Rattle.rules.specs.Calls.{Done, settle, ofBatch, nonEmpty}
+use Rattle.rules.proofs.RoomLaws.{fits-out}
+use Rattle.laws.proofs.StepLaws.{then-left, then-right, need-true}
+use Rattle.laws.proofs.SettleLaws.{settle-new}
+use Rattle.laws.proofs.ChainLaws.{denies}
+use Rattle.laws.proofs.BatchLaws.{checkAll, applyAll}
+use Rattle.lines.specs.declared.store.Store.{Store}
+use Rattle.lines.specs.View.{boxOf}
+use Rattle.lines.specs.Made.{Made}
+use Rattle.stretches.specs.Packs.{Placed}
+use Rattle.calls.specs.Settled.{Settled}
+use Rattle.calls.specs.Walks.{AllAsks}
+use Rattle.calls.specs.Passes.{allDone, Judged, ApplyAsks, AllApplied}
+use Rattle.calls.specs.declared.changed.Changed.{Changed}
+use Rattle.calls.specs.declared.judged.Verdict.{Verdict}
+use Rattle.calls.proofs.SettledLaws.{settled-same, settled-new}
+use Rattle.calls.proofs.AnswerLaws.{head-out, head-on, bad-batch, empty-batch, full-batch}
+
+-- a call that leaves the box as it was
+settle-still : (a : Answer) (new old : Box) → (a ≡ Accepted → new ≡ old) → settle a new old ≡ record { answer = a; box = old }
+unfolding settle
+settle-still Accepted new old e = ap (λ (b : Box). record { answer = Accepted; box = b }) (e refl)
+settle-still (No n) new old e = refl
+settle-still (Held h) new old e = refl
+
+module _ {A : Type 0} {check : Box → A → Answer} {apply : A → Box → Box} (item : Entry → A) where
+  -- ---- from its entries on
+
+  module _ {st : Store} {area s : Bytes} {n : ℕ} {es : List Entry} (a : AllAsks st area s n es) {v : Verdict} (j : Judged check apply (boxOf st area) (shown item n es) v) where
+    abbrev b : Box
+    b = boxOf st area
+
+    abbrev new : Box
+    new = applyAll apply (shown item n es) b
+
+    done-is : allDone check apply (shown item n es) b ≡ settle (v .answer) new b
+    unfolding allDone
+    done-is = ap (λ (x : Answer). settle x new b) (sym (j .answer-is))
+
+    -- a refusal, or a replay
+    pub pass-stays : not (v .moves) ≡ true → Settled st area (allDone check apply (shown item n es) (boxOf st area)) (record { store = st; answer = v .answer }) area
+    pass-stays x = settled-same (a .made) (done-is ∙ settle-still (v .answer) new b (j .stays (not-true (v .moves) x)))
+
+    module _ (x : not (v .moves) ≡ false) where
+      abbrev move : v .moves ≡ true
+      move = not-false (v .moves) x
+
+      fit : Fits (loadOf new)
+      unfolding roomFor
+      fit = fits-out _ (need-true _ 11 (then-right (checkAll check b (shown item n es)) _ (sym (j .answer-is) ∙ j .passes move)))
+
+      module _ (most : ℕ) {p : Store} {area₁ : Bytes} (w : Placed st area (n * most) p area₁) where
+        pub pass-applies : ApplyAsks check apply item most p area₁ s n es
+        pass-applies = record {
+          built = w .made .built;
+          form = a .form;
+          passed = ap (λ (c : Box). checkAll check c (shown item n es)) (w .shown) ∙ then-left _ _ (sym (j .answer-is) ∙ j .passes move);
+          fit = subst (λ (c : Box). Fits (loadOf (applyAll apply (shown item n es) c))) (sym (w .shown)) fit;
+          room = w .room;
+        }
+
+        -- the box is another one
+        pub pass-new : {t : Store} {area′ : Bytes} → AllApplied apply (shown item n es) (boxOf p area₁) t area′
+            → Settled st area (allDone check apply (shown item n es) (boxOf st area)) (record { store = t; answer = Accepted }) area′
+        pass-new {t} {area′} q =
+            settled-new (record { built = q .built; fit = subst Fits (sym (q .built .kept .load-is ∙ ap loadOf is)) fit })
+            (done-is ∙ settle-new (v .answer) new b (j .passes move) ∙ ap (λ (c : Box). record { answer = Accepted; box = c }) (sym is)) (λ e. j .moves move (sym is ∙ e))
+          where
+            is : boxOf t area′ ≡ new
+            is = q .shown ∙ ap (applyAll apply (shown item n es)) (w .shown)
+
+-- ---- before its entries: the head's answer `a`
+
+-- a definition by the head's answer and the steps of one entry
+pub record ByEntries {A : Type 0} (check : Box → A → Answer) (apply : A → Box → Box) (head : Answer) (call : List A → Box → Done) : Type 0 where
+  pub is : (xs : List A) (b : Box) → call xs b ≡ settle (need (nonEmpty xs) 5 ▸ head ▸ checkAll check b xs ▸ need (roomFor (applyAll apply xs b)) 11) (applyAll apply xs b) b
+
+module _ {A : Type 0} {check : Box → A → Answer} {apply : A → Box → Box} {head : Answer} {call : List A → Box → Done} (w : ByEntries check apply head call)
+    {st : Store} {area : Bytes} (made : Made st area) {item : Entry → A} {s : Bytes} {o : Option (List A)} {r : Entries} (d : Decoded item s o r)
+    {a : Answer} (e : a ≡ need (r .ok) 6 ▸ need (not (eqb (r .count) 0)) 5 ▸ head) where
+  abbrev old : Box
+  old = boxOf st area
+
+  abbrev xs : List A
+  xs = shown item (r .count) (r .list)
+
+  abbrev steps : List A → Box → Answer
+  steps ys c = head ▸ checkAll check c ys ▸ need (roomFor (applyAll apply ys c)) 11
+
+  abbrev rest : Answer
+  rest = checkAll check old xs ▸ need (roomFor (applyAll apply xs old)) 11
+
+  same-call : (o : Option (List A)) → ofBatch o call old ≡ ofBatch o (λ ys c. settle (need (nonEmpty ys) 5 ▸ steps ys c) (applyAll apply ys c) c) old
+  unfolding ofBatch
+  same-call none = refl
+  same-call (some ys) = w .is ys old
+
+  batch-is : ofBatch o call old ≡ settle (a ▸ rest) (applyAll apply xs old) old
+  unfolding need _▸_ settle
+  batch-is = same-call o ∙ go (r .ok) (eqb (r .count) 0) refl refl ∙ ap (λ (x : Answer). settle (x ▸ rest) (applyAll apply xs old) old) (sym e)
+    where
+      go : (t u : Bool) → r .ok ≡ t → eqb (r .count) 0 ≡ u
+          → ofBatch o (λ ys c. settle (need (nonEmpty ys) 5 ▸ steps ys c) (applyAll apply ys c) c) old ≡ settle ((need t 6 ▸ need (not u) 5 ▸ head) ▸ rest) (applyAll apply xs old) old
+      go false u p q = bad-batch d steps (applyAll apply) old (ap not p)
+      go true true p q = empty-batch d steps (applyAll apply) old (ap not p) (eqb-true _ _ q)
+      go true false p q = full-batch d steps (applyAll apply) old (ap not p) (eqb-false _ _ q)
+
+  -- 6, 5, or the head's
+  pub batch-refused : (a ≡ Accepted → ⊥) → Settled st area (ofBatch o call (boxOf st area)) (record { store = st; answer = a }) area
+  batch-refused n = settled-same made (batch-is ∙ head-out a rest (applyAll apply xs old) old n)
+
+  module _ (p : a ≡ Accepted) where
+    pub batch-good : not (r .ok) ≡ false
+    batch-good = denies _ (need-true _ 6 (then-left _ _ (sym e ∙ p)))
+
+    pub batch-head : head ≡ Accepted
+    batch-head = then-right (need (not (eqb (r .count) 0)) 5) _ (then-right (need (r .ok) 6) _ (sym e ∙ p))
+
+    pub batch-done : {t : Changed} {area′ : Bytes} → Settled st area (allDone check apply (shown item (r .count) (r .list)) (boxOf st area)) t area′ → Settled st area (ofBatch o call (boxOf st area)) t area′
+    unfolding allDone
+    batch-done {t} {area′} v = subst (λ (x : Done). Settled st area x t area′) (sym (batch-is ∙ head-on a rest (applyAll apply xs old) old p)) v

@@ -1,4 +1,0 @@
-pub mod KeptLaws
-pub mod WhereLaws
-pub mod BuiltLaws
-pub mod EntryLaws

@@ -1,3 +1,0 @@
-pub mod Edits
-pub mod Seen
-pub mod Writes

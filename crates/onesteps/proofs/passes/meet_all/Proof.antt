@@ -1,0 +1,76 @@
+-- `onesteps::passes::meet_all` meets its contract.
+-- Assumes nothing.
+use Rattle.calls.specs.Walks.{endingOf}
+use Rattle.lines.specs.View.{boxOf}
+use Rattle.calls.proofs.PassLaws.{pass-small, pass-in}
+use Rattle.onesteps.proofs.PassLaws.{MeetingAll, meet-asks, meeting-start, meeting-small, meeting-more, meeting-end}
+use borrow.Author.Needs.{needs}
+use native.Mathlib.Omega.{arith}
+use Prim.Native.Nat.{_-_}
+use Rattle.onesteps.proofs.passes.meet_all.Statement.{statement}
+use Rattle.onesteps.proofs.passes.meet_all.Tie as tie
+
+abbrev Inv-loop : tie.InvT-loop
+Inv-loop store area terms batch n list met₀ i₀ met i = MeetingAll (endingOf terms) (boxOf store area) batch n list i met
+
+abbrev μ-loop : tie.MeasureT-loop
+μ-loop store area terms batch n list met₀ i₀ met i = n - i
+
+nothing-met-requires : tie.Need-nothing-met-requires Inv-loop μ-loop
+nothing-met-requires c κs = search needs
+
+loop-holds : tie.Need-loop-holds Inv-loop μ-loop
+loop-holds c = meeting-start (endingOf ((c .before .before .before .args) .terms)) _ ((c .before .before .before .pre) .form .listed) ((c .nothing-met) .ensures)
+
+mul-e : tie.Need-mul-e Inv-loop μ-loop
+mul-e c = search needs
+
+array-copy-out-e : tie.Need-array-copy-out-e Inv-loop μ-loop
+array-copy-out-e c = pass-small ((c .before .loop) .inv) ((c .loop-test) .taken)
+
+key-of-requires : tie.Need-key-of-requires Inv-loop μ-loop
+key-of-requires c κs = pass-in ((c .before .before .loop) .inv) ((c .before .loop-test) .taken)
+
+row-of-requires : tie.Need-row-of-requires Inv-loop μ-loop
+row-of-requires c κs = pass-in ((c .before .before .before .loop) .inv) ((c .before .before .loop-test) .taken)
+
+look-requires : tie.Need-look-requires Inv-loop μ-loop
+look-requires c κs = (c .before .before .before .before .before .before .before .before .pre) .made .built
+
+meet-requires : tie.Need-meet-requires Inv-loop μ-loop
+meet-requires c κs = (rw ((c .before .before .key-of) .ensures, (c .before .row-of) .ensures) (meet-asks _ ((c .before .before .before .before .before .before .before .before .before .pre) .made) (pass-in ((c .before .before .before .before .before .loop) .inv) ((c .before .before .before .before .loop-test) .taken))), (c .look) .ensures)
+
+join-requires : tie.Need-join-requires Inv-loop μ-loop
+join-requires c κs = meeting-small (endingOf ((c .before .before .before .before .before .before .before .before .before .before .args) .terms)) _ ((c .before .before .before .before .before .before .loop) .inv) ((c .before .before .before .before .before .loop-test) .taken) ((c .before .before .before .key-of) .ensures) ((c .before .before .row-of) .ensures) ((c .meet) .ensures)
+
+add-i : tie.Need-add-i Inv-loop μ-loop
+add-i c = omega (arith, pass-small ((c .before .before .before .before .before .before .before .loop) .inv) ((c .before .before .before .before .before .before .loop-test) .taken))
+
+loop-less : tie.Need-loop-less Inv-loop μ-loop
+loop-less c = search needs
+
+loop-again : tie.Need-loop-again Inv-loop μ-loop
+loop-again c = meeting-more (endingOf ((c .before .before .before .before .before .before .before .before .before .before .before .args) .terms)) _ ((c .before .before .before .before .before .before .before .loop) .inv) ((c .before .before .before .before .before .before .loop-test) .taken) ((c .before .before .before .before .key-of) .ensures) ((c .before .before .before .row-of) .ensures) ((c .before .meet) .ensures) ((c .join) .ensures)
+
+returns : tie.Need-returns Inv-loop μ-loop
+returns c = meeting-end (endingOf ((c .before .before .before .before .before .args) .terms)) _ ((c .before .loop) .inv) ((c .loop-test) .left)
+
+pub meet-all-spec : {M : Type 1} → statement M
+meet-all-spec =
+    tie.close
+    (tie.spec
+    Inv-loop
+    μ-loop
+    nothing-met-requires
+    loop-holds
+    mul-e
+    array-copy-out-e
+    key-of-requires
+    row-of-requires
+    look-requires
+    meet-requires
+    join-requires
+    add-i
+    loop-less
+    loop-again
+    returns)

@@ -1,0 +1,141 @@
+// The checking pass over a batch, and what it comes to. Nothing is written before the last entry has been looked up.
+ghost use mathlib.Core.Path.{_≡_};
+ghost use mathlib.Core.Bool.{_&&_};
+ghost use Rattle.seqs.specs.Tables.{shown};
+ghost use Rattle.forms.specs.Places.{mutationOf};
+ghost use Rattle.rules.specs.declared.answers.Answer.the-variants.{Accepted};
+ghost use Rattle.rules.specs.Answers.{_▸_};
+ghost use Rattle.lines.specs.View.{boxOf};
+ghost use Rattle.calls.specs.Walks.{endingOf, AllAsks};
+ghost use Rattle.calls.specs.Weights.{Sums, LeftAsks};
+ghost use Rattle.onesteps.specs.Meets.{NothingMet, Joined, AllMet, judged};
+use crate::meets::Met;
+use crate::meets::Tally;
+use crate::meets::meet;
+use calls::Seen;
+use calls::Terms;
+use calls::key_of;
+use calls::row_of;
+use forms::Entry;
+use lines::Store;
+use lines::look;
+use rules::Answer;
+use rules::Load;
+
+fn both(a: bool, b: bool) -> bool
+    ensures { λ r. ⌜ r ≡ a && b ⌝ }
+{
+    if a {
+        return b;
+    }
+    false
+}
+
+// The first refusal is the answer.
+fn first(a: Answer, b: Answer) -> Answer
+    ensures { λ r. ⌜ r ≡ a ▸ b ⌝ }
+{
+    if calls::accepted(a) {
+        return b;
+    }
+    a
+}
+
+fn nothing_met() -> Met
+    ensures { λ r. ⌜ NothingMet r ⌝ }
+{
+    let seen = calls::refusal(Answer::Accepted);
+    Met {
+        argument: Answer::Accepted,
+        tally: Tally {
+            all: true,
+            none: true,
+        },
+        seen: seen,
+    }
+}
+
+// One entry more.
+fn join(t: Met, m: Met) -> Met
+    requires { ⌜ Sums (t .seen .weight) (m .seen .weight) ⌝ }
+    ensures { λ r. ⌜ Joined t m r ⌝ }
+{
+    let x = t.argument;
+    let y = m.argument;
+    let argument = first(x, y);
+    let a = t.tally;
+    let b = m.tally;
+    let all = both(a.all, b.all);
+    let none = both(a.none, b.none);
+    let old = t.seen;
+    let new = m.seen;
+    let was = old.answer;
+    let one = new.answer;
+    let answer = first(was, one);
+    let weight = calls::plus_weight(old.weight, new.weight);
+    Met {
+        argument: argument,
+        tally: Tally {
+            all: all,
+            none: none,
+        },
+        seen: Seen {
+            answer: answer,
+            weight: weight,
+        },
+    }
+}
+
+// Every entry on the store as it came.
+pub fn meet_all(
+    store: Store,
+    area: &[u8],
+    terms: Terms,
+    batch: &[u8],
+    n: usize,
+    list: [Entry; 32],
+) -> Met
+    requires { ⌜ AllAsks store (now area) (now batch) n list ⌝ }
+    ensures { λ r. ⌜ AllMet (endingOf terms) (boxOf store (now (area .entry))) (shown (mutationOf (now (batch .entry))) n list) r ⌝ }
+{
+    let mut met = nothing_met();
+    let mut i: usize = 0;
+    while i < n {
+        let e = list[i];
+        let key = key_of(batch, e);
+        let row = row_of(batch, e);
+        let found = look(store, area, key, terms.start, terms.commit);
+        let one = meet(store, found, area, terms, key, e.put, row);
+        met = join(met, one);
+        i += 1;
+    }
+    met
+}
+
+// "each entry in turn 1, 2; .. same start but other kind or row, 9. All applied: accepted, unchanged. Some: 9. None: per entry ..; 11."
+pub fn judge(met: Met, load: Load) -> Answer
+    requires { ⌜ (met .seen .answer ≡ Accepted → LeftAsks load (met .seen .weight)) ⌝ }
+    ensures { λ r. ⌜ r ≡ judged met load ⌝ }
+{
+    let argument = met.argument;
+    if !calls::accepted(argument) {
+        return argument;
+    }
+    let tally = met.tally;
+    if tally.all {
+        return Answer::Accepted;
+    }
+    if !tally.none {
+        return Answer::No(9);
+    }
+    let seen = met.seen;
+    let answer = seen.answer;
+    if !calls::accepted(answer) {
+        return answer;
+    }
+    let left = calls::left_load(load, seen.weight);
+    if !rules::load_fits(left) {
+        return Answer::No(11);
+    }
+    Answer::Accepted
+}

@@ -1,0 +1,12 @@
+pub mod WriteLaws
+pub mod PlaceLaws
+pub mod TableLaws
+pub mod LoadLaws
+pub mod StretchLaws
+pub mod ChangeLaws
+pub mod KeptLaws
+pub mod PutLaws
+pub mod RecordLaws
+pub mod EndLaws
+pub mod SlotLaws
+pub mod PackLaws

@@ -1,0 +1,4 @@
+pub mod Loads
+pub mod Writes
+pub mod Changes
+pub mod Packs

@@ -1,0 +1,38 @@
+-- What packing the area anew asks and leaves.
+-- Assumes nothing.
+use mathlib.Core.Path.{_≡_}
+use Prim.Native.Nat.{ℕ, _+_, _≤_}
+use lib.ListN.{length, take}
+use Rattle.seqs.specs.Tables.{Table, shown}
+use Rattle.forms.specs.Bytes.{Bytes}
+use Rattle.rules.specs.Room.{sumOf}
+use Rattle.lines.specs.declared.store.Store.{Store}
+use Rattle.lines.specs.View.{sizeOf, lineOf, defaultIn, boxOf, noSlot}
+use Rattle.lines.specs.Made.{SlotBelow, Made}
+
+pub record PackAsks (st : Store) (area into : Bytes) : Type 0 where
+  pub table : Table (SlotBelow (length area)) noSlot 1024 (st .load .lines) (st .lines)
+  pub long : length into ≡ 67584
+  pub room : sumOf sizeOf (take (st .load .lines) (st .lines)) ≤ 67584
+
+pub record Packed (st : Store) (area : Bytes) (r : Store) (into : Bytes) : Type 0 where
+  pub long : length into ≡ 67584
+  pub table : Table (SlotBelow (r .top)) noSlot 1024 (st .load .lines) (r .lines)
+  pub lines : shown (lineOf into) (st .load .lines) (r .lines) ≡ shown (lineOf area) (st .load .lines) (st .lines)
+  pub rows : shown (defaultIn into) (st .load .lines) (r .lines) ≡ shown (defaultIn area) (st .load .lines) (st .lines)
+  pub load-is : r .load ≡ st .load
+  pub top-most : r .top ≤ 67584
+
+-- the same box, in no more than the worst need
+pub record Repacked (st : Store) (area : Bytes) (r : Store) (area′ : Bytes) : Type 0 where
+  pub made : Made r area′
+  pub shown : boxOf r area′ ≡ boxOf st area
+  pub load-is : r .load ≡ st .load
+  pub top-most : r .top ≤ 67584
+
+-- the same box, with place above the top
+pub record Placed (st : Store) (area : Bytes) (need : ℕ) (r : Store) (area′ : Bytes) : Type 0 where
+  pub made : Made r area′
+  pub shown : boxOf r area′ ≡ boxOf st area
+  pub load-is : r .load ≡ st .load
+  pub room : r .top + need ≤ 131072

@@ -1,0 +1,168 @@
+// One line of a key changes: a lock comes, a record comes and takes the place of the key's lock, if it has one. The new bytes go past the
+// top; where the slot goes is the change that comes back.
+ghost use mathlib.Core.Path.{_≡_};
+ghost use mathlib.Core.Option.{none};
+ghost use Prim.Native.Nat.{_+_};
+ghost use lib.ListN.{length};
+ghost use Rattle.forms.specs.Readers.{when};
+ghost use Rattle.forms.specs.Row.{Row};
+ghost use Rattle.rules.specs.Calls.{kindOf, recordFor};
+ghost use Rattle.rules.specs.Box.{lockOf};
+ghost use Rattle.rules.specs.Prewrite.{lockLine};
+ghost use Rattle.rules.specs.Commit.{commitTo};
+ghost use Rattle.lines.specs.View.{boxOf};
+ghost use Rattle.stretches.specs.Changes.{headFor, entryFor, recordOver, LockAsks, SlotAsks, slotChange, RecordAsks, EndAsks, Leaves, changed, ChangeAsks};
+use crate::changes::Change;
+use crate::changes::Coming;
+use crate::loads::freed_by;
+use crate::loads::less;
+use crate::loads::lock_load;
+use crate::loads::more;
+use crate::loads::record_load;
+use crate::writes::append_ended;
+use crate::writes::append_lock;
+use crate::writes::append_record;
+use lines::Ended;
+use lines::Line;
+use lines::Locked;
+use lines::Looked;
+use lines::Slot;
+use lines::Stood;
+use lines::Store;
+use rules::Kind;
+use rules::Load;
+
+// The kind of an entry: a Put carries a row, a Delete none.
+pub fn kind_for(put: bool) -> Kind
+    ensures { λ r. ⌜ ((row : Row) → r ≡ kindOf (when put row)) ⌝ }
+{
+    if put {
+        return Kind::Put;
+    }
+    Kind::Delete
+}
+
+// "a lock with the call's fields and the entry's kind", at the key's first place, "and a Put's row"; a Delete's row is empty.
+pub fn put_lock(
+    store: Store,
+    area: &mut [u8],
+    seen: Looked,
+    key: &[u8],
+    txn: u64,
+    start: u64,
+    ttl: u64,
+    primary: &[u8],
+    put: bool,
+    row: &[u8],
+) -> Change
+    requires { ⌜ LockAsks store (now area) seen (headFor txn start (now primary) ttl) (now key) put (now row) ⌝ }
+    ensures { λ r. ⌜ (ChangeAsks store r) × (Leaves (lockLine (headFor txn start (now (primary .entry)) ttl) (entryFor (now (key .entry)) put (now (row .entry))) (boxOf store (now (area .entry)))) (store .top + length (now (key .entry)) + 8 + 8 + length (now (row .entry)) + 8 + length (now (primary .entry))) (changed store r) (now (area .exit))) ⌝ }
+{
+    let top = store.top;
+    let old = store.load;
+    let kind = kind_for(put);
+    let end = append_lock(area, top, key, txn, start, row, ttl, primary);
+    let s = Slot {
+        at: top as u32,
+        len: key.len() as u8,
+        used: true,
+        line: Line::Standing(Stood {
+            plen: primary.len() as u8,
+            rowlen: row.len() as u8,
+            kind: kind,
+        }),
+    };
+    let added = lock_load(kind, key.len(), primary.len(), row.len());
+    let load = more(old, added);
+    Change::Inserts(Coming {
+        to: seen.first,
+        slot: s,
+        load: load,
+        top: end,
+    })
+}
+
+// The slot of a record whose bytes stand at the top, up to `end`; the key's lock goes, if it has one. It takes the store's two numbers and
+// not the store, which a call would copy.
+fn place_record(
+    top: usize,
+    old: Load,
+    seen: Looked,
+    key: usize,
+    kind: Kind,
+    row: usize,
+    end: usize,
+) -> Change
+    requires { ⌜ SlotAsks top old seen key kind row ⌝ }
+    ensures { λ r. ⌜ r ≡ slotChange top old seen key kind row end ⌝ }
+{
+    let lock = seen.lock;
+    let s = Slot {
+        at: top as u32,
+        len: key as u8,
+        used: true,
+        line: Line::Finished(Ended {
+            rowlen: row as u8,
+            kind: kind,
+        }),
+    };
+    let freed = freed_by(lock, key);
+    let rest = less(old, freed);
+    let added = record_load(kind, key, row);
+    let load = more(rest, added);
+    let c = Coming {
+        to: seen.place,
+        slot: s,
+        load: load,
+        top: end,
+    };
+    match lock {
+        Locked::Nobody => Change::Inserts(c),
+        Locked::By(_) => Change::Replaces(seen.first, c),
+    }
+}
+
+// A record of the key with a Put's row; the key's lock goes, if it has one, and its row with it. A Delete's or Rollback's row is empty.
+pub fn put_record(
+    store: Store,
+    area: &mut [u8],
+    seen: Looked,
+    key: &[u8],
+    start: u64,
+    stamp: u64,
+    kind: Kind,
+    row: &[u8],
+) -> Change
+    requires { ⌜ RecordAsks store (now area) seen (now key) start stamp kind (now row) ⌝ }
+    ensures { λ r. ⌜ (ChangeAsks store r) × (Leaves (recordOver (now (key .entry)) (recordFor start stamp kind) (now (row .entry)) (boxOf store (now (area .entry)))) (store .top + length (now (key .entry)) + 8 + 8 + length (now (row .entry))) (changed store r) (now (area .exit))) ⌝ }
+{
+    let top = store.top;
+    let old = store.load;
+    let end = append_record(area, top, key, stamp, start, row);
+    place_record(top, old, seen, key.len(), kind, row.len(), end)
+}
+
+// "a record of the lock's start and kind, stamped with the commit, replaces the lock; a Put's row stays"
+pub fn end_lock(
+    store: Store,
+    area: &mut [u8],
+    seen: Looked,
+    key: &[u8],
+    start: u64,
+    commit: u64,
+) -> Change
+    requires { ⌜ EndAsks store (now area) seen (now key) start commit ⌝ }
+    ensures { λ r. ⌜ (ChangeAsks store r) × (Leaves (commitTo commit (boxOf store (now (area .entry))) (now (key .entry)) none (lockOf (now (key .entry)) (boxOf store (now (area .entry)) .lines))) (store .top + 319) (changed store r) (now (area .exit))) ⌝ }
+{
+    let lock = seen.lock;
+    match lock {
+        Locked::Nobody => Change::Stays,
+        Locked::By(l) => {
+            let top = store.top;
+            let old = store.load;
+            let kind = l.kind;
+            let end = append_ended(area, top, key, commit, start, l.rowat, l.rowlen);
+            place_record(top, old, seen, key.len(), kind, l.rowlen, end)
+        }
+    }
+}

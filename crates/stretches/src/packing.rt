@@ -1,0 +1,75 @@
+// The area packed anew: the stretches of the lines, in table order, from its beginning. "Room that was freed counts as free at once."
+ghost use mathlib.Core.Path.{_≡_};
+ghost use Prim.Native.Nat.{_≤_};
+ghost use Rattle.lines.specs.View.{past};
+ghost use Rattle.lines.specs.Made.{Made};
+ghost use Rattle.stretches.specs.Packs.{PackAsks, Packed, Repacked, Placed};
+use forms::append;
+use lines::AREA;
+use lines::Line;
+use lines::Slot;
+use lines::Store;
+
+// How many bytes a line has past its key.
+fn past_key(line: Line) -> usize
+    ensures { λ r. ⌜ r ≡ past line ⌝ }
+{
+    match line {
+        Line::Standing(l) => 8 + 8 + l.rowlen as usize + 8 + l.plen as usize,
+        Line::Finished(w) => 8 + 8 + w.rowlen as usize,
+    }
+}
+
+// Each stretch is copied whole.
+fn pack(store: Store, area: &[u8], into: &mut [u8]) -> Store
+    requires { ⌜ PackAsks store (now area) (now into) ⌝ }
+    ensures { λ r. ⌜ Packed store (now (area .entry)) r (now (into .exit)) ⌝ }
+{
+    let mut l = store;
+    let load = store.load;
+    let n = load.lines;
+    let mut top: usize = 0;
+    let mut i: usize = 0;
+    while i < n {
+        let s = l.lines[i];
+        let line = s.line;
+        let at = s.at as usize;
+        let size = s.len as usize + past_key(line);
+        let e = at + size;
+        append(into, top, &area[at..e]);
+        let t = Slot {
+            at: top as u32,
+            len: s.len,
+            used: true,
+            line: line,
+        };
+        l.lines[i] = t;
+        top += size;
+        i += 1;
+    }
+    l.top = top;
+    l
+}
+
+// The stretches go into a fresh array, and back.
+pub fn repack(store: Store, area: &mut [u8]) -> Store
+    requires { ⌜ Made store (now area) ⌝ }
+    ensures { λ r. ⌜ Repacked store (now (area .entry)) r (now (area .exit)) ⌝ }
+{
+    let mut into = [0u8; 67584];
+    let l = pack(store, area, &mut into);
+    let top = l.top;
+    append(area, 0, &into[0..top]);
+    l
+}
+
+// Place for `need` bytes past the top: the area is packed anew only where they would pass its end.
+pub fn make_place(store: Store, area: &mut [u8], need: usize) -> Store
+    requires { ⌜ (Made store (now area)) × (need ≤ 63488) ⌝ }
+    ensures { λ r. ⌜ Placed store (now (area .entry)) need r (now (area .exit)) ⌝ }
+{
+    if need <= AREA - store.top {
+        return store;
+    }
+    repack(store, area)
+}

@@ -1,3 +1,0 @@
-pub mod AscendLaws
-pub mod WalkLaws
-pub mod RowLaws

@@ -1,0 +1,116 @@
+// What the lines of a key so far say to a page.
+ghost use mathlib.Core.Path.{_≡_};
+ghost use mathlib.Core.Bool.{_&&_};
+ghost use Rattle.walks.specs.Dues.{noDue, seeRow, seeLock, dueAfter, byKey};
+use crate::walked::Scan;
+use lines::Locked;
+use lines::Slot;
+use lines::Told;
+use rules::Answer;
+use rules::Kind;
+
+// The line that the page would list for the key, if any.
+pub enum Listed {
+    Nothing,
+    Line(Slot),
+}
+
+// Whether the key's lock lets a read pass, and what would be listed.
+pub struct Due {
+    pub lets: Answer,
+    pub line: Listed,
+}
+
+pub(crate) fn no_due() -> Due
+    ensures { λ r. ⌜ r ≡ noDue ⌝ }
+{
+    Due {
+        lets: Answer::Accepted,
+        line: Listed::Nothing,
+    }
+}
+
+// "Each key is read first": one line more of it.
+fn see_row(due: Due, moment: u64, s: Slot, line: Told) -> Due
+    ensures { λ r. ⌜ r ≡ seeRow moment due s line ⌝ }
+{
+    match line {
+        Told::Standing(l) => {
+            let lets = reads::lock_lets(Locked::By(l), moment);
+            let old = due.line;
+            Due {
+                lets: lets,
+                line: old,
+            }
+        }
+        Told::Finished(w) => {
+            if moment < w.stamp {
+                return due;
+            }
+            let lets = due.lets;
+            let kind = w.kind;
+            match kind {
+                Kind::Put => Due {
+                    lets: lets,
+                    line: Listed::Line(s),
+                },
+                Kind::Delete => Due {
+                    lets: lets,
+                    line: Listed::Nothing,
+                },
+                Kind::Rollback => due,
+            }
+        }
+    }
+}
+
+// "keys of locks only", and of those in the way of a read, "skipped if it starts above the moment".
+fn see_lock(every: bool, moment: u64, s: Slot, line: Told) -> Due
+    ensures { λ r. ⌜ r ≡ seeLock every moment s line ⌝ }
+{
+    match line {
+        Told::Standing(l) => {
+            if !every {
+                if moment < l.start {
+                    return no_due();
+                }
+            }
+            Due {
+                lets: Answer::Accepted,
+                line: Listed::Line(s),
+            }
+        }
+        Told::Finished(_) => no_due(),
+    }
+}
+
+// One line more.
+pub(crate) fn see(due: Due, scan: Scan, moment: u64, s: Slot, line: Told) -> Due
+    ensures { λ r. ⌜ r ≡ dueAfter scan moment due s line ⌝ }
+{
+    match scan {
+        Scan::Rows => see_row(due, moment, s, line),
+        Scan::Intents => see_lock(true, moment, s, line),
+        Scan::Conflicts => see_lock(false, moment, s, line),
+    }
+}
+
+pub(crate) fn both(a: bool, b: bool) -> bool
+    ensures { λ r. ⌜ r ≡ a && b ⌝ }
+{
+    if a {
+        return b;
+    }
+    false
+}
+
+// A page of rows judges a key at its last line, one of locks each line by itself.
+pub(crate) fn by_key(scan: Scan) -> bool
+    ensures { λ r. ⌜ r ≡ byKey scan ⌝ }
+{
+    match scan {
+        Scan::Rows => true,
+        Scan::Intents => false,
+        Scan::Conflicts => false,
+    }
+}
