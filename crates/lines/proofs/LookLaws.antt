@@ -1,6 +1,7 @@
--- The walk of `look`: the places are the lesser of the walk's own and those looked for, lock and history are those of the lines passed.
+-- The two loops of `look`: the search by halves for the place of the key's first line, and the walk over the key's lines from there, where
+-- lock and history are those of the lines passed.
 -- Assumes nothing.
-use Prim.Native.Nat.{ℕ, suc, _+_, _≤_, _<_}
+use Prim.Native.Nat.{ℕ, suc, _+_, _-_, _/_, _≤_, _<_}
 use native.Mathlib.Omega.{arith}
 use native.Mathlib.Numerals.{add-one}
 use mathlib.Core.Path.{_≡_, refl, sym, ap, ap₂, _∙_, subst}
@@ -11,22 +12,26 @@ use mathlib.Core.Option.{Option, none, some}
 use lib.Dec.{ltb}
 use lib.ListN.{length, getD, take, drop, take-append-drop}
 use lib.Seq.{take-suc, getD-take, length-take-le}
-use borrow.Author.Tests.{ltb-true, ltb-false}
+use borrow.Author.Tests.{ltb-true, ltb-false, le-ltb}
 use Rattle.seqs.specs.Tables.{All, shown}
 use Rattle.seqs.proofs.Alls.{all-at}
 use Rattle.seqs.proofs.Tables.{table-at, table-long, shown-length, shown-at, shown-drop, shown-past}
 use Rattle.forms.specs.Bytes.{Bytes, cmp, isLess, isEqual, eqBytes, ltBytes}
 use Rattle.forms.specs.Key.{Key}
-use Rattle.forms.specs.declared.key.Order.the-variants.{Less, Equal, Greater}
+use Rattle.forms.specs.declared.key.Order.the-variants.{Equal}
 use Rattle.forms.proofs.Orders.{eqBytes-sym, eqBytes-true, ltBytes-else, ltBytes-not-eq′}
 use Rattle.rules.specs.declared.records.Record.{Record}
 use Rattle.rules.specs.Box as box
 use Rattle.rules.specs.Box.{startOf, kindIn}
-use Rattle.laws.specs.Places.{linesBefore}
+use Rattle.rules.specs.declared.records.Kind.the-variants.{Put}
+use Rattle.rules.specs.Calls.{recordFor}
+use Rattle.rules.specs.Read.{keepIf}
+use Rattle.laws.specs.Places.{those, linesBefore}
 use Rattle.laws.proofs.Sorted.{In, fewer-drop, ordered-fewer}
-use Rattle.laws.proofs.BoxOrder.{before-trans, before-irrefl, before-same, before-less, before-not-above, order-lines}
-use Rattle.laws.proofs.PlaceLaws.{howMany-le, at-place, before-down}
-use Rattle.laws.proofs.LinePlaces.{line-below, past-lines}
+use Rattle.laws.proofs.BoxOrder.{before-trans, before-irrefl, before-same, before-not-above, order-lines}
+use Rattle.laws.proofs.PlaceLaws.{howMany-le, at-place, before-down, take-place}
+use Rattle.laws.proofs.KeyPlaces.{below-down}
+use Rattle.laws.proofs.LinePlaces.{line-below, past-lines, record-place}
 use Rattle.lines.proofs.MemberLaws.{fewer-take, lock-shown}
 use Rattle.lines.specs.declared.store.Slot.{Slot}
 use Rattle.lines.specs.declared.store.Stood.{Stood}
@@ -59,9 +64,17 @@ lesser-either : {i n p : ℕ} (t : Bool) → t ≡ ltb i n → Lesser i n p → 
 lesser-either true e l = lesser-more (ltb-true _ _ (sym e))
 lesser-either false e l = lesser-same (ltb-false _ _ (sym e)) l
 
+-- the search: the place of the key's first line is at least `low` and at most `high`
+pub record Halving (area key : Bytes) (slots : List Slot) (n low high : ℕ) : Type 0 where
+  pub from : low ≤ linesBefore key (shown (lineOf area) n slots)
+  pub to : linesBefore key (shown (lineOf area) n slots) ≤ high
+  pub few : high ≤ n
+
+-- the walk: what was seen is what the lines before `i` say of the key; `i` is its first place or past it
 pub record Looking (area key : Bytes) (start stamp : ℕ) (slots : List Slot) (n i : ℕ) (seen : Looked) : Type 0 where
   pub low : i ≤ n
-  pub first-is : Lesser i (linesBefore key (shown (lineOf area) n slots)) (seen .first)
+  pub from : linesBefore key (shown (lineOf area) n slots) ≤ i
+  pub first-is : seen .first ≡ linesBefore key (shown (lineOf area) n slots)
   pub place-is : Lesser i (recordPlace key stamp (shown (lineOf area) n slots)) (seen .place)
   pub lock-is : lockedBy area (seen .lock) ≡ box.lockOf key (take i (shown (lineOf area) n slots))
   pub lock-there : (t : ℕ) → All (SlotBelow t) (take n slots) → LockThere t area (stored (shown (defaultIn area) n slots)) key (seen .lock)
@@ -111,23 +124,79 @@ in-last : {A : Type 0} (x : A) (xs : List A) → In x (xs ++ x ∷ [])
 in-last x [] = inl refl
 in-last x (y ∷ ys) = inr (in-last x ys)
 
+-- lines of keys below say nothing of the key
+none-below : (k : Key) (es : List box.KeyLine) → (box.lockOf k (those (λ (e : box.KeyLine). ltBytes (e .key) k) es) ≡ none) × (box.recordsOf k (those (λ (e : box.KeyLine). ltBytes (e .key) k) es) ≡ [])
+unfolding those keepIf box.lockOf box.recordsOf box.addLock box.addRecord
+none-below k [] = (refl, refl)
+none-below k (e ∷ es) = go (ltBytes (e .key) k) refl (none-below k es)
+  where
+    below : List box.KeyLine
+    below = those (λ e. ltBytes (e .key) k) es
+
+    go : (t : Bool) → ltBytes (e .key) k ≡ t → (box.lockOf k below ≡ none) × (box.recordsOf k below ≡ []) → (box.lockOf k (keepIf t e below) ≡ none) × (box.recordsOf k (keepIf t e below) ≡ [])
+    go true p ih = let n : eqBytes k (e .key) ≡ false = ltBytes-not-eq′ (e .key) k p in (rw n (ih .0), rw n (ih .1))
+    go false p ih = ih
+
+module _ {st : Store} {area : Bytes} (b : Built st area) (k : Key) where
+  abbrev first : ℕ
+  first = linesBefore k (es b)
+
+  first-in : first ≤ st .load .lines
+  first-in = omega (arith, howMany-le (λ (e : box.KeyLine). ltBytes (e .key) k) (es b), shown-length (b .lines) (lineOf area))
+
+  module _ (i : ℕ) (l : i < st .load .lines) where
+    within : i < length (es b)
+    within = omega (arith, shown-length (b .lines) (lineOf area))
+
+    at-here : getD (es b) i (lineOf area noSlot) ≡ lineOf area (slot b i)
+    at-here = shown-at (b .lines) (lineOf area) i l
+
+    below-here : ltBytes (keyOf area (slot b i)) k ≡ ltb i first
+    below-here = ap (λ (x : box.KeyLine). ltBytes (x .key) k) (sym at-here) ∙ line-below k (es b) (lines-order b) i (lineOf area noSlot) within
+
+  pub halving-start : Halving area k (st .lines) (st .load .lines) 0 (st .load .lines)
+  halving-start = record { from = omega arith; to = first-in; few = omega arith }
+
+  module _ {low high : ℕ} (v : Halving area k (st .lines) (st .load .lines) low high) (h : low < high) where
+    abbrev mid : ℕ
+    mid = low + (high - low) / 2
+
+    pub mid-in : mid < st .load .lines
+    mid-in = omega (arith, v .few)
+
+    pub halving-up : isLess (cmp (keyOf area (slot b mid)) k) ≡ true → Halving area k (st .lines) (st .load .lines) (mid + 1) high
+    unfolding ltBytes
+    halving-up c = record { from = omega (arith, ltb-true mid first (sym (below-here mid mid-in) ∙ c)); to = v .to; few = v .few }
+
+    pub halving-down : isLess (cmp (keyOf area (slot b mid)) k) ≡ false → Halving area k (st .lines) (st .load .lines) low mid
+    unfolding ltBytes
+    halving-down c = record { from = v .from; to = ltb-false mid first (sym (below-here mid mid-in) ∙ c); few = omega (arith, mid-in) }
+
 module _ {st : Store} {area : Bytes} (b : Built st area) (k : Key) (start stamp : ℕ) where
-  pub looking-start : {h : History} → h ≡ noHistory → Looking area k start stamp (st .lines) (st .load .lines) 0 (record { first = 0; place = 0; lock = Nobody; history = h })
-  unfolding box.lockOf box.recordsOf
-  looking-start {h} e = record {
-    low = omega arith;
-    first-is = record { before = λ _. refl; after = λ h. omega arith };
-    place-is = record { before = λ _. refl; after = λ h. omega arith };
-    lock-is = refl;
-    lock-there = λ t a. tt;
-    history = λ t a. subst (HistoryAt t area (ds b) k start stamp []) (sym e) history-none;
-  }
+  -- where the search ends, the walk begins
+  pub looking-start : {low high : ℕ} {h : History} → Halving area k (st .lines) (st .load .lines) low high → high ≤ low → h ≡ noHistory
+      → Looking area k start stamp (st .lines) (st .load .lines) low (record { first = low; place = low; lock = Nobody; history = h })
+  looking-start {low} {high} {h} v e q =
+      let f : low ≡ linesBefore k (es b) = omega (arith, v .from, v .to) in
+      let p = record-place k (recordFor 0 stamp Put) (es b) (lines-order b) in
+      let t : take low (es b) ≡ those (λ (x : box.KeyLine). ltBytes (x .key) k) (es b) = ap (λ (n : ℕ). take n (es b)) f ∙ take-place box.before (λ (x : box.KeyLine). ltBytes (x .key) k) (below-down (λ (x : box.KeyLine). x .key) box.before before-not-above k) (es b) (lines-order b) in
+      record {
+        low = omega (arith, v .to, v .few, v .from);
+        from = omega (arith, v .to);
+        first-is = f;
+        place-is = record { before = λ _. refl; after = λ g. omega (arith, p, f) };
+        lock-is = sym (ap (box.lockOf k) t ∙ none-below k (es b) .0);
+        lock-there = λ t a. tt;
+        history = λ top a.
+            subst (λ (ws : List Record). HistoryAt top area (ds b) k start stamp ws h) (sym (ap (box.recordsOf k) t ∙ none-below k (es b) .1))
+            (subst (HistoryAt top area (ds b) k start stamp []) (sym q) history-none);
+      }
 
   module _ {i : ℕ} {seen : Looked} (w : Looking area k start stamp (st .lines) (st .load .lines) i seen) where
     -- the walk ends: what follows says nothing of the key
-    ended : linesBefore k (es b) ≤ i → recordPlace k stamp (es b) ≤ i → (box.lockOf k (drop i (es b)) ≡ none) × (box.recordsOf k (drop i (es b)) ≡ []) → LookedAt st area k start stamp seen
-    ended f p n = record {
-      first-is = w .first-is .after f;
+    ended : recordPlace k stamp (es b) ≤ i → (box.lockOf k (drop i (es b)) ≡ none) × (box.recordsOf k (drop i (es b)) ≡ []) → LookedAt st area k start stamp seen
+    ended p n = record {
+      first-is = w .first-is;
       place-is = w .place-is .after p;
       lock-is = w .lock-is ∙ sym (ap (box.lockOf k) (sym (take-append-drop i (es b))) ∙ lock-append k (take i (es b)) (drop i (es b)) ∙ ap (orLock (box.lockOf k (take i (es b)))) (n .0) ∙ or-none (box.lockOf k (take i (es b))));
       lock-there = w .lock-there (st .top) (b .lines .holds);
@@ -141,7 +210,7 @@ module _ {st : Store} {area : Bytes} (b : Built st area) (k : Key) (start stamp 
     unfolding box.lockOf box.recordsOf
     looking-end h =
         let n = shown-length (b .lines) (lineOf area) in
-        ended (omega (arith, howMany-le (λ (e : box.KeyLine). ltBytes (e .key) k) (es b))) (omega (arith, howMany-le (λ (e : box.KeyLine). box.before e (stampLine k stamp)) (es b)))
+        ended (omega (arith, howMany-le (λ (e : box.KeyLine). box.before e (stampLine k stamp)) (es b)))
         (ap (box.lockOf k) (shown-past (b .lines) (lineOf area) i h), ap (box.recordsOf k) (shown-past (b .lines) (lineOf area) i h))
 
     module _ (l : i < st .load .lines) where
@@ -151,61 +220,20 @@ module _ {st : Store} {area : Bytes} (b : Built st area) (k : Key) (start stamp 
       abbrev e : box.KeyLine
       e = lineOf area here
 
-      within : i < length (es b)
-      within = omega (arith, shown-length (b .lines) (lineOf area))
-
-      at-here : getD (es b) i (lineOf area noSlot) ≡ e
-      at-here = shown-at (b .lines) (lineOf area) i l
-
-      below-here : ltBytes (e .key) k ≡ ltb i (linesBefore k (es b))
-      below-here = ap (λ (x : box.KeyLine). ltBytes (x .key) k) (sym at-here) ∙ line-below k (es b) (lines-order b) i (lineOf area noSlot) within
-
       stamp-here : box.before e (stampLine k stamp) ≡ ltb i (recordPlace k stamp (es b))
       stamp-here =
-          ap (λ (x : box.KeyLine). box.before x (stampLine k stamp)) (sym at-here)
-          ∙ at-place box.before (λ (x : box.KeyLine). box.before x (stampLine k stamp)) (before-down box.before before-trans before-irrefl (stampLine k stamp)) (es b) i (lineOf area noSlot) (lines-order b) within
+          ap (λ (x : box.KeyLine). box.before x (stampLine k stamp)) (sym (at-here b k i l))
+          ∙ at-place box.before (λ (x : box.KeyLine). box.before x (stampLine k stamp)) (before-down box.before before-trans before-irrefl (stampLine k stamp)) (es b) i (lineOf area noSlot) (lines-order b) (within b k i l)
 
       one-more : take (i + 1) (es b) ≡ take i (es b) ++ e ∷ []
-      one-more = ap (λ (n : ℕ). take n (es b)) (add-one i) ∙ take-suc (es b) i (lineOf area noSlot) within ∙ ap (λ (x : box.KeyLine). take i (es b) ++ x ∷ []) at-here
+      one-more = ap (λ (n : ℕ). take n (es b)) (add-one i) ∙ take-suc (es b) i (lineOf area noSlot) (within b k i l) ∙ ap (λ (x : box.KeyLine). take i (es b) ++ x ∷ []) (at-here b k i l)
 
-      records-more : (t : Bool) (x : box.Line) → eqBytes k (e .key) ≡ t → e .line ≡ x → box.recordsOf k (take (i + 1) (es b)) ≡ box.recordsOf k (take i (es b)) ++ box.addRecord t x []
-      unfolding box.recordsOf
-      records-more t x p q = ap (box.recordsOf k) one-more ∙ records-append k (take i (es b)) (e ∷ []) ∙ ap₂ (λ (t : Bool) (y : box.Line). box.recordsOf k (take i (es b)) ++ box.addRecord t y []) p q
-
-      lock-more : (t : Bool) (x : box.Line) → eqBytes k (e .key) ≡ t → e .line ≡ x → box.lockOf k (take (i + 1) (es b)) ≡ orLock (box.lockOf k (take i (es b))) (box.addLock t x none)
-      unfolding box.lockOf
-      lock-more t x p q = ap (box.lockOf k) one-more ∙ lock-append k (take i (es b)) (e ∷ []) ∙ ap₂ (λ (t : Bool) (y : box.Line). orLock (box.lockOf k (take i (es b))) (box.addLock t y none)) p q
-
-      -- a line that brings no record, and one that brings no lock
-      same-history : (t : Bool) (x : box.Line) → eqBytes k (e .key) ≡ t → e .line ≡ x → box.addRecord t x [] ≡ [] → (top : ℕ) → All (SlotBelow top) (take (st .load .lines) (st .lines))
-          → HistoryAt top area (ds b) k start stamp (box.recordsOf k (take (i + 1) (es b))) (seen .history)
-      same-history t x p q n top a =
-          subst (λ (ws : List Record). HistoryAt top area (ds b) k start stamp ws (seen .history))
-          (sym (records-more t x p q ∙ ap (λ (ws : List Record). box.recordsOf k (take i (es b)) ++ ws) n ∙ append-nil (box.recordsOf k (take i (es b))))) (w .history top a)
-
-      same-lock : (t : Bool) (x : box.Line) → eqBytes k (e .key) ≡ t → e .line ≡ x → box.addLock t x none ≡ none → lockedBy area (seen .lock) ≡ box.lockOf k (take (i + 1) (es b))
-      same-lock t x p q n = w .lock-is ∙ sym (lock-more t x p q ∙ ap (orLock (box.lockOf k (take i (es b)))) n ∙ or-none (box.lockOf k (take i (es b))))
-
-      pub looking-less : cmp (keyOf area (slot b i)) k ≡ Less → Looking area k start stamp (st .lines) (st .load .lines) (i + 1) (record { first = i + 1; place = i + 1; lock = seen .lock; history = seen .history })
-      unfolding ltBytes box.addLock box.addRecord
-      looking-less c =
-          let p : ltBytes (e .key) k ≡ true = ap isLess c in
-          let n : eqBytes k (e .key) ≡ false = ltBytes-not-eq′ (e .key) k p in
-          record {
-            low = omega arith;
-            first-is = lesser-more (ltb-true _ _ (sym below-here ∙ p));
-            place-is = lesser-more (ltb-true _ _ (sym stamp-here ∙ before-less e (stampLine k stamp) p));
-            lock-is = same-lock false (e .line) n refl refl;
-            lock-there = w .lock-there;
-            history = same-history false (e .line) n refl refl;
-          }
-
-      pub looking-greater : cmp (keyOf area (slot b i)) k ≡ Greater → LookedAt st area k start stamp seen
-      unfolding ltBytes eqBytes
-      looking-greater c =
-          let p : ltBytes (e .key) k ≡ false = ap isLess c in
-          let a : ltBytes k (e .key) ≡ true = ltBytes-else (e .key) k (ap isEqual c) p in
-          ended (ltb-false _ _ (sym below-here ∙ p)) (ltb-false _ _ (sym stamp-here ∙ not-before a (box.before e (stampLine k stamp)) refl))
+      -- no line of the key: the walk is past its last
+      pub looking-other : isEqual (cmp (keyOf area (slot b i)) k) ≡ false → LookedAt st area k start stamp seen
+      unfolding eqBytes
+      looking-other c =
+          let a : ltBytes k (e .key) ≡ true = ltBytes-else (e .key) k c (below-here b k i l ∙ le-ltb i (linesBefore k (es b)) (w .from)) in
+          ended (ltb-false _ _ (sym stamp-here ∙ not-before a (box.before e (stampLine k stamp)) refl))
           (rw (shown-drop (b .lines) (lineOf area) i l) (past-lines k e (drop (suc i) (es b)) (subst (λ (v : List box.KeyLine). box.ordered box.before v ≡ true) (shown-drop (b .lines) (lineOf area) i l) (ordered-fewer box.before (fewer-drop i (es b)) (lines-order b))) a))
         where
           not-before : ltBytes k (e .key) ≡ true → (t : Bool) → box.before e (stampLine k stamp) ≡ t → t ≡ false
@@ -220,9 +248,13 @@ module _ {st : Store} {area : Bytes} (b : Built st area) (k : Key) (start stamp 
         own′ : eqBytes k (e .key) ≡ true
         own′ = eqBytes-sym k (e .key) ∙ own
 
-        not-below : linesBefore k (es b) ≤ i
-        unfolding ltBytes
-        not-below = ltb-false _ _ (sym below-here ∙ ap isLess c)
+        records-more : (x : box.Line) → e .line ≡ x → box.recordsOf k (take (i + 1) (es b)) ≡ box.recordsOf k (take i (es b)) ++ box.addRecord true x []
+        unfolding box.recordsOf
+        records-more x q = ap (box.recordsOf k) one-more ∙ records-append k (take i (es b)) (e ∷ []) ∙ ap₂ (λ (t : Bool) (y : box.Line). box.recordsOf k (take i (es b)) ++ box.addRecord t y []) own′ q
+
+        lock-more : (x : box.Line) → e .line ≡ x → box.lockOf k (take (i + 1) (es b)) ≡ orLock (box.lockOf k (take i (es b))) (box.addLock true x none)
+        unfolding box.lockOf
+        lock-more x q = ap (box.lockOf k) one-more ∙ lock-append k (take i (es b)) (e ∷ []) ∙ ap₂ (λ (t : Bool) (y : box.Line). orLock (box.lockOf k (take i (es b))) (box.addLock t y none)) own′ q
 
         -- how the line stands to a record with the stamp
         stands : (x : box.Line) → e .line ≡ x → box.lineBefore x (stampLine k stamp .line) ≡ ltb i (recordPlace k stamp (es b))
@@ -246,23 +278,26 @@ module _ {st : Store} {area : Bytes} (b : Built st area) (k : Key) (start stamp 
             let q′ : e .line ≡ y = ap (lineIn area (here .at + here .len)) q in
             record {
               low = omega arith;
-              first-is = lesser-same not-below (w .first-is);
+              from = omega (arith, w .from);
+              first-is = w .first-is;
               place-is = lesser-more (ltb-true _ _ (sym (stands y q′)));
               lock-is = sym (lock-shown k (take (i + 1) (es b)) _ (ordered-fewer box.before (fewer-take (i + 1) (es b)) (lines-order b)) (rw one-more (subst (λ (x : box.KeyLine). In x (take i (es b) ++ e ∷ [])) (λ j. record { key = eqBytes-true (e .key) k own j; line = q′ j }) (in-last e (take i (es b))))));
               lock-there = λ t a. record { primary-in = primary-here t a h q; row = row-here t a (Standing h) q };
-              history = same-history true y own′ q′ refl;
+              history = λ t a.
+                  subst (λ (ws : List Record). HistoryAt t area (ds b) k start stamp ws (seen .history)) (sym (records-more y q′ ∙ append-nil (box.recordsOf k (take i (es b))))) (w .history t a);
             }
         seen-line (Finished v) q =
             let y : box.Line = lineIn area (here .at + here .len) (Finished v) in
             let q′ : e .line ≡ y = ap (lineIn area (here .at + here .len)) q in
             record {
               low = omega arith;
-              first-is = lesser-same not-below (w .first-is);
+              from = omega (arith, w .from);
+              first-is = w .first-is;
               place-is = lesser-either _ (stands y q′) (w .place-is);
-              lock-is = same-lock true y own′ q′ refl;
+              lock-is = w .lock-is ∙ sym (lock-more y q′ ∙ or-none (box.lockOf k (take i (es b))));
               lock-there = w .lock-there;
               history = λ t a.
-                  subst (λ (ws : List Record). HistoryAt t area (ds b) k start stamp ws (seeLine start stamp (i + 1) seen (toldIn area (here .at + here .len) (Finished v)) .history)) (sym (records-more true y own′ q′))
+                  subst (λ (ws : List Record). HistoryAt t area (ds b) k start stamp ws (seeLine start stamp (i + 1) seen (toldIn area (here .at + here .len) (Finished v)) .history)) (sym (records-more y q′))
                   (history-more _ (row-here t a (Finished v) q) (w .history t a));
             }
 

@@ -1,4 +1,5 @@
-// What stands at a key, as every call asks of it: its lock, and what its records say to a start and to a stamp. One walk over the table.
+// What stands at a key, as every call asks of it: its lock, and what its records say to a start and to a stamp. A search by halves for
+// its first line, then a walk over its lines.
 ghost use mathlib.Core.Path.{_≡_};
 ghost use mathlib.Core.Bool.{_&&_};
 ghost use Rattle.lines.specs.Made.{Built};
@@ -150,37 +151,42 @@ fn see(seen: Looked, line: Told, start: u64, stamp: u64, next: usize) -> Looked
     }
 }
 
+// "The lookup that finds a key's first line shall halve its range." A key without lines has the place where one would stand. The walk from
+// there ends at the first line of another key.
 pub fn look(store: Store, area: &[u8], key: &[u8], start: u64, stamp: u64) -> Looked
     requires { ⌜ Built store (now area) ⌝ }
     ensures { λ r. ⌜ LookedAt store (now (area .entry)) (now (key .entry)) start stamp r ⌝ }
 {
     let lines = store.lines;
-    let load = store.load;
-    let n = load.lines;
-    let history = no_history();
+    let n = store.load.lines;
+    let mut low: usize = 0;
+    let mut high = n;
+    while low < high {
+        let mid = low + (high - low) / 2;
+        let s = lines[mid];
+        match slot_order(s, area, key) {
+            Order::Less => low = mid + 1,
+            Order::Equal => high = mid,
+            Order::Greater => high = mid,
+        }
+    }
     let mut seen = Looked {
-        first: 0,
-        place: 0,
+        first: low,
+        place: low,
         lock: Locked::Nobody,
-        history: history,
+        history: no_history(),
     };
-    let mut i: usize = 0;
+    let mut i = low;
     while i < n {
         let s = lines[i];
-        let order = slot_order(s, area, key);
         i += 1;
-        match order {
-            Order::Less => {
-                seen.first = i;
-                seen.place = i;
-            }
+        match slot_order(s, area, key) {
+            Order::Less => return seen,
             Order::Equal => {
                 let line = line_of(s, area);
                 seen = see(seen, line, start, stamp, i);
             }
-            Order::Greater => {
-                return seen;
-            }
+            Order::Greater => return seen,
         }
     }
     seen
