@@ -1,4 +1,4 @@
-// The call.
+// `commit_batch`: the head's refusals, then the two passes over the entries.
 ghost use mathlib.Core.Path.{_≡_};
 ghost use Rattle.seqs.specs.Tables.{shown};
 ghost use Rattle.forms.specs.Places.{mutationOf};

@@ -1,6 +1,5 @@
-// What one entry meets in the store: look its key up, and judge it by what was found. That records are sound is the store's own, and that a
-// record stamped below the start is stamped below the commit is a matter of numbers: no step tests either (MeetLaws and LaterLaws: the
-// definition passes there).
+// The check of one entry, by what the lookup found at its key. Two of the definition's steps are not tested: every record of a store is sound,
+// and a record stamped below the start is stamped below the commit (MeetLaws and LaterLaws: the definition passes there).
 ghost use mathlib.Core.Path.{_≡_};
 ghost use lib.ListN.{length};
 ghost use Rattle.forms.specs.Bytes.{Bytes};
@@ -132,7 +131,8 @@ fn check_entry(lock: Locked, below: bool, terms: Terms, key: &[u8], put: bool, r
     }
 }
 
-// What an entry meets, in the store as it came, by what was found at its key. Of the store nothing is read here, so that it is not copied.
+// What an entry meets, in the store as it came. The contract names the store that `found` was looked up in; the code does not read it, so the
+// table is not copied.
 pub fn meet(
     store: Store,
     found: Looked,
