@@ -45,10 +45,13 @@ use Rattle.lines.specs.declared.store.Store.{Store}
 use Rattle.lines.specs.View.{rowIf, addIf, boxOf}
 use Rattle.lines.specs.Made.{Built}
 use Rattle.lines.specs.Looks.{lockIn, lockedBy, said, LockThere, IntentThere, LookedAt}
-use Rattle.stretches.specs.Changes.{entryFor, recordOver, Owned, LockAsks, RecordAsks, EndAsks, Leaves}
+use Rattle.stretches.specs.declared.changes.Change.{Change}
+use Rattle.stretches.specs.Changes.{entryFor, recordOver, Owned, LockAsks, RecordAsks, EndAsks, Leaves, changed, ChangeAsks}
 use Rattle.stretches.proofs.KeptLaws.{row-short}
 use Rattle.stretches.proofs.RecordLaws.{no-row}
 use Rattle.applies.specs.Applies.{Applied, PrewriteAsks, CommitAsks, RollbackAsks, StepAsks}
+use Rattle.applies.specs.declared.deeds.Deed.{Deed}
+use Rattle.applies.specs.Deeds.{pointOf, mostOf, applyOf, EntryAsks}
 
 never : {A : Type 0} {x : A} → _≡_ {A = Option A} none (some x) → ⊥
 never e = let z : _≡_ {A = ℕ} 0 1 = cc in omega arith
@@ -319,3 +322,18 @@ module _ {st : Store} {area : Bytes} {h : Ending} {key : Key} {put : Bool} {row 
         comes =
             records-new key w (box.dropLock key (boxOf st area .lines)) (ordered-dropLock key (boxOf st area .lines) (order-lines (boxOf st area) (asks .built .kept .sorted)))
             ∙ ap (box.insertBy stampBefore w) (records-dropLock key key (boxOf st area .lines))
+
+-- ---- an entry, as its call applies it
+
+abbrev pub Asked : Deed → Key → Store → Bytes → Looked → Key → Bool → Row → Type 0
+Asked d primary st area seen key put row = (EntryAsks d primary st area key put row) × (LookedAt st area key (pointOf d .start) (pointOf d .stamp) seen)
+
+abbrev pub Done : Deed → Key → Store → Bytes → Key → Bool → Row → Change → Bytes → Type 0
+Done d primary st area key put row c area′ = (ChangeAsks st c) × (Applied st area (applyOf d primary (entryFor key put row) (boxOf st area)) (st .top + mostOf d) (changed st c) area′)
+
+module _ {d e : Deed} (q : d ≡ e) (primary : Key) (st : Store) (area : Bytes) (key : Key) (put : Bool) (row : Row) where
+  pub asked-as : {seen : Looked} → Asked d primary st area seen key put row → Asked e primary st area seen key put row
+  asked-as {seen} a = subst (λ (x : Deed). Asked x primary st area seen key put row) q a
+
+  pub done-as : (c : Change) {area′ : Bytes} → Done e primary st area key put row c area′ → Done d primary st area key put row c area′
+  done-as c {area′} a = subst (λ (x : Deed). Done x primary st area key put row c area′) (sym q) a

@@ -1,17 +1,26 @@
-// One entry of a changing call, applied after its checks have passed: look the key up, write the bytes, and say the change of the table. What is there
-// already stays as it is.
+// One entry of a changing call, applied after its checks have passed, by what stands at its key: write the bytes, and say the change of the
+// table. What is there already stays as it is.
 ghost use Prim.Native.Nat.{_+_};
 ghost use Rattle.rules.specs.Prewrite.{applyPrewrite};
 ghost use Rattle.rules.specs.Commit.{applyCommit};
 ghost use Rattle.rules.specs.Rollback.{applyRollback};
 ghost use Rattle.rules.specs.OneStep.{applyStep};
 ghost use Rattle.lines.specs.View.{boxOf};
+ghost use Rattle.lines.specs.Looks.{LookedAt};
 ghost use Rattle.stretches.specs.Changes.{headFor, entryFor, changed, ChangeAsks};
 ghost use Rattle.applies.specs.Applies.{endingFor, PrewriteAsks, CommitAsks, RollbackAsks, StepAsks, Applied};
+ghost use Rattle.applies.specs.Deeds.{pointOf, mostOf, applyOf, EntryAsks};
+
+pub mod deeds;
+
+pub use deeds::Deed;
+pub use deeds::Point;
+pub use deeds::most_of;
+pub use deeds::point_of;
 use lines::Found;
 use lines::Locked;
+use lines::Looked;
 use lines::Store;
-use lines::look;
 use rules::Kind;
 use stretches::Change;
 use stretches::end_lock;
@@ -20,9 +29,10 @@ use stretches::put_lock;
 use stretches::put_record;
 
 // "Each entry not yet locked gets a lock .., and a Put's row is stored at this start"
-pub fn apply_prewrite(
+fn apply_prewrite(
     store: Store,
     area: &mut [u8],
+    seen: Looked,
     txn: u64,
     start: u64,
     ttl: u64,
@@ -31,10 +41,9 @@ pub fn apply_prewrite(
     put: bool,
     row: &[u8],
 ) -> Change
-    requires { ⌜ PrewriteAsks store (now area) (headFor txn start (now primary) ttl) (now key) put (now row) ⌝ }
+    requires { ⌜ (PrewriteAsks store (now area) (headFor txn start (now primary) ttl) (now key) put (now row)) × (LookedAt store (now area) (now key) start 0 seen) ⌝ }
     ensures { λ r. ⌜ (ChangeAsks store r) × (Applied store (now (area .entry)) (applyPrewrite (headFor txn start (now (primary .entry)) ttl) (entryFor (now (key .entry)) put (now (row .entry))) (boxOf store (now (area .entry)))) (store .top + 375) (changed store r) (now (area .exit))) ⌝ }
 {
-    let seen = look(store, area, key, start, 0);
     let lock = seen.lock;
     match lock {
         Locked::Nobody => put_lock(store, area, seen, key, txn, start, ttl, primary, put, row),
@@ -43,18 +52,18 @@ pub fn apply_prewrite(
 }
 
 // "a record of the lock's start and kind, stamped with the commit, replaces the lock; a Put's row stays"
-pub fn apply_commit(
+fn apply_commit(
     store: Store,
     area: &mut [u8],
+    seen: Looked,
     txn: u64,
     start: u64,
     commit: u64,
     key: &[u8],
 ) -> Change
-    requires { ⌜ CommitAsks store (now area) (endingFor txn start commit) (now key) ⌝ }
+    requires { ⌜ (CommitAsks store (now area) (endingFor txn start commit) (now key)) × (LookedAt store (now area) (now key) start commit seen) ⌝ }
     ensures { λ r. ⌜ (ChangeAsks store r) × (Applied store (now (area .entry)) (applyCommit (endingFor txn start commit) (now (key .entry)) (boxOf store (now (area .entry)))) (store .top + 319) (changed store r) (now (area .exit))) ⌝ }
 {
-    let seen = look(store, area, key, start, commit);
     let history = seen.history;
     let with = history.with;
     match with {
@@ -64,16 +73,26 @@ pub fn apply_commit(
 }
 
 // "Lock and its row go, a Rollback record comes"
-pub fn apply_rollback(store: Store, area: &mut [u8], txn: u64, start: u64, key: &[u8]) -> Change
-    requires { ⌜ RollbackAsks store (now area) txn start (now key) ⌝ }
+fn apply_rollback(
+    store: Store,
+    area: &mut [u8],
+    seen: Looked,
+    txn: u64,
+    start: u64,
+    key: &[u8],
+) -> Change
+    requires { ⌜ (RollbackAsks store (now area) txn start (now key)) × (LookedAt store (now area) (now key) start start seen) ⌝ }
     ensures { λ r. ⌜ (ChangeAsks store r) × (Applied store (now (area .entry)) (applyRollback start (now (key .entry)) (boxOf store (now (area .entry)))) (store .top + 64) (changed store r) (now (area .exit))) ⌝ }
 {
-    let seen = look(store, area, key, start, start);
+    let table = store.lines;
+    let load = store.load;
     let history = seen.history;
     let at = history.at;
     match at {
         Found::Nothing => put_record(
-            store,
+            table,
+            load,
+            store.top,
             area,
             seen,
             key,
@@ -87,9 +106,10 @@ pub fn apply_rollback(store: Store, area: &mut [u8], txn: u64, start: u64, key: 
 }
 
 // "Each entry gets a record of this start and its kind, stamped with the commit; a Put's row is stored ..; an own lock goes"
-pub fn apply_step(
+fn apply_step(
     store: Store,
     area: &mut [u8],
+    seen: Looked,
     txn: u64,
     start: u64,
     commit: u64,
@@ -97,10 +117,50 @@ pub fn apply_step(
     put: bool,
     row: &[u8],
 ) -> Change
-    requires { ⌜ StepAsks store (now area) (endingFor txn start commit) (now key) put (now row) ⌝ }
+    requires { ⌜ (StepAsks store (now area) (endingFor txn start commit) (now key) put (now row)) × (LookedAt store (now area) (now key) start commit seen) ⌝ }
     ensures { λ r. ⌜ (ChangeAsks store r) × (Applied store (now (area .entry)) (applyStep (endingFor txn start commit) (entryFor (now (key .entry)) put (now (row .entry))) (boxOf store (now (area .entry)))) (store .top + 319) (changed store r) (now (area .exit))) ⌝ }
 {
-    let seen = look(store, area, key, start, commit);
+    let table = store.lines;
+    let load = store.load;
     let kind = kind_for(put);
-    put_record(store, area, seen, key, start, commit, kind, row)
+    put_record(
+        table,
+        load,
+        store.top,
+        area,
+        seen,
+        key,
+        start,
+        commit,
+        kind,
+        row,
+    )
+}
+
+// One entry, as its call applies it.
+pub fn apply_entry(
+    store: Store,
+    area: &mut [u8],
+    seen: Looked,
+    deed: Deed,
+    primary: &[u8],
+    key: &[u8],
+    put: bool,
+    row: &[u8],
+) -> Change
+    requires { ⌜ (EntryAsks deed (now primary) store (now area) (now key) put (now row)) × (LookedAt store (now area) (now key) (pointOf deed .start) (pointOf deed .stamp) seen) ⌝ }
+    ensures { λ r. ⌜ (ChangeAsks store r) × (Applied store (now (area .entry)) (applyOf deed (now (primary .entry)) (entryFor (now (key .entry)) put (now (row .entry))) (boxOf store (now (area .entry)))) (store .top + mostOf deed) (changed store r) (now (area .exit))) ⌝ }
+{
+    match deed {
+        Deed::Prewrite { txn, start, ttl } => {
+            apply_prewrite(store, area, seen, txn, start, ttl, primary, key, put, row)
+        }
+        Deed::Commit { txn, start, commit } => {
+            apply_commit(store, area, seen, txn, start, commit, key)
+        }
+        Deed::Rollback { txn, start } => apply_rollback(store, area, seen, txn, start, key),
+        Deed::Step { txn, start, commit } => {
+            apply_step(store, area, seen, txn, start, commit, key, put, row)
+        }
+    }
 }

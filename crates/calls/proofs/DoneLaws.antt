@@ -1,14 +1,16 @@
 -- The ways out of a changing call over a batch, for every check and every change of one entry: "batch 6, 5; ..", its entries, "Then 11".
 -- Assumes nothing.
-use Prim.Native.Nat.{ℕ, _*_}
+use Prim.Native.Nat.{ℕ}
+use native.Mathlib.Omega.{arith}
 use mathlib.Core.Path.{_≡_, refl, sym, ap, _∙_, subst}
 use mathlib.Core.Bool.{Bool, true, false, not}
 use mathlib.Core.List.{List}
 use mathlib.Core.Option.{Option, none, some}
 use lib.Dec.{eqb}
-use borrow.Author.Tests.{not-true, not-false, eqb-true, eqb-false}
+use borrow.Author.Tests.{eqb-true, eqb-false}
 use Rattle.seqs.specs.Tables.{shown}
 use Rattle.forms.specs.Bytes.{Bytes}
+use Rattle.forms.specs.Key.{Key}
 use Rattle.forms.specs.Places.{Decoded}
 use Rattle.forms.specs.declared.batch.Entry.{Entry}
 use Rattle.forms.specs.declared.batch.Entries.{Entries}
@@ -26,13 +28,14 @@ use Rattle.laws.proofs.BatchLaws.{checkAll, applyAll}
 use Rattle.lines.specs.declared.store.Store.{Store}
 use Rattle.lines.specs.View.{boxOf}
 use Rattle.lines.specs.Made.{Made}
-use Rattle.stretches.specs.Packs.{Placed}
+use Rattle.applies.specs.declared.deeds.Deed.{Deed}
 use Rattle.calls.specs.Settled.{Settled}
-use Rattle.calls.specs.Walks.{AllAsks}
-use Rattle.calls.specs.Passes.{allDone, Judged, ApplyAsks, AllApplied}
+use Rattle.calls.specs.Walks.{onlyIf, AllAsks}
+use Rattle.calls.specs.Passes.{allDone, Judged, applyEntry, Ready, counted, ApplyAsks, AllApplied}
 use Rattle.calls.specs.declared.changed.Changed.{Changed}
 use Rattle.calls.specs.declared.judged.Verdict.{Verdict}
-use Rattle.calls.proofs.SettledLaws.{settled-same, settled-new}
+use Rattle.calls.proofs.SettledLaws.{settled-same, settled-still, settled-new}
+use Rattle.calls.proofs.ApplyLaws.{applied-is}
 use Rattle.calls.proofs.AnswerLaws.{head-out, head-on, bad-batch, empty-batch, full-batch}
 
 -- a call that leaves the box as it was
@@ -41,6 +44,16 @@ unfolding settle
 settle-still Accepted new old e = ap (λ (b : Box). record { answer = Accepted; box = b }) (e refl)
 settle-still (No n) new old e = refl
 settle-still (Held h) new old e = refl
+
+-- the entries are applied where the call moves
+pub asks-if : {st : Store} {area s : Bytes} {n : ℕ} {es : List Entry} → AllAsks st area s n es → {moves : Bool} {m : ℕ} → m ≡ onlyIf moves n → {d : Deed} {primary : Key}
+    → (moves ≡ true → Ready d primary s (counted n es) (boxOf st area)) → ApplyAsks d primary st area s m es
+unfolding shown Ready
+asks-if {st} {area} {s} {n} {es} a {moves} q {d} {primary} r = subst (λ (i : ℕ). ApplyAsks d primary st area s i es) (sym q) (go moves refl)
+  where
+    go : (t : Bool) → moves ≡ t → ApplyAsks d primary st area s (onlyIf t n) es
+    go true e = record { made = a .made; few = a .form .listed .few; listed = λ _. a .form .listed; ready = r e }
+    go false e = record { made = a .made; few = omega arith; listed = λ z. absurd (omega arith); ready = tt }
 
 module _ {A : Type 0} {check : Box → A → Answer} {apply : A → Box → Box} (item : Entry → A) where
   -- ---- from its entries on
@@ -56,37 +69,29 @@ module _ {A : Type 0} {check : Box → A → Answer} {apply : A → Box → Box}
     unfolding allDone
     done-is = ap (λ (x : Answer). settle x new b) (sym (j .answer-is))
 
-    -- a refusal, or a replay
-    pub pass-stays : not (v .moves) ≡ true → Settled st area (allDone check apply (shown item n es) (boxOf st area)) (record { store = st; answer = v .answer }) area
-    pass-stays x = settled-same (a .made) (done-is ∙ settle-still (v .answer) new b (j .stays (not-true (v .moves) x)))
+    module _ (move : v .moves ≡ true) where
+      pub pass-checked : checkAll check (boxOf st area) (shown item n es) ≡ Accepted
+      pass-checked = then-left _ _ (sym (j .answer-is) ∙ j .passes move)
 
-    module _ (x : not (v .moves) ≡ false) where
-      abbrev move : v .moves ≡ true
-      move = not-false (v .moves) x
-
-      fit : Fits (loadOf new)
+      pub pass-fit : Fits (loadOf (applyAll apply (shown item n es) (boxOf st area)))
       unfolding roomFor
-      fit = fits-out _ (need-true _ 11 (then-right (checkAll check b (shown item n es)) _ (sym (j .answer-is) ∙ j .passes move)))
+      pass-fit = fits-out _ (need-true _ 11 (then-right (checkAll check b (shown item n es)) _ (sym (j .answer-is) ∙ j .passes move)))
 
-      module _ (most : ℕ) {p : Store} {area₁ : Bytes} (w : Placed st area (n * most) p area₁) where
-        pub pass-applies : ApplyAsks check apply item most p area₁ s n es
-        pass-applies = record {
-          built = w .made .built;
-          form = a .form;
-          passed = ap (λ (c : Box). checkAll check c (shown item n es)) (w .shown) ∙ then-left _ _ (sym (j .answer-is) ∙ j .passes move);
-          fit = subst (λ (c : Box). Fits (loadOf (applyAll apply (shown item n es) c))) (sym (w .shown)) fit;
-          room = w .room;
-        }
+    module _ {d : Deed} {primary : Key} {m : ℕ} (q : m ≡ onlyIf (v .moves) n) where
+      -- a refusal or a replay leaves all as it was; else the box is another one
+      pub pass-done : ((e : Entry) (x : Box) → apply (item e) x ≡ applyEntry d primary s e x) → {t : Store} {area′ : Bytes} → AllApplied d primary st area s m es t area′
+          → Settled st area (allDone check apply (shown item n es) (boxOf st area)) (record { store = t; answer = v .answer }) area′
+      pass-done is {t} {area′} w = go (v .moves) refl
+        where
+          same : v .moves ≡ true → boxOf t area′ ≡ new
+          same e = w .shown ∙ ap (λ (i : ℕ). applyAll (applyEntry d primary s) (counted i es) b) (q ∙ ap (λ (x : Bool). onlyIf x n) e) ∙ sym (applied-is apply item d primary s is n es b)
 
-        -- the box is another one
-        pub pass-new : {t : Store} {area′ : Bytes} → AllApplied apply (shown item n es) (boxOf p area₁) t area′
-            → Settled st area (allDone check apply (shown item n es) (boxOf st area)) (record { store = t; answer = Accepted }) area′
-        pass-new {t} {area′} q =
-            settled-new (record { built = q .built; fit = subst Fits (sym (q .built .kept .load-is ∙ ap loadOf is)) fit })
-            (done-is ∙ settle-new (v .answer) new b (j .passes move) ∙ ap (λ (c : Box). record { answer = Accepted; box = c }) (sym is)) (λ e. j .moves move (sym is ∙ e))
-          where
-            is : boxOf t area′ ≡ new
-            is = q .shown ∙ ap (applyAll apply (shown item n es)) (w .shown)
+          go : (x : Bool) → v .moves ≡ x → Settled st area (allDone check apply (shown item n es) b) (record { store = t; answer = v .answer }) area′
+          go true e =
+              subst (λ (x : Answer). Settled st area (allDone check apply (shown item n es) b) (record { store = t; answer = x }) area′) (sym (j .passes e))
+              (settled-new (record { built = w .built; fit = subst Fits (sym (w .built .kept .load-is ∙ ap loadOf (same e))) (pass-fit e) })
+              (done-is ∙ settle-new (v .answer) new b (j .passes e) ∙ ap (λ (c : Box). record { answer = Accepted; box = c }) (sym (same e))) (λ z. j .moves e (sym (same e) ∙ z)))
+          go false e = settled-still (w .still (q ∙ ap (λ (x : Bool). onlyIf x n) e)) (a .made) (done-is ∙ settle-still (v .answer) new b (j .stays e))
 
 -- ---- before its entries: the head's answer `a`
 

@@ -20,7 +20,7 @@ use Rattle.lines.specs.declared.views.Intent.{Intent}
 use Rattle.lines.specs.Looks.{lockIn}
 use Rattle.lines.proofs.ViewLaws.{bytes-long}
 use Rattle.stretches.specs.Changes.{RowFits}
-use Rattle.calls.specs.Walks.{sizeIf, rowAt}
+use Rattle.calls.specs.Walks.{onlyIf, rowAt}
 
 module _ (put : Bool) (row : Row) where
   pub argument-delete : not put ≡ true → true ≡ rowArgument (when put row)
@@ -49,18 +49,18 @@ module _ (area : Bytes) (l : Intent) (txn start : ℕ) where
 pub key-short : {s : Bytes} (e : Entry) → EntryIn s e → length (keyAt s e) ≤ 255
 key-short {s} e i = omega (arith, bytes-long s (e .at) (e .len) (i .key-in), i .key-small)
 
-pub size-few : (put : Bool) (n : ℕ) → sizeIf put n ≤ n
+pub size-few : (put : Bool) (n : ℕ) → onlyIf put n ≤ n
 size-few true n = omega arith
 size-few false n = omega arith
 
-pub row-cut : (s : Bytes) (e : Entry) {m : ℕ} → m ≡ sizeIf (e .put) (e .rowlen) → bytesAt s (e .rowat) (e .rowat + m - e .rowat) ≡ rowAt s e
+pub row-cut : (s : Bytes) (e : Entry) {m : ℕ} → m ≡ onlyIf (e .put) (e .rowlen) → bytesAt s (e .rowat) (e .rowat + m - e .rowat) ≡ rowAt s e
 row-cut s e q = simp add-sub-cancel-left (ap (bytesAt s (e .rowat)) q)
 
 -- an entry by its parts, as the code cuts them
 pub parts-are : (s : Bytes) (e : Entry) → record { key = keyAt s e; row = when (e .put) (rowAt s e) } ≡ mutationOf s e
 parts-are s e = ap {B = Mutation} (λ (o : Option Row). record { key = keyAt s e; row = o }) (go (e .put))
   where
-    go : (t : Bool) → when t (bytesAt s (e .rowat) (sizeIf t (e .rowlen))) ≡ when t (bytesAt s (e .rowat) (e .rowlen))
+    go : (t : Bool) → when t (bytesAt s (e .rowat) (onlyIf t (e .rowlen))) ≡ when t (bytesAt s (e .rowat) (e .rowlen))
     go true = refl
     go false = refl
 
@@ -68,6 +68,6 @@ parts-are s e = ap {B = Mutation} (λ (o : Option Row). record { key = keyAt s e
 pub row-fits : (s : Bytes) (e : Entry) → rowArgument (when (e .put) (rowAt s e)) ≡ true → RowFits (kindOf (when (e .put) (rowAt s e))) (rowAt s e)
 row-fits s e = go (e .put)
   where
-    go : (t : Bool) → rowArgument (when t (bytesAt s (e .rowat) (sizeIf t (e .rowlen)))) ≡ true → RowFits (kindOf (when t (bytesAt s (e .rowat) (sizeIf t (e .rowlen))))) (bytesAt s (e .rowat) (sizeIf t (e .rowlen)))
+    go : (t : Bool) → rowArgument (when t (bytesAt s (e .rowat) (onlyIf t (e .rowlen)))) ≡ true → RowFits (kindOf (when t (bytesAt s (e .rowat) (onlyIf t (e .rowlen))))) (bytesAt s (e .rowat) (onlyIf t (e .rowlen)))
     go true f = f
     go false f = refl

@@ -1,20 +1,15 @@
 -- What the checks of all entries come to, for every call that tells what an entry adds and frees: the room that it would leave, and whether
 -- its box becomes another one.
 -- Assumes nothing.
-use Prim.Native.Nat.{ℕ, _+_, _≤_, _<_}
+use Prim.Native.Nat.{_+_, _≤_, _<_}
 use native.Mathlib.Omega.{arith}
 use mathlib.Core.Path.{_≡_, refl, sym, ap, _∙_}
 use mathlib.Core.Bool.{Bool, true, false, not, _&&_, false≢true}
 use mathlib.Core.List.{List, [], _∷_}
 use lib.Dec.{ltb}
-use lib.ListN.{getD, drop}
 use borrow.Author.Tests.{not-true, not-false, ltb-true, ltb-false}
-use Rattle.seqs.specs.Tables.{shown}
-use Rattle.forms.specs.Bytes.{Bytes}
 use Rattle.forms.specs.Key.{Key}
 use Rattle.forms.specs.Batch.{ascend}
-use Rattle.forms.specs.Places.{noEntry}
-use Rattle.forms.specs.declared.batch.Entry.{Entry}
 use Rattle.rules.specs.declared.answers.Answer.{Answer}
 use Rattle.rules.specs.declared.answers.Answer.the-variants.{Accepted, No}
 use Rattle.rules.specs.declared.room.Load.{Load}
@@ -25,8 +20,6 @@ use Rattle.laws.specs.Adds.{plus, sumLoads}
 use Rattle.laws.proofs.StepLaws.{and-left, and-right}
 use Rattle.laws.proofs.LoadLaws.{load-eq, load-fields}
 use Rattle.laws.proofs.BatchLaws.{applyAll}
-use Rattle.lines.specs.declared.store.Store.{Store}
-use Rattle.lines.specs.View.{boxOf}
 use Rattle.lines.specs.Made.{Kept}
 use Rattle.calls.specs.Settled.{isAccepted}
 use Rattle.calls.specs.Weights.{LeftAsks, Steps, AllChecked}
@@ -34,7 +27,7 @@ use Rattle.calls.specs.Passes.{leftBy, RoomJudged, Judged}
 use Rattle.calls.specs.declared.weights.Weight.{Weight}
 use Rattle.calls.specs.declared.judged.Verdict.{Verdict}
 use Rattle.calls.proofs.SettledLaws.{is-accepted, then-refused}
-use Rattle.calls.proofs.ApplyLaws.{Changes, ChangingAll, changing-here}
+use Rattle.calls.proofs.ApplyLaws.{Changes, Applying}
 
 -- ---- what an entry adds and frees
 
@@ -120,16 +113,14 @@ module _ {A : Type 0} {c : Steps A} {key : A → Key} {apply : A → Box → Box
 -- ---- in the applying pass
 
 -- where more lines come than go a slot is free
-pub changing-free : {A : Type 0} {c : Steps A} {k : Changes A} → Weighed c (k .key) (k .apply) → {item : Entry → A} {want : Box} {area s : Bytes} {n : ℕ} {es : List Entry} {i : ℕ} {cur : Store}
-    → ChangingAll k item want area s n es i cur → i < n → Fits (loadOf want)
-    → c .frees (boxOf cur area) (item (getD es i noEntry)) .lines < c .adds (boxOf cur area) (item (getD es i noEntry)) .lines → cur .load .lines < 1024
+pub applying-free : {A : Type 0} {c : Steps A} {k : Changes A} → Weighed c (k .key) (k .apply) → {want b : Box} {x : A} {rest : List A} → Applying k want b (x ∷ rest) → {load : Load} → Kept b load → Fits (loadOf want)
+    → c .frees b x .lines < c .adds b x .lines → load .lines < 1024
 unfolding sumLoads
-changing-free w {item} {area = area} {n = n} {es = es} {i = i} {cur = cur} v more f h =
-    let here = changing-here v more in
-    let p = load-fields (w .load _ (boxOf cur area) (here .ascends) (v .left .built .kept .sorted)) in
+applying-free w {b = b} {rest = rest} here k f h =
+    let p = load-fields (w .load _ b (here .ascends) (k .sorted)) in
     let q = load-fields (ap loadOf (here .is)) in
-    let z = load-fields (v .left .built .kept .load-is) in
-    omega (arith, p .lines, q .lines, z .lines, f .lines, all-lines w (drop (i + 1) (shown item n es)) (boxOf cur area))
+    let z = load-fields (k .load-is) in
+    omega (arith, p .lines, q .lines, z .lines, f .lines, all-lines w rest b)
 
 -- ---- `judge`
 

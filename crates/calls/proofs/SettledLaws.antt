@@ -1,7 +1,7 @@
 -- The promise of a changing call, made by its ways out: nothing has changed, or the box is another one.
 -- Assumes nothing.
 use mathlib.Core.Bool.{Bool, true, false, not, false≢true}
-use mathlib.Core.Path.{_≡_, refl, sym, _∙_, ap}
+use mathlib.Core.Path.{_≡_, refl, sym, _∙_, ap, subst}
 use Rattle.forms.specs.Bytes.{Bytes}
 use Rattle.rules.specs.declared.answers.Answer.{Answer}
 use Rattle.rules.specs.declared.answers.Answer.the-variants.{Accepted, No, Held}
@@ -44,6 +44,11 @@ settled-same {st} {area} {d} m e = record {
   refused = λ n. untouched;
   unchanged = λ s. untouched;
 }
+
+pub settled-still : {st r : Store} {area area′ : Bytes} {d : Done} {a : Answer} → Untouched st area r area′ → Made st area → d ≡ record { answer = a; box = boxOf st area } → Settled st area d (record { store = r; answer = a }) area′
+settled-still {st} {r} {area} {area′} {d} {a} u m e =
+    subst (λ (x : Store). Settled st area d (record { store = x; answer = a }) area′) (sym (u .store-is))
+    (subst (λ (y : Bytes). Settled st area d (record { store = st; answer = a }) y) (sym (u .area-is)) (settled-same m e))
 
 -- the box is the definition's, and another one than it was
 pub settled-new : {st : Store} {area : Bytes} {d : Done} {r : Store} {area′ : Bytes} → Made r area′ → d ≡ record { answer = Accepted; box = boxOf r area′ } → (boxOf r area′ ≡ boxOf st area → ⊥)

@@ -1,28 +1,32 @@
 -- A call over the entries of a batch, for every check and every change of one entry: what the checks come to, what the applying pass asks
 -- and leaves, and the whole of it.
 -- Assumes nothing.
-use Prim.Native.Nat.{ℕ, _+_, _*_, _≤_}
+use Prim.Native.Nat.{ℕ, _+_, _≤_, _<_}
 use mathlib.Core.Path.{_≡_}
 use mathlib.Core.Bool.{true, false, _&&_}
-use mathlib.Core.List.{List}
+use mathlib.Core.List.{List, [], _∷_}
 use lib.Dec.{ltb}
 use Rattle.seqs.specs.Tables.{shown}
 use Rattle.forms.specs.Bytes.{Bytes}
-use Rattle.forms.specs.Places.{InForm}
+use Rattle.forms.specs.Key.{Key}
+use Rattle.forms.specs.Places.{keyAt, mutationOf, Listed}
 use Rattle.forms.specs.declared.batch.Entry.{Entry}
 use Rattle.rules.specs.declared.answers.Answer.{Answer}
 use Rattle.rules.specs.declared.answers.Answer.the-variants.{Accepted}
 use Rattle.rules.specs.declared.room.Load.{Load}
 use Rattle.rules.specs.Answers.{_▸_, need}
 use Rattle.rules.specs.Box.{Box}
-use Rattle.rules.specs.Room.{loadOf, fits, roomFor, Fits}
+use Rattle.rules.specs.Room.{fits, roomFor}
 use Rattle.rules.specs.Calls.{Done, settle}
 use Rattle.laws.specs.Adds.{plus, minus}
 use Rattle.laws.proofs.BatchLaws.{checkAll, applyAll}
 use Rattle.lines.specs.declared.store.Store.{Store}
 use Rattle.lines.specs.View.{boxOf}
-use Rattle.lines.specs.Made.{Built}
-use Rattle.calls.specs.Settled.{isAccepted}
+use Rattle.lines.specs.Made.{Built, Made}
+use Rattle.applies.specs.declared.deeds.Deed.{Deed}
+use Rattle.applies.specs.Deeds.{mostOf, applyOf, EntryAsks}
+use Rattle.calls.specs.Walks.{rowAt}
+use Rattle.calls.specs.Settled.{isAccepted, Untouched}
 use Rattle.calls.specs.declared.weights.Weight.{Weight}
 use Rattle.calls.specs.declared.judged.Verdict.{Verdict}
 
@@ -46,15 +50,33 @@ pub record Judged {A : Type 0} (check : Box → A → Answer) (apply : A → Box
   pub passes : r .moves ≡ true → r .answer ≡ Accepted
   pub moves : r .moves ≡ true → applyAll apply xs b ≡ b → ⊥
 
--- every check has passed, the box after the call is within the limits, and the area has place for all entries, `most` bytes each
-pub record ApplyAsks {A : Type 0} (check : Box → A → Answer) (apply : A → Box → Box) (item : Entry → A) (most : ℕ) (st : Store) (area s : Bytes) (n : ℕ) (es : List Entry) : Type 0 where
-  pub built : Built st area
-  pub form : InForm s n es
-  pub passed : checkAll check (boxOf st area) (shown item n es) ≡ Accepted
-  pub fit : Fits (loadOf (applyAll apply (shown item n es) (boxOf st area)))
-  pub room : st .top + n * most ≤ 131072
+-- ---- the applying pass
 
--- the box is the definition's
-pub record AllApplied {A : Type 0} (apply : A → Box → Box) (xs : List A) (b : Box) (r : Store) (area : Bytes) : Type 0 where
-  pub built : Built r area
-  pub shown : boxOf r area ≡ applyAll apply xs b
+-- the change of one entry
+abbrev pub applyEntry : Deed → Key → Bytes → Entry → Box → Box
+applyEntry d primary s e = applyOf d primary (mutationOf s e)
+
+-- a store that shows the box, with place for the entry's bytes, has what its change asks
+abbrev pub EntryReady : Deed → Key → Bytes → Entry → Box → Type 0
+EntryReady d primary s e b = (st : Store) (area : Bytes) → Built st area → boxOf st area ≡ b → st .top + mostOf d ≤ 131072 → EntryAsks d primary st area (keyAt s e) (e .put) (rowAt s e)
+
+-- so it is for each entry in its turn
+unfoldable pub Ready : Deed → Key → Bytes → List Entry → Box → Type 0
+Ready d primary s [] b = Unit {0}
+Ready d primary s (e ∷ es) b = (EntryReady d primary s e b) × (Ready d primary s es (applyEntry d primary s e b))
+
+-- the entries that count
+abbrev pub counted : ℕ → List Entry → List Entry
+counted n es = shown (λ (e : Entry). e) n es
+
+pub record ApplyAsks (d : Deed) (primary : Key) (st : Store) (area s : Bytes) (n : ℕ) (es : List Entry) : Type 0 where
+  pub made : Made st area
+  pub few : n ≤ 32
+  pub listed : 0 < n → Listed s n es
+  pub ready : Ready d primary s (counted n es) (boxOf st area)
+
+-- the box is the definition's; without entries nothing has changed
+pub record AllApplied (d : Deed) (primary : Key) (st : Store) (area s : Bytes) (n : ℕ) (es : List Entry) (r : Store) (area′ : Bytes) : Type 0 where
+  pub built : Built r area′
+  pub shown : boxOf r area′ ≡ applyAll (applyEntry d primary s) (counted n es) (boxOf st area)
+  pub still : n ≡ 0 → Untouched st area r area′

@@ -15,13 +15,14 @@ use Rattle.calls.specs.declared.terms.Terms.{Terms}
 abbrev pub endingOf : Terms → Ending
 endingOf t = record { txn = t .txn; start = t .start; commit = t .commit }
 
--- a Delete has no row
-abbrev pub sizeIf : Bool → ℕ → ℕ
-sizeIf true n = n
-sizeIf false n = 0
+-- as many where it is so, else none
+abbrev pub onlyIf : Bool → ℕ → ℕ
+onlyIf true n = n
+onlyIf false n = 0
 
+-- a Delete has no row
 abbrev pub rowAt : Bytes → Entry → Row
-rowAt s e = bytesAt s (e .rowat) (sizeIf (e .put) (e .rowlen))
+rowAt s e = bytesAt s (e .rowat) (onlyIf (e .put) (e .rowlen))
 
 -- the entries of a batch in form, before anything is looked up
 pub record AllAsks (st : Store) (area s : Bytes) (n : ℕ) (es : List Entry) : Type 0 where

@@ -1,6 +1,7 @@
 // What all changing calls share: what they give back, the tests that several of them make of a lock, a row and a kind, the terms of a
 // transaction, the parts of an entry, the weights of entries, and what the checks of all of them come to. specs/Settled.antt has the one
 // promise of every changing call, specs/Passes.antt what a call over a batch does.
+pub mod applying;
 pub mod changed;
 pub mod judged;
 pub mod parts;
@@ -8,10 +9,12 @@ pub mod steps;
 pub mod terms;
 pub mod weights;
 
+pub use applying::apply_all;
 pub use changed::Changed;
 pub use judged::Verdict;
 pub use judged::judge;
 pub use parts::key_of;
+pub use parts::only_if;
 pub use parts::row_of;
 pub use steps::accepted;
 pub use steps::held_by;

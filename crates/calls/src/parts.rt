@@ -1,7 +1,7 @@
 // The key and the row of an entry, as parts of the batch.
 ghost use mathlib.Core.Path.{_≡_};
 ghost use Rattle.forms.specs.Places.{EntryIn, keyAt};
-ghost use Rattle.calls.specs.Walks.{sizeIf, rowAt};
+ghost use Rattle.calls.specs.Walks.{onlyIf, rowAt};
 use forms::Entry;
 
 pub fn key_of(batch: &[u8], e: Entry) -> &[u8]
@@ -13,12 +13,13 @@ pub fn key_of(batch: &[u8], e: Entry) -> &[u8]
     &batch[at..end]
 }
 
-// How long an entry's row is: a Delete has none.
-fn row_size(put: bool, len: usize) -> usize
-    ensures { λ r. ⌜ r ≡ sizeIf put len ⌝ }
+// As many where it is so, else none: how long an entry's row is, since a Delete has none; how many entries are applied, since a refusal
+// applies none.
+pub fn only_if(so: bool, n: usize) -> usize
+    ensures { λ r. ⌜ r ≡ onlyIf so n ⌝ }
 {
-    if put {
-        return len;
+    if so {
+        return n;
     }
     0
 }
@@ -28,7 +29,7 @@ pub fn row_of(batch: &[u8], e: Entry) -> &[u8]
     ensures { λ r. ⌜ now r ≡ rowAt (now (batch .entry)) e ⌝ }
 {
     let at = e.rowat;
-    let size = row_size(e.put, e.rowlen);
+    let size = only_if(e.put, e.rowlen);
     let end = at + size;
     &batch[at..end]
 }

@@ -1,16 +1,15 @@
 -- The two passes over a batch of keys, and what the call's ways out say from its keys on.
 -- Assumes nothing.
-use Prim.Native.Nat.{ℕ, _+_, _*_, _≤_, _<_}
+use Prim.Native.Nat.{ℕ, _+_, _≤_, _<_}
 use native.Mathlib.Omega.{arith}
-use mathlib.Core.Path.{_≡_, refl, sym, ap, ap₂, _∙_}
+use mathlib.Core.Path.{_≡_, refl, sym, ap, ap₂, _∙_, subst}
 use mathlib.Core.Bool.{Bool, true, false, not, _&&_, _||_, or-false, or-assoc}
-use mathlib.Core.List.{List}
+use mathlib.Core.List.{List, _∷_}
 use lib.ListN.{getD, drop}
-use borrow.Author.Tests.{not-true, not-false}
 use Rattle.seqs.specs.Tables.{shown}
 use Rattle.forms.specs.Bytes.{Bytes}
 use Rattle.forms.specs.Key.{Key}
-use Rattle.forms.specs.Places.{keyAt, noEntry, Listed}
+use Rattle.forms.specs.Places.{keyAt, noEntry, Listed, InForm}
 use Rattle.forms.specs.declared.batch.Entry.{Entry}
 use Rattle.rules.specs.declared.answers.Answer.{Answer}
 use Rattle.rules.specs.declared.answers.Answer.the-variants.{Accepted}
@@ -22,21 +21,22 @@ use Rattle.laws.proofs.StepLaws.{and-left, and-right, and-false}
 use Rattle.laws.proofs.ChainLaws.{denied}
 use Rattle.laws.proofs.SettleLaws.{settle-old, settle-new}
 use Rattle.laws.proofs.LoadLaws.{load-fields}
+use Rattle.laws.proofs.BatchLaws.{applyAll}
 use Rattle.laws.proofs.CommitLaws.{commit-depends, commit-only, commits-less, commitKeys-all, applyCommits-all}
 use Rattle.lines.specs.declared.store.Store.{Store}
 use Rattle.lines.specs.View.{boxOf}
-use Rattle.lines.specs.Made.{Built}
-use Rattle.stretches.specs.Packs.{Placed}
-use Rattle.applies.specs.Applies.{CommitAsks}
+use Rattle.applies.specs.declared.deeds.Deed.{Deed}
+use Rattle.applies.specs.declared.deeds.Deed.the-variants.{Commit}
 use Rattle.calls.specs.Settled.{isAccepted, Settled}
-use Rattle.calls.specs.Walks.{AllAsks}
-use Rattle.calls.proofs.SettledLaws.{is-accepted, is-refusal, settled-same, settled-new}
+use Rattle.calls.specs.Walks.{onlyIf, AllAsks}
+use Rattle.calls.specs.Passes.{applyEntry, EntryReady, Ready, counted, AllApplied}
+use Rattle.calls.proofs.SettledLaws.{is-accepted, is-refusal, settled-still, settled-new}
 use Rattle.calls.proofs.PassLaws.{Pass, pass-start, pass-here, pass-more, pass-end}
 use Rattle.calls.proofs.WalkLaws.{Walking, walking-start, walking-more, walking-out, walking-end}
-use Rattle.calls.proofs.ApplyLaws.{Changes, applying-passed, applying-room, ChangingAll, changing-start, changing-here}
-use Rattle.commits.specs.declared.checks.Verdict.{Verdict}
+use Rattle.calls.proofs.ApplyLaws.{Changes, Applying, applying-passed, applied-is, ready-all}
+use Rattle.calls.specs.declared.judged.Verdict.{Verdict}
 use Rattle.commits.specs.Checks.{isNew, someNew, Judged}
-use Rattle.commits.specs.Passes.{allDone, ApplyAsks}
+use Rattle.commits.specs.Passes.{allDone}
 use Rattle.commits.proofs.NewLaws.{all-old, some-fewer}
 
 -- ---- the checking pass: the keys that are left, and whether one was new
@@ -83,23 +83,19 @@ module _ {h : Ending} {b : Box} {s : Bytes} {n : ℕ} {es : List Entry} {i : ℕ
 
 -- ---- the applying pass
 
-abbrev pub changesOf : Ending → Changes Key
-changesOf h = record { key = λ (k : Key). k; start = h .start; check = commitKey h; apply = applyCommit h; most = 319; depends = commit-depends h; only = commit-only h (h .start) }
+abbrev changesOf : Ending → Changes Key
+changesOf h = record { key = λ (k : Key). k; start = h .start; check = commitKey h; apply = applyCommit h; depends = commit-depends h; only = commit-only h (h .start) }
 
--- what is left to apply to the store as it is
-abbrev pub Committing : Ending → Box → Bytes → Bytes → ℕ → List Entry → ℕ → Store → Type 0
-Committing h b area s n es i cur = ChangingAll (changesOf h) (keyAt s) (applyCommits h (shown (keyAt s) n es) b) area s n es i cur
+abbrev pub deedOf : Ending → Deed
+deedOf h = Commit (h .txn) (h .start) (h .commit)
 
-module _ {st : Store} {area : Bytes} {h : Ending} {s : Bytes} {n : ℕ} {es : List Entry} (asks : ApplyAsks st area h s n es) where
-  pub committing-start : Committing h (boxOf st area) area s n es 0 st
-  committing-start =
-      changing-start (changesOf h) (keyAt s) (asks .form .listed) (asks .built) (asks .form .ascends) (sym (commitKeys-all h (boxOf st area) (shown (keyAt s) n es)) ∙ asks .passed)
-      (sym (applyCommits-all h (shown (keyAt s) n es) (boxOf st area))) (asks .room)
-
-  pub committing-asks : {area′ : Bytes} {i : ℕ} {cur : Store} → Committing h (boxOf st area) area′ s n es i cur → i < n → CommitAsks cur area′ h (keyAt s (getD es i noEntry))
-  committing-asks v more =
-      let here = changing-here v more in
-      record { built = v .left .built; head = asks .head; passed = applying-passed here; area-room = applying-room here }
+-- what each key asks in its turn, where all would pass
+pub ends-ready : (h : Ending) (primary : Key) {s : Bytes} {n : ℕ} {es : List Entry} (b : Box) → endingStep h ≡ Accepted → InForm s n es → commitKeys h b (shown (keyAt s) n es) ≡ Accepted → Ready (deedOf h) primary s (counted n es) b
+ends-ready h primary {s} {n} {es} b p form c =
+    ready-all (changesOf h) (keyAt s) (deedOf h) primary s (λ e x. refl) one n es b (record { ascends = form .ascends; passed = sym (commitKeys-all h b (shown (keyAt s) n es)) ∙ c; is = refl })
+  where
+    one : {want : Box} (e : Entry) (rest : List Key) (x : Box) → Applying (changesOf h) want x (keyAt s e ∷ rest) → EntryReady (deedOf h) primary s e x
+    one e rest x v st area built q room = record { built = built; head = p; passed = ap (λ (y : Box). commitKey h y (keyAt s e)) q ∙ applying-passed v; area-room = room }
 
 -- ---- the ways out
 
@@ -116,40 +112,43 @@ module _ {st : Store} {area s : Bytes} {n : ℕ} {es : List Entry} (a : AllAsks 
   done-is = ap (λ (x : Answer). settle x (applyCommits h ks b) b) (sym (j .answer-is))
 
   -- a refusal, or a replay
-  pub pass-stays : not (v .moves) ≡ true → Settled st area (allDone h (shown (keyAt s) n es) (boxOf st area)) (record { store = st; answer = v .answer }) area
-  pass-stays x = settled-same (a .made) (done-is ∙ go (isAccepted (v .answer)) refl)
+  stays-is : v .moves ≡ false → settle (v .answer) (applyCommits h ks b) b ≡ record { answer = v .answer; box = b }
+  stays-is x = go (isAccepted (v .answer)) refl
     where
       go : (t : Bool) → isAccepted (v .answer) ≡ t → settle (v .answer) (applyCommits h ks b) b ≡ record { answer = v .answer; box = b }
       go false e = settle-old (v .answer) (applyCommits h ks b) b (is-refusal (v .answer) (sym e) refl)
       go true e =
           let p = is-accepted (v .answer) (sym e) refl in
-          let old : someNew h b ks ≡ false = sym (j .moves-is ∙ ap (λ (t : Bool). t && someNew h b ks) e) ∙ not-true (v .moves) x in
+          let old : someNew h b ks ≡ false = sym (j .moves-is ∙ ap (λ (t : Bool). t && someNew h b ks) e) ∙ x in
           settle-new (v .answer) (applyCommits h ks b) b p ∙ ap₂ (λ (y : Answer) (c : Box). record { answer = y; box = c }) (sym p) (all-old h b ks old)
 
-  module _ (x : not (v .moves) ≡ false) where
+  module _ (move : v .moves ≡ true) where
     both : isAccepted (v .answer) && someNew h b ks ≡ true
-    both = sym (j .moves-is) ∙ not-false (v .moves) x
+    both = sym (j .moves-is) ∙ move
 
     passes : v .answer ≡ Accepted
     passes = is-accepted (v .answer) (sym (and-left _ _ both)) refl
 
-    passed : commitKeys h b ks ≡ Accepted
-    passed = sym (j .answer-is) ∙ passes
+    pub pass-checked : commitKeys h (boxOf st area) (shown (keyAt s) n es) ≡ Accepted
+    pass-checked = sym (j .answer-is) ∙ passes
 
-    module _ {p : Store} {area₁ : Bytes} (w : Placed st area (n * 319) p area₁) where
-      pub pass-applies : endingStep h ≡ Accepted → ApplyAsks p area₁ h s n es
-      pass-applies head = record { built = w .made .built; form = a .form; head = head; passed = ap (λ (c : Box). commitKeys h c ks) (w .shown) ∙ passed; room = w .room }
+  pub pass-done : {primary : Key} {m : ℕ} → m ≡ onlyIf (v .moves) n → {t : Store} {area′ : Bytes} → AllApplied (deedOf h) primary st area s m es t area′
+      → Settled st area (allDone h (shown (keyAt s) n es) (boxOf st area)) (record { store = t; answer = v .answer }) area′
+  pass-done {primary} q {t} {area′} w = go (v .moves) refl
+    where
+      same : v .moves ≡ true → boxOf t area′ ≡ applyCommits h ks b
+      same e =
+          w .shown ∙ ap (λ (i : ℕ). applyAll (applyEntry (deedOf h) primary s) (counted i es) b) (q ∙ ap (λ (x : Bool). onlyIf x n) e)
+          ∙ sym (applied-is (applyCommit h) (keyAt s) (deedOf h) primary s (λ k x. refl) n es b) ∙ sym (applyCommits-all h ks b)
 
+      go : (x : Bool) → v .moves ≡ x → Settled st area (allDone h ks b) (record { store = t; answer = v .answer }) area′
       -- the box is another one, and there is room: a commit takes none
-      pub pass-new : {t : Store} {area′ : Bytes} → (Built t area′) × (boxOf t area′ ≡ applyCommits h (shown (keyAt s) n es) (boxOf p area₁))
-          → Settled st area (allDone h (shown (keyAt s) n es) (boxOf st area)) (record { store = t; answer = Accepted }) area′
-      pass-new {t} {area′} q =
-          let y = load-fields (q .0 .kept .load-is ∙ ap loadOf is) in
+      go true e =
+          let y = load-fields (w .built .kept .load-is ∙ ap loadOf (same e)) in
           let z = load-fields (a .made .built .kept .load-is) in
           let m = commits-less h ks b in
-          settled-new (record { built = q .0; fit = omega (arith, y, z, m, a .made .fit) })
-          (done-is ∙ settle-new (v .answer) (applyCommits h ks b) b passes ∙ ap (λ (c : Box). record { answer = Accepted; box = c }) (sym is))
-          (λ e. omega (arith, load-fields (ap loadOf (sym is ∙ e)) .locks, some-fewer h b ks passed (and-right (isAccepted (v .answer)) _ both)))
-        where
-          is : boxOf t area′ ≡ applyCommits h ks b
-          is = q .1 ∙ ap (applyCommits h ks) (w .shown)
+          subst (λ (x : Answer). Settled st area (allDone h ks b) (record { store = t; answer = x }) area′) (sym (passes e))
+          (settled-new (record { built = w .built; fit = omega (arith, y, z, m, a .made .fit) })
+          (done-is ∙ settle-new (v .answer) (applyCommits h ks b) b (passes e) ∙ ap (λ (c : Box). record { answer = Accepted; box = c }) (sym (same e)))
+          (λ r. omega (arith, load-fields (ap loadOf (sym (same e) ∙ r)) .locks, some-fewer h b ks (pass-checked e) (and-right (isAccepted (v .answer)) _ (both e)))))
+      go false e = settled-still (w .still (q ∙ ap (λ (x : Bool). onlyIf x n) e)) (a .made) (done-is ∙ stays-is e)

@@ -16,7 +16,7 @@ use Rattle.rules.specs.Box.{Box, Lock, holderOf, recordsOf, eqKind}
 use Rattle.rules.specs.Calls.{owns}
 use Rattle.rules.specs.Commit.{Ending, withStart}
 use Rattle.calls.specs.Settled.{isAccepted}
-use Rattle.commits.specs.declared.checks.Verdict.{Verdict}
+use Rattle.calls.specs.declared.judged.Verdict.{Verdict}
 
 -- "Rollback, 8; other commit, 8; equal commit, accepted and unchanged"
 abbrev pub recordSteps : Ending → Record → Answer

@@ -12,18 +12,17 @@ ghost use Rattle.lines.specs.Made.{Made};
 ghost use Rattle.calls.specs.Settled.{Settled};
 ghost use Rattle.calls.specs.Walks.{endingOf, AllAsks};
 ghost use Rattle.commits.specs.Passes.{allDone};
-use crate::passes::apply_all;
 use crate::passes::check_all;
+use applies::Deed;
 use calls::Changed;
 use calls::Terms;
 use forms::Entry;
 use lines::AREA;
 use lines::Store;
 use rules::Answer;
-use stretches::make_place;
 
-// The steps of a batch that is in form and not empty, its head passed: "per key: ..", and the applying pass, after a repack where the area
-// wants one for the keys' records: a key of 48, two numbers and a row of 255, 319 a key. There is no 11.
+// The steps of a batch that is in form and not empty, its head passed: "per key: ..", and the applying pass. There is no 11. Where nothing
+// changes no key is applied.
 fn commit_all(
     store: Store,
     area: &mut [u8],
@@ -36,19 +35,18 @@ fn commit_all(
     ensures { λ r. ⌜ Settled store (now (area .entry)) (allDone (endingOf terms) (shown (keyAt (now (batch .entry))) n list) (boxOf store (now (area .entry)))) r (now (area .exit)) ⌝ }
 {
     let v = check_all(store, area, terms, batch, n, list);
-    if !v.moves {
-        let answer = v.answer;
-        return Changed {
-            store: store,
-            answer: answer,
-        };
-    }
-    let need = n * 319;
-    let placed = make_place(store, area, need);
-    let applied = apply_all(placed, area, terms, batch, n, list);
+    let answer = v.answer;
+    let deed = Deed::Commit {
+        txn: terms.txn,
+        start: terms.start,
+        commit: terms.commit,
+    };
+    let m = calls::only_if(v.moves, n);
+    let none = &batch[0..0];
+    let applied = calls::apply_all(store, area, deed, none, batch, m, list);
     Changed {
         store: applied,
-        answer: Answer::Accepted,
+        answer: answer,
     }
 }
 

@@ -9,6 +9,7 @@ ghost use Rattle.lines.specs.Looks.{recordIn, lockedBy};
 ghost use Rattle.calls.specs.Walks.{endingOf};
 ghost use Rattle.commits.specs.Checks.{recordSteps, lockSteps, isNew, Judged};
 use calls::Terms;
+use calls::Verdict;
 use lines::Found;
 use lines::Locked;
 use lines::Store;
@@ -16,12 +17,6 @@ use lines::Written;
 use lines::look;
 use rules::Answer;
 use rules::Kind;
-
-// What a check comes to: the answer, and whether the box becomes another one.
-pub struct Verdict {
-    pub answer: Answer,
-    pub moves: bool,
-}
 
 // "Rollback, 8; other commit, 8; equal commit, accepted and unchanged"
 fn check_record(w: Written, terms: Terms) -> Answer
@@ -66,7 +61,9 @@ pub fn check_key(store: Store, area: &[u8], terms: Terms, key: &[u8]) -> Verdict
             moves: false,
         };
     }
-    let found = look(store, area, key, terms.start, terms.commit);
+    let lines = store.lines;
+    let load = store.load;
+    let found = look(lines, load, store.top, area, key, terms.start, terms.commit);
     let history = found.history;
     let with = history.with;
     match with {

@@ -1,23 +1,19 @@
-// The two passes over a batch of keys. Nothing is written before the last key has passed.
+// The checking pass over a batch of keys. Nothing is written before the last key has passed.
 ghost use mathlib.Core.Path.{_≡_};
 ghost use mathlib.Core.Bool.{_||_};
 ghost use Rattle.seqs.specs.Tables.{shown};
 ghost use Rattle.forms.specs.Places.{keyAt};
-ghost use Rattle.rules.specs.Commit.{commitKeys, applyCommits};
+ghost use Rattle.rules.specs.Commit.{commitKeys};
 ghost use Rattle.lines.specs.View.{boxOf};
-ghost use Rattle.lines.specs.Made.{Built};
 ghost use Rattle.calls.specs.Walks.{endingOf, AllAsks};
 ghost use Rattle.commits.specs.Checks.{someNew, Judged};
-ghost use Rattle.commits.specs.Passes.{ApplyAsks};
-use crate::checks::Verdict;
 use crate::checks::check_key;
-use applies::apply_commit;
 use calls::Terms;
+use calls::Verdict;
 use calls::key_of;
 use forms::Entry;
 use lines::Store;
 use rules::Answer;
-use stretches::change;
 
 fn either(a: bool, b: bool) -> bool
     ensures { λ r. ⌜ r ≡ a || b ⌝ }
@@ -28,7 +24,7 @@ fn either(a: bool, b: bool) -> bool
     b
 }
 
-// The checking pass: every key on the store as it came, the whole list for one key before the next. Where each key has its record already
+// Every key on the store as it came, the whole list for one key before the next. Where each key has its record already
 // nothing changes.
 pub fn check_all(
     store: Store,
@@ -61,31 +57,4 @@ pub fn check_all(
         answer: Answer::Accepted,
         moves: moves,
     }
-}
-
-// The applying pass: "a record of the lock's start and kind, stamped with the commit, replaces the lock; a Put's row stays"
-pub fn apply_all(
-    store: Store,
-    area: &mut [u8],
-    terms: Terms,
-    batch: &[u8],
-    n: usize,
-    list: [Entry; 32],
-) -> Store
-    requires { ⌜ ApplyAsks store (now area) (endingOf terms) (now batch) n list ⌝ }
-    ensures { λ r. ⌜ (Built r (now (area .exit))) × (boxOf r (now (area .exit)) ≡ applyCommits (endingOf terms) (shown (keyAt (now (batch .entry))) n list) (boxOf store (now (area .entry)))) ⌝ }
-{
-    let txn = terms.txn;
-    let start = terms.start;
-    let commit = terms.commit;
-    let mut l = store;
-    let mut i: usize = 0;
-    while i < n {
-        let e = list[i];
-        let key = key_of(batch, e);
-        let c = apply_commit(l, area, txn, start, commit, key);
-        l = change(l, c);
-        i += 1;
-    }
-    l
 }

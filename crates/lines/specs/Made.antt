@@ -3,6 +3,7 @@
 -- Assumes nothing.
 use mathlib.Core.Path.{_≡_}
 use mathlib.Core.Bool.{Bool, true}
+use mathlib.Core.List.{List}
 use Prim.Native.Nat.{ℕ, _+_, _≤_}
 use lib.ListN.{length}
 use Rattle.seqs.specs.Tables.{Table}
@@ -60,6 +61,10 @@ pub record Built (s : Store) (area : Bytes) : Type 0 where
 pub record Made (s : Store) (area : Bytes) : Type 0 where
   pub built : Built s area
   pub fit : Fits (s .load)
+
+-- a store by its parts
+abbrev pub storeOf : List Slot → Load → ℕ → Store
+storeOf lines load top = record { lines = lines; load = load; top = top }
 
 -- tallies so small that none of their sums overflows
 pub record Counted (l : Load) : Type 0 where

@@ -2,9 +2,9 @@
 // its first line, then a walk over its lines.
 ghost use mathlib.Core.Path.{_≡_};
 ghost use mathlib.Core.Bool.{_&&_};
-ghost use Rattle.lines.specs.Made.{Built};
+ghost use Rattle.lines.specs.Made.{Built, storeOf};
 ghost use Rattle.lines.specs.Looks.{orFound, newerBy, moreHistory, noHistory, seeLine, LookedAt};
-use crate::store::Store;
+use crate::store::Slot;
 use crate::views::Intent;
 use crate::views::Told;
 use crate::views::Written;
@@ -12,6 +12,7 @@ use crate::views::line_of;
 use crate::views::slot_order;
 use forms::Order;
 use rules::Kind;
+use rules::Load;
 
 // A record that may be missing.
 pub enum Found {
@@ -152,13 +153,20 @@ fn see(seen: Looked, line: Told, start: u64, stamp: u64, next: usize) -> Looked
 }
 
 // "The lookup that finds a key's first line shall halve its range." A key without lines has the place where one would stand. The walk from
-// there ends at the first line of another key.
-pub fn look(store: Store, area: &[u8], key: &[u8], start: u64, stamp: u64) -> Looked
-    requires { ⌜ Built store (now area) ⌝ }
-    ensures { λ r. ⌜ LookedAt store (now (area .entry)) (now (key .entry)) start stamp r ⌝ }
+// there ends at the first line of another key. It takes the parts of a store: a whole store would be copied on the way here.
+pub fn look(
+    lines: [Slot; 1024],
+    load: Load,
+    top: usize,
+    area: &[u8],
+    key: &[u8],
+    start: u64,
+    stamp: u64,
+) -> Looked
+    requires { ⌜ Built (storeOf lines load top) (now area) ⌝ }
+    ensures { λ r. ⌜ LookedAt (storeOf lines load top) (now (area .entry)) (now (key .entry)) start stamp r ⌝ }
 {
-    let lines = store.lines;
-    let n = store.load.lines;
+    let n = load.lines;
     let mut low: usize = 0;
     let mut high = n;
     while low < high {

@@ -5,37 +5,36 @@ use native.Mathlib.Omega.{arith}
 use mathlib.Core.Path.{_≡_, refl, sym, ap, _∙_, subst}
 use mathlib.Core.List.{List, [], _∷_}
 use mathlib.Core.Option.{Option, none, some}
-use lib.ListN.{getD, drop}
 use Rattle.seqs.specs.Tables.{shown}
 use Rattle.forms.specs.Bytes.{Bytes}
-use Rattle.forms.specs.Key.{keyForm}
+use Rattle.forms.specs.Key.{Key, keyForm}
 use Rattle.forms.specs.Row.{Row}
 use Rattle.forms.specs.Batch.{Mutation, keyIn}
-use Rattle.forms.specs.Places.{keyAt, mutationOf, noEntry}
+use Rattle.forms.specs.Places.{keyAt, mutationOf, InForm}
 use Rattle.forms.specs.declared.batch.Entry.{Entry}
 use Rattle.forms.proofs.BatchLaws.{mutations-by-keys}
 use Rattle.rules.specs.declared.answers.Answer.{Answer}
 use Rattle.rules.specs.declared.answers.Answer.the-variants.{Accepted}
 use Rattle.rules.specs.Answers.{_▸_, need}
 use Rattle.rules.specs.Box.{Box, Lock, lockOf, rowOf}
-use Rattle.rules.specs.Room.{loadOf}
+use Rattle.rules.specs.Room.{loadOf, Fits}
 use Rattle.rules.specs.Calls.{rowArgument}
-use Rattle.rules.specs.Commit.{Ending}
-use Rattle.rules.specs.OneStep.{argumentsStep, stepEntry, applyStep, applySteps}
+use Rattle.rules.specs.Commit.{Ending, endingStep}
+use Rattle.rules.specs.OneStep.{argumentsStep, stepEntry, stepEntries, applyStep, applySteps}
 use Rattle.laws.specs.Adds.{sumLoads, ofLock, ofRow, replacedBy, stepAdds, stepFrees}
 use Rattle.laws.proofs.StepLaws.{then-left, then-right, then-both, need-true}
 use Rattle.laws.proofs.LoadLaws.{load-fields}
 use Rattle.laws.proofs.BatchLaws.{checkAll, Depends}
 use Rattle.laws.proofs.OneStepLaws.{stepCheck, step-depends, step-only, applySteps-all, steps-load}
-use Rattle.lines.specs.declared.store.Store.{Store}
 use Rattle.lines.specs.View.{boxOf}
-use Rattle.stretches.specs.Changes.{entryFor, Leaves}
-use Rattle.applies.specs.Applies.{StepAsks, Applied}
+use Rattle.stretches.specs.Changes.{entryFor}
+use Rattle.applies.specs.declared.deeds.Deed.{Deed}
+use Rattle.applies.specs.declared.deeds.Deed.the-variants.{Step}
 use Rattle.calls.specs.Walks.{rowAt}
+use Rattle.calls.specs.Passes.{EntryReady, Ready, counted}
 use Rattle.calls.proofs.EntryLaws.{parts-are, row-fits}
-use Rattle.calls.proofs.ApplyLaws.{Changes, Applying, applying-passed, applying-room, ChangingAll, changing-start, changing-here, changing-more}
+use Rattle.calls.proofs.ApplyLaws.{Changes, Applying, applying-passed, ready-all}
 use Rattle.onesteps.specs.Meets.{argumentStep}
-use Rattle.onesteps.specs.Applies.{ApplyAsks}
 use Rattle.onesteps.proofs.LaterLaws.{entries-check}
 
 -- ---- what one entry asks
@@ -49,11 +48,10 @@ unfolding entryCheck
 entry-depends h b c m v = ap (λ (x : Answer). argumentStep m ▸ x) (step-depends h b c m v)
 
 abbrev pub changesOf : Ending → Changes Mutation
-changesOf h = record { key = keyIn; start = h .start; check = entryCheck h; apply = applyStep h; most = 319; depends = entry-depends h; only = step-only h (h .start) }
+changesOf h = record { key = keyIn; start = h .start; check = entryCheck h; apply = applyStep h; depends = entry-depends h; only = step-only h (h .start) }
 
--- what is left to apply to the store as it is
-abbrev pub Writing : Ending → Box → Bytes → Bytes → ℕ → List Entry → ℕ → Store → Type 0
-Writing h b area s n es i cur = ChangingAll (changesOf h) (mutationOf s) (applySteps h (shown (mutationOf s) n es) b) area s n es i cur
+abbrev pub deedOf : Ending → Deed
+deedOf h = Step (h .txn) (h .start) (h .commit)
 
 both-check : (h : Ending) (b : Box) (ms : List Mutation) → argumentsStep ms ≡ Accepted → checkAll (stepCheck h) b ms ≡ Accepted → checkAll (entryCheck h) b ms ≡ Accepted
 unfolding argumentsStep argumentStep checkAll entryCheck
@@ -90,61 +88,51 @@ sums-grow h b (m ∷ ms) = omega (arith, frees-lines h b m, go (lockOf (m .key) 
 
 -- ---- the pass
 
-module _ {st : Store} {area : Bytes} {h : Ending} {s : Bytes} {n : ℕ} {es : List Entry} (asks : ApplyAsks st area h s n es) where
-  abbrev ms : List Mutation
-  ms = shown (mutationOf s) n es
+-- what one entry asks, where it and those after it would pass
+module _ (h : Ending) (primary : Key) (s : Bytes) (head : endingStep h ≡ Accepted) {want : Box} (fit : Fits (loadOf want)) (e : Entry) (rest : List Mutation) (b : Box) (v : Applying (changesOf h) want b (mutationOf s e ∷ rest)) where
+  entry-ready : EntryReady (deedOf h) primary s e b
+  unfolding entryCheck argumentStep stepCheck sumLoads stepAdds ofLock
+  entry-ready st area built q room = record {
+    built = built;
+    head = head;
+    form = need-true _ 1 (then-left _ _ arguments);
+    row-fits = row-fits s e (need-true _ 2 (then-right (need (keyForm (keyAt s e)) 1) _ arguments));
+    passed = then-left (stepEntry h (boxOf st area) x) _ steps;
+    newest = need-true _ 8 (then-right (stepEntry h (boxOf st area) x) _ steps);
+    slot-free = slot-free;
+    area-room = room;
+  }
+    where
+      m : Mutation
+      m = mutationOf s e
 
-  pub writing-start : Writing h (boxOf st area) area s n es 0 st
-  writing-start =
-      changing-start (changesOf h) (mutationOf s) (asks .form .listed) (asks .built) (mutations-by-keys s n es ∙ asks .form .ascends)
-      (both-check h (boxOf st area) ms (asks .arguments) (entries-check h (asks .head) (boxOf st area) ms (asks .passed))) (sym (applySteps-all h ms (boxOf st area))) (asks .room)
+      x : Mutation
+      x = entryFor (keyAt s e) (e .put) (rowAt s e)
 
-  module _ {area′ : Bytes} {i : ℕ} {cur : Store} (v : Writing h (boxOf st area) area′ s n es i cur) (more : i < n) where
-    abbrev e : Entry
-    e = getD es i noEntry
+      here : Applying (changesOf h) want (boxOf st area) (m ∷ rest)
+      here = subst (λ (y : Box). Applying (changesOf h) want y (m ∷ rest)) (sym q) v
 
-    abbrev b : Box
-    b = boxOf cur area′
+      checked : entryCheck h (boxOf st area) x ≡ Accepted
+      checked = ap (entryCheck h (boxOf st area)) (parts-are s e) ∙ applying-passed here
 
-    abbrev m : Mutation
-    m = mutationOf s e
+      arguments : argumentStep x ≡ Accepted
+      arguments = then-left (argumentStep x) _ checked
 
-    abbrev rest : List Mutation
-    rest = drop (i + 1) ms
+      steps : stepCheck h (boxOf st area) x ≡ Accepted
+      steps = then-right (argumentStep x) _ checked
 
-    here : Applying (changesOf h) (applySteps h ms (boxOf st area)) b (cur .top) (m ∷ rest)
-    here = changing-here v more
+      slot-free : lockOf (keyAt s e) (boxOf st area .lines) ≡ none → st .load .lines < 1024
+      slot-free f =
+          let is : applySteps h (m ∷ rest) (boxOf st area) ≡ want = applySteps-all h (m ∷ rest) (boxOf st area) ∙ here .is in
+          let y = load-fields (steps-load h (m ∷ rest) (boxOf st area) (here .ascends) (steps-of h (boxOf st area) (m ∷ rest) (here .passed)) (built .kept .sorted)) in
+          let w = load-fields (ap loadOf is) in
+          let z = load-fields (built .kept .load-is) in
+          let g : stepFrees h (boxOf st area) m .lines ≡ 0 = frees-lines h (boxOf st area) m ∙ ap (λ (o : Option Lock). ofLock (m .key) o .lines) f in
+          omega (arith, y .lines, w .lines, z .lines, g, sums-grow h (boxOf st area) rest, fit .lines)
 
-    passed : entryCheck h b (entryFor (keyAt s e) (e .put) (rowAt s e)) ≡ Accepted
-    passed = ap (entryCheck h b) (parts-are s e) ∙ applying-passed here
-
-    slot-free : lockOf (keyAt s e) (b .lines) ≡ none → cur .load .lines < 1024
-    unfolding sumLoads stepAdds ofLock
-    slot-free f =
-        let is : applySteps h (m ∷ rest) b ≡ applySteps h ms (boxOf st area) = applySteps-all h (m ∷ rest) b ∙ here .is in
-        let y = load-fields (steps-load h (m ∷ rest) b (here .ascends) (steps-of h b (m ∷ rest) (here .passed)) (v .left .built .kept .sorted)) in
-        let w = load-fields (ap loadOf is) in
-        let z = load-fields (v .left .built .kept .load-is) in
-        let g : stepFrees h b m .lines ≡ 0 = frees-lines h b m ∙ ap (λ (o : Option Lock). ofLock (m .key) o .lines) f in
-        omega (arith, y .lines, w .lines, z .lines, g, sums-grow h b rest, asks .fit .lines)
-
-    pub writing-asks : StepAsks cur area′ h (keyAt s (getD es i noEntry)) (getD es i noEntry .put) (rowAt s (getD es i noEntry))
-    unfolding entryCheck argumentStep stepCheck
-    writing-asks =
-        let x = entryFor (keyAt s e) (e .put) (rowAt s e) in
-        let p = then-left (argumentStep x) _ passed in
-        let q = then-right (argumentStep x) _ passed in
-        record {
-          built = v .left .built;
-          head = asks .head;
-          form = need-true _ 1 (then-left _ _ p);
-          row-fits = row-fits s e (need-true _ 2 (then-right (need (keyForm (keyAt s e)) 1) _ p));
-          passed = then-left (stepEntry h b x) _ q;
-          newest = need-true _ 8 (then-right (stepEntry h b x) _ q);
-          slot-free = slot-free;
-          area-room = applying-room here;
-        }
-
-    pub writing-more : {r : Store} {area″ : Bytes} → Applied cur area′ (applyStep h (entryFor (keyAt s (getD es i noEntry)) (getD es i noEntry .put) (rowAt s (getD es i noEntry))) (boxOf cur area′)) (cur .top + 319) r area″
-        → Writing h (boxOf st area) area″ s n es (i + 1) r
-    writing-more {r} {area″} l = changing-more v more (subst (λ (x : Mutation). Leaves (applyStep h x b) (cur .top + 319) r area″) (parts-are s e) (l .leaves))
+pub steps-ready : (h : Ending) (primary : Key) {s : Bytes} {n : ℕ} {es : List Entry} (b : Box) → endingStep h ≡ Accepted → InForm s n es → argumentsStep (shown (mutationOf s) n es) ≡ Accepted
+    → stepEntries h b (shown (mutationOf s) n es) ≡ Accepted → Fits (loadOf (applySteps h (shown (mutationOf s) n es) b)) → Ready (deedOf h) primary s (counted n es) b
+steps-ready h primary {s} {n} {es} b head form a p f =
+    let ms = shown (mutationOf s) n es in
+    ready-all (changesOf h) (mutationOf s) (deedOf h) primary s (λ e x. refl) (entry-ready h primary s head f) n es b
+    (record { ascends = mutations-by-keys s n es ∙ form .ascends; passed = both-check h b ms a (entries-check h head b ms p); is = sym (applySteps-all h ms b) })

@@ -1,15 +1,16 @@
 -- The ways out of `commit_batch`: "6; 3; each entry in turn 1, 2; ..", what the checks come to, and the applied batch.
 -- Assumes nothing.
-use Prim.Native.Nat.{ℕ, _*_}
+use Prim.Native.Nat.{ℕ}
 use native.Mathlib.Omega.{arith}
 use mathlib.Core.Path.{_≡_, refl, sym, ap, ap₂, _∙_, subst}
-use mathlib.Core.Bool.{Bool, true, false, not}
+use mathlib.Core.Bool.{Bool, true, false, not, _&&_}
 use mathlib.Core.List.{List}
 use mathlib.Core.Option.{Option}
 use lib.ListN.{length}
 use Rattle.seqs.specs.Tables.{shown}
 use Rattle.seqs.proofs.Tables.{shown-length}
 use Rattle.forms.specs.Bytes.{Bytes}
+use Rattle.forms.specs.Key.{Key}
 use Rattle.forms.specs.Batch.{Mutation, keyIn, ascend, mutations}
 use Rattle.forms.specs.Places.{mutationOf, Decoded}
 use Rattle.forms.specs.declared.batch.Entry.{Entry}
@@ -23,32 +24,40 @@ use Rattle.rules.specs.Box.{Box}
 use Rattle.rules.specs.Room.{loadOf, fits, roomFor, Fits}
 use Rattle.rules.specs.Calls.{Done, settle}
 use Rattle.rules.specs.Commit.{Ending, endingStep}
-use Rattle.rules.specs.OneStep.{Counted, argumentsStep, noneOther, allApplied, stepEntries, applySteps, stepApplied, stepArguments, thenApplied, countIf, stepDone, stepAll, ofCounted, oneStep}
+use Rattle.rules.specs.OneStep.{Counted, argumentsStep, noneOther, allApplied, stepEntries, applyStep, applySteps, stepApplied, stepArguments, thenApplied, countIf, stepDone, stepAll, ofCounted, oneStep}
 use Rattle.rules.proofs.RoomLaws.{fits-out}
 use Rattle.laws.specs.Adds.{plus, minus, sumLoads, stepAdds, stepFrees}
-use Rattle.laws.proofs.StepLaws.{then-left, then-right, need-true}
+use Rattle.laws.proofs.StepLaws.{then-left, then-right, need-true, and-left, and-right, not-true}
 use Rattle.laws.proofs.SettleLaws.{settle-new, settle-old}
 use Rattle.laws.proofs.LoadLaws.{load-fields, load-left, freed-at-most}
-use Rattle.laws.proofs.OneStepLaws.{steps-load}
+use Rattle.laws.proofs.OneStepLaws.{steps-load, applySteps-all}
 use Rattle.lines.specs.declared.store.Store.{Store}
 use Rattle.lines.specs.View.{boxOf}
-use Rattle.lines.specs.Made.{Built, Made}
-use Rattle.stretches.specs.Packs.{Placed}
-use Rattle.calls.specs.Settled.{Settled}
-use Rattle.calls.specs.Walks.{AllAsks}
+use Rattle.lines.specs.Made.{Made}
+use Rattle.calls.specs.Settled.{isAccepted, Untouched, Settled}
+use Rattle.calls.specs.Walks.{onlyIf, AllAsks}
+use Rattle.calls.specs.Passes.{Ready, counted, AllApplied}
 use Rattle.calls.specs.Weights.{LeftAsks}
-use Rattle.calls.proofs.SettledLaws.{then-refused, settled-same, settled-new}
+use Rattle.calls.proofs.SettledLaws.{is-accepted, is-refusal, then-refused, settled-same, settled-new}
+use Rattle.calls.proofs.ApplyLaws.{applied-is}
 use Rattle.calls.proofs.AnswerLaws.{then-end}
 use Rattle.onesteps.specs.Meets.{allNew, AllMet, leftBy, unlessAll, judged}
-use Rattle.onesteps.specs.Applies.{ApplyAsks}
 use Rattle.onesteps.specs.Counts.{Counts, laterDone, laterCounted}
 use Rattle.onesteps.specs.declared.batch.Stepped.{Stepped}
 use Rattle.onesteps.specs.declared.meets.Met.{Met}
+use Rattle.onesteps.proofs.ApplyLaws.{deedOf, steps-ready}
 use Rattle.onesteps.proofs.LaterLaws.{entries-check, after-step, later-all, later-new, sums-passed, steps-differ}
 
 -- nothing has changed
 counts-same : {st : Store} {area : Bytes} {d : Counted} {a : Answer} {n : ℕ} → Made st area → d ≡ record { done = record { answer = a; box = boxOf st area }; count = n } → Counts st area d (record { store = st; answer = a; count = n }) area
 counts-same m e = record { settled = settled-same m (ap (λ (x : Counted). x .done) e); count-is = sym (ap (λ (x : Counted). x .count) e) }
+
+-- the store is the one that came
+counts-left : {st t : Store} {area area′ : Bytes} {d : Counted} {a : Answer} {n c : ℕ} → Untouched st area t area′ → n ≡ c → Counts st area d (record { store = st; answer = a; count = n }) area → Counts st area d (record { store = t; answer = a; count = c }) area′
+counts-left {st} {t} {area} {area′} {d} {a} {n} {c} u e k =
+    subst (λ (i : ℕ). Counts st area d (record { store = t; answer = a; count = i }) area′) e
+    (subst (λ (x : Store). Counts st area d (record { store = x; answer = a; count = n }) area′) (sym (u .store-is))
+    (subst (λ (y : Bytes). Counts st area d (record { store = st; answer = a; count = n }) y) (sym (u .area-is)) k))
 
 count-none : (a : Answer) (n : ℕ) → (a ≡ Accepted → ⊥) → countIf a n ≡ 0
 unfolding countIf
@@ -73,18 +82,18 @@ module _ {st : Store} {area : Bytes} (made : Made st area) (h : Ending) {s : Byt
     abbrev later : Done
     later = stepApplied (allApplied h b ms) h ms b
 
-    abbrev counted : Answer → Counted
-    counted v = record { done = thenApplied v b later; count = countIf (thenApplied v b later .answer) (length ms) }
+    abbrev countedBy : Answer → Counted
+    countedBy v = record { done = thenApplied v b later; count = countIf (thenApplied v b later .answer) (length ms) }
 
-    one-is : oneStep h s b ≡ counted (a ▸ argumentsStep ms ▸ need (noneOther h b ms) 9)
+    one-is : oneStep h s b ≡ countedBy (a ▸ argumentsStep ms ▸ need (noneOther h b ms) 9)
     unfolding oneStep ofCounted stepAll stepDone stepArguments
-    one-is = ap (λ (o : Option (List Mutation)). ofCounted o (stepAll h) b) (decoded-good d good) ∙ ap (λ (x : Answer). counted (x ▸ argumentsStep ms ▸ need (noneOther h b ms) 9)) (sym e)
+    one-is = ap (λ (o : Option (List Mutation)). ofCounted o (stepAll h) b) (decoded-good d good) ∙ ap (λ (x : Answer). countedBy (x ▸ argumentsStep ms ▸ need (noneOther h b ms) 9)) (sym e)
 
     pub head-out : (a ≡ Accepted → ⊥) → Counts st area (oneStep h s (boxOf st area)) (record { store = st; answer = a; count = 0 }) area
     unfolding thenApplied countIf
-    head-out n = counts-same made (one-is ∙ ap counted (sym (then-refused a (argumentsStep ms ▸ need (noneOther h b ms) 9) n)) ∙ out a n)
+    head-out n = counts-same made (one-is ∙ ap countedBy (sym (then-refused a (argumentsStep ms ▸ need (noneOther h b ms) 9) n)) ∙ out a n)
       where
-        out : (v : Answer) → (v ≡ Accepted → ⊥) → counted v ≡ record { done = record { answer = v; box = b }; count = 0 }
+        out : (v : Answer) → (v ≡ Accepted → ⊥) → countedBy v ≡ record { done = record { answer = v; box = b }; count = 0 }
         out Accepted f = absurd (f refl)
         out (No k) f = refl
         out (Held o) f = refl
@@ -95,7 +104,7 @@ module _ {st : Store} {area : Bytes} (made : Made st area) (h : Ending) {s : Byt
 
       pub batch-done : {t : Stepped} {area′ : Bytes} → Counts st area (laterCounted h (shown (mutationOf s) (r .count) (r .list)) (boxOf st area)) t area′ → Counts st area (oneStep h s (boxOf st area)) t area′
       unfolding laterDone _▸_
-      batch-done {t} {area′} k = subst (λ (x : Counted). Counts st area x t area′) (sym (one-is ∙ ap (λ (x : Answer). counted (x ▸ argumentsStep ms ▸ need (noneOther h b ms) 9)) p)) k
+      batch-done {t} {area′} k = subst (λ (x : Counted). Counts st area x t area′) (sym (one-is ∙ ap (λ (x : Answer). countedBy (x ▸ argumentsStep ms ▸ need (noneOther h b ms) 9)) p)) k
 
 -- ---- what the checks come to
 
@@ -171,7 +180,7 @@ module _ {st : Store} {area s : Bytes} {n : ℕ} {es : List Entry} (a : AllAsks 
     counted-is {w} q = ap (λ (x : Done). record { done = x; count = countIf (x .answer) (length entries) }) q ∙ ap (λ (c : ℕ). record { done = record { answer = v; box = w }; count = countIf v c }) count-is
 
     -- a refusal
-    pub all-refused : (v ≡ Accepted → ⊥) → Counts st area (laterCounted h (shown (mutationOf s) n es) (boxOf st area)) (record { store = st; answer = v; count = 0 }) area
+    all-refused : (v ≡ Accepted → ⊥) → Counts st area (laterCounted h (shown (mutationOf s) n es) (boxOf st area)) (record { store = st; answer = v; count = 0 }) area
     all-refused f = counts-same (a .made) (counted-is (go (met .tally .all) refl) ∙ ap (λ (c : ℕ). record { done = record { answer = v; box = was }; count = c }) (count-none v n f))
       where
         go : (t : Bool) → met .tally .all ≡ t → laterDone h entries was ≡ record { answer = v; box = was }
@@ -184,7 +193,7 @@ module _ {st : Store} {area s : Bytes} {n : ℕ} {es : List Entry} (a : AllAsks 
       counts-all = ap (λ (x : Answer). countIf x n) p
 
       -- "All applied: accepted, unchanged"
-      pub all-applied : met .tally .all ≡ true → Counts st area (laterCounted h (shown (mutationOf s) n es) (boxOf st area)) (record { store = st; answer = v; count = n }) area
+      all-applied : met .tally .all ≡ true → Counts st area (laterCounted h (shown (mutationOf s) n es) (boxOf st area)) (record { store = st; answer = v; count = n }) area
       all-applied q = counts-same (a .made) (counted-is (done-all q) ∙ ap (λ (c : ℕ). record { done = record { answer = v; box = was }; count = c }) counts-all)
 
       module _ (part : met .tally .all ≡ false) where
@@ -204,31 +213,50 @@ module _ {st : Store} {area s : Bytes} {n : ℕ} {es : List Entry} (a : AllAsks 
         unfolding roomFor
         fit = fits-out _ (need-true _ 11 (then-right (stepEntries h was entries) _ entries-passed))
 
-        module _ {q : Store} {area₁ : Bytes} (w : Placed st area (n * 319) q area₁) where
-          pub all-apply : ApplyAsks q area₁ h s n es
-          all-apply = record {
-            built = w .made .built;
-            form = a .form;
-            head = head;
-            arguments = arguments-passed;
-            passed = ap (λ (c : Box). stepEntries h c entries) (w .shown) ∙ passed;
-            fit = subst (λ (c : Box). Fits (loadOf (applySteps h entries c))) (sym (w .shown)) fit;
-            room = w .room;
-          }
+        -- what the entries ask of the store that came
+        all-ready : (primary : Key) → Ready (deedOf h) primary s (counted n es) (boxOf st area)
+        all-ready primary = steps-ready h primary was head (a .form) arguments-passed passed fit
 
-          -- the box is another one
-          pub all-new : {t : Store} {area′ : Bytes} → (Built t area′) × (boxOf t area′ ≡ applySteps h (shown (mutationOf s) n es) (boxOf q area₁))
-              → Counts st area (laterCounted h (shown (mutationOf s) n es) (boxOf st area)) (record { store = t; answer = v; count = n }) area′
-          all-new {t} {area′} g = record {
-            settled = subst (λ (x : Answer). Settled st area (laterDone h entries was) (record { store = t; answer = x }) area′) (sym p)
-                (settled-new (record { built = g .0; fit = subst Fits (sym (g .0 .kept .load-is ∙ ap loadOf is)) fit })
-                (done-is part ∙ settle-new v after was p ∙ ap (λ (c : Box). record { answer = Accepted; box = c }) (sym is))
-                (λ x. steps-differ h entries was (sym (k .all-is) ∙ part) ascends (entries-check h head was entries passed) (a .made .built .kept .sorted) (sym is ∙ x)));
-            count-is = sym (ap (λ (x : Done). countIf (x .answer) (length entries)) (done-is part ∙ settle-new v after was p) ∙ go);
-          }
-            where
-              is : boxOf t area′ ≡ after
-              is = g .1 ∙ ap (applySteps h entries) (w .shown)
+        -- the box is another one
+        all-new : {primary : Key} {t : Store} {area′ : Bytes} → AllApplied (deedOf h) primary st area s n es t area′
+            → Counts st area (laterCounted h (shown (mutationOf s) n es) (boxOf st area)) (record { store = t; answer = v; count = n }) area′
+        all-new {primary} {t} {area′} g = record {
+          settled = subst (λ (x : Answer). Settled st area (laterDone h entries was) (record { store = t; answer = x }) area′) (sym p)
+              (settled-new (record { built = g .built; fit = subst Fits (sym (g .built .kept .load-is ∙ ap loadOf is)) fit })
+              (done-is part ∙ settle-new v after was p ∙ ap (λ (c : Box). record { answer = Accepted; box = c }) (sym is))
+              (λ x. steps-differ h entries was (sym (k .all-is) ∙ part) ascends (entries-check h head was entries passed) (a .made .built .kept .sorted) (sym is ∙ x)));
+          count-is = sym (ap (λ (x : Done). countIf (x .answer) (length entries)) (done-is part ∙ settle-new v after was p) ∙ go);
+        }
+          where
+            is : boxOf t area′ ≡ after
+            is = g .shown ∙ sym (applied-is (applyStep h) (mutationOf s) (deedOf h) primary s (λ e x. refl) n es was) ∙ sym (applySteps-all h entries was)
 
-              go : countIf Accepted (length entries) ≡ n
-              go = sym (ap (λ (x : Answer). countIf x (length entries)) p) ∙ ap (countIf v) count-is ∙ counts-all
+            go : countIf Accepted (length entries) ≡ n
+            go = sym (ap (λ (x : Answer). countIf x (length entries)) p) ∙ ap (countIf v) count-is ∙ counts-all
+
+    -- ---- the ways out: the entries are applied where the batch passes and not all of it is applied
+
+    module _ {passed moves : Bool} (ps : passed ≡ isAccepted v) (mv : moves ≡ passed && not (met .tally .all)) where
+      moving : moves ≡ true → (v ≡ Accepted) × (met .tally .all ≡ false)
+      moving x = let z = sym mv ∙ x in (is-accepted v ps (ap not (and-left passed (not (met .tally .all)) z)), not-true _ (and-right passed (not (met .tally .all)) z))
+
+      pub batch-ready : (primary : Key) → moves ≡ true → Ready (deedOf h) primary s (counted n es) (boxOf st area)
+      batch-ready primary x = all-ready (moving x .0) (moving x .1) primary
+
+      pub batch-left : {primary : Key} {m c : ℕ} → m ≡ onlyIf moves n → c ≡ onlyIf passed n → {t : Store} {area′ : Bytes} → AllApplied (deedOf h) primary st area s m es t area′
+          → Counts st area (laterCounted h (shown (mutationOf s) n es) (boxOf st area)) (record { store = t; answer = v; count = c }) area′
+      batch-left {primary} {m} {c} q r {t} {area′} w = go (isAccepted v) (met .tally .all) refl refl
+        where
+          still : passed && not (met .tally .all) ≡ false → Untouched st area t area′
+          still z = w .still (q ∙ ap (λ (x : Bool). onlyIf x n) (mv ∙ z))
+
+          go : (x y : Bool) → isAccepted v ≡ x → met .tally .all ≡ y → Counts st area (laterCounted h entries was) (record { store = t; answer = v; count = c }) area′
+          go false y f z =
+              counts-left (still (ap (λ (b : Bool). b && not (met .tally .all)) (ps ∙ f))) (sym (r ∙ ap (λ (b : Bool). onlyIf b n) (ps ∙ f)))
+              (all-refused (is-refusal v (sym f) refl))
+          go true true f z =
+              counts-left (still (ap₂ (λ (b d : Bool). b && not d) (ps ∙ f) z)) (sym (r ∙ ap (λ (b : Bool). onlyIf b n) (ps ∙ f)))
+              (all-applied (is-accepted v (sym f) refl) z)
+          go true false f z =
+              subst (λ (i : ℕ). Counts st area (laterCounted h entries was) (record { store = t; answer = v; count = i }) area′) (sym (r ∙ ap (λ (b : Bool). onlyIf b n) (ps ∙ f)))
+              (all-new (is-accepted v (sym f) refl) z (subst (λ (i : ℕ). AllApplied (deedOf h) primary st area s i es t area′) (q ∙ ap (λ (x : Bool). onlyIf x n) (mv ∙ ap₂ (λ (b d : Bool). b && not d) (ps ∙ f) z)) w))

@@ -27,7 +27,7 @@ use Rattle.laws.proofs.ChainLaws.{out, on, last-out, last-on, call-on}
 use Rattle.lines.specs.declared.store.Store.{Store}
 use Rattle.lines.specs.Made.{Made}
 use Rattle.lines.proofs.ViewLaws.{bytes-long}
-use Rattle.calls.specs.Walks.{sizeIf, rowAt}
+use Rattle.calls.specs.Walks.{onlyIf, rowAt}
 use Rattle.calls.specs.Weights.{Sums}
 use Rattle.calls.specs.declared.weights.Weight.{Weight}
 use Rattle.calls.proofs.EntryLaws.{size-few, parts-are}
@@ -69,7 +69,7 @@ pub meet-asks : {st : Store} {area s : Bytes} (e : Entry) → Made st area → E
 meet-asks {s = s} e made i =
     let few = size-few (e .put) (e .rowlen) in
     let k = bytes-long s (e .at) (e .len) (i .key-in) in
-    let r = bytes-long s (e .rowat) (sizeIf (e .put) (e .rowlen)) (omega (arith, few, i .row-in)) in
+    let r = bytes-long s (e .rowat) (onlyIf (e .put) (e .rowlen)) (omega (arith, few, i .row-in)) in
     record { made = made; key-short = omega (arith, k, i .key-small); row-short = omega (arith, r, few, i .row-small) }
 
 module _ (h : Ending) (b : Box) {s : Bytes} {n : ℕ} {es : List Entry} where

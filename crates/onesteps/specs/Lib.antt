@@ -1,3 +1,2 @@
 pub mod Meets
-pub mod Applies
 pub mod Counts

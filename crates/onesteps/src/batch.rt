@@ -9,15 +9,15 @@ ghost use Rattle.lines.specs.View.{boxOf};
 ghost use Rattle.lines.specs.Made.{Made};
 ghost use Rattle.calls.specs.Walks.{endingOf, AllAsks};
 ghost use Rattle.onesteps.specs.Counts.{laterCounted, Counts};
+use crate::passes::both;
 use crate::passes::judge;
 use crate::passes::meet_all;
-use crate::writing::apply_all;
+use applies::Deed;
 use calls::Terms;
 use forms::Entry;
 use lines::AREA;
 use lines::Store;
 use rules::Answer;
-use stretches::make_place;
 
 // The store after a one-step batch, what the call answers, and "The count is the number of entries".
 pub struct Stepped {
@@ -26,8 +26,8 @@ pub struct Stepped {
     pub count: usize,
 }
 
-// The steps of a batch in form whose head has passed, and the applying pass, after a repack where the area wants one for the entries'
-// bytes: a key of 48, a row of 255 and two numbers, 319 an entry.
+// The steps of a batch in form whose head has passed, and the applying pass. Where the batch is refused, or all of it is applied already,
+// no entry is applied.
 fn step_all(
     store: Store,
     area: &mut [u8],
@@ -42,28 +42,22 @@ fn step_all(
     let met = meet_all(store, area, terms, batch, n, list);
     let load = store.load;
     let answer = judge(met, load);
-    if !calls::accepted(answer) {
-        return Stepped {
-            store: store,
-            answer: answer,
-            count: 0,
-        };
-    }
+    let passed = calls::accepted(answer);
     let tally = met.tally;
-    if tally.all {
-        return Stepped {
-            store: store,
-            answer: answer,
-            count: n,
-        };
-    }
-    let need = n * 319;
-    let placed = make_place(store, area, need);
-    let applied = apply_all(placed, area, terms, batch, n, list);
+    let moves = both(passed, !tally.all);
+    let deed = Deed::Step {
+        txn: terms.txn,
+        start: terms.start,
+        commit: terms.commit,
+    };
+    let m = calls::only_if(moves, n);
+    let none = &batch[0..0];
+    let applied = calls::apply_all(store, area, deed, none, batch, m, list);
+    let count = calls::only_if(passed, n);
     Stepped {
         store: applied,
         answer: answer,
-        count: n,
+        count: count,
     }
 }
 

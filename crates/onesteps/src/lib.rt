@@ -3,7 +3,6 @@
 pub mod batch;
 pub mod meets;
 pub mod passes;
-pub mod writing;
 
 pub use batch::Stepped;
 pub use batch::commit_batch;

@@ -22,7 +22,7 @@ use lines::look;
 use rules::Answer;
 use rules::Load;
 
-fn both(a: bool, b: bool) -> bool
+pub(crate) fn both(a: bool, b: bool) -> bool
     ensures { λ r. ⌜ r ≡ a && b ⌝ }
 {
     if a {
@@ -104,7 +104,9 @@ pub fn meet_all(
         let e = list[i];
         let key = key_of(batch, e);
         let row = row_of(batch, e);
-        let found = look(store, area, key, terms.start, terms.commit);
+        let lines = store.lines;
+        let load = store.load;
+        let found = look(lines, load, store.top, area, key, terms.start, terms.commit);
         let one = meet(store, found, area, terms, key, e.put, row);
         met = join(met, one);
         i += 1;

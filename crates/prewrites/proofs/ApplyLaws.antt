@@ -5,12 +5,12 @@ use native.Mathlib.Omega.{arith}
 use mathlib.Core.Path.{_≡_, refl, sym, ap, ap₂, _∙_, subst}
 use mathlib.Core.List.{List, [], _∷_}
 use mathlib.Core.Option.{Option, none, some}
-use lib.ListN.{getD, drop}
 use Rattle.seqs.specs.Tables.{shown}
 use Rattle.forms.specs.Bytes.{Bytes}
+use Rattle.forms.specs.Key.{Key}
 use Rattle.forms.specs.Row.{Row}
 use Rattle.forms.specs.Batch.{Mutation, keyIn}
-use Rattle.forms.specs.Places.{keyAt, mutationOf, noEntry}
+use Rattle.forms.specs.Places.{keyAt, mutationOf, InForm}
 use Rattle.forms.specs.declared.batch.Entry.{Entry}
 use Rattle.forms.proofs.BatchLaws.{mutations-by-keys}
 use Rattle.rules.specs.declared.answers.Answer.{Answer}
@@ -18,25 +18,26 @@ use Rattle.rules.specs.declared.answers.Answer.the-variants.{Accepted}
 use Rattle.rules.specs.declared.room.Load.{Load}
 use Rattle.rules.specs.Answers.{_▸_, need}
 use Rattle.rules.specs.Box.{Box, Lock, lockOf}
-use Rattle.rules.specs.Room.{loadOf, roomFor}
+use Rattle.rules.specs.Room.{loadOf, roomFor, Fits}
 use Rattle.rules.specs.Calls.{settle, nonEmpty}
 use Rattle.rules.specs.Prewrite.{Head, headStep, prewriteEntry, unlessLocked, lockLine, applyPrewrite, prewriteRoom, prewriteSteps, prewriteAll}
 use Rattle.laws.specs.Adds.{noLoad, plus, sumLoads, lockLoad, ofRow, prewriteAdds}
 use Rattle.laws.proofs.LoadLaws.{none-plus}
-use Rattle.laws.proofs.BatchLaws.{applyAll}
+use Rattle.laws.proofs.BatchLaws.{checkAll, applyAll}
 use Rattle.laws.proofs.PrewriteLaws.{prewrite-passed, prewrite-depends, prewrite-only, prewriteEntries-all, applyPrewrites-all}
 use Rattle.laws.proofs.PrewriteLoad.{prewrites-load}
-use Rattle.lines.specs.declared.store.Store.{Store}
 use Rattle.lines.specs.View.{boxOf}
-use Rattle.stretches.specs.Changes.{entryFor, Leaves}
-use Rattle.applies.specs.Applies.{PrewriteAsks, Applied}
+use Rattle.stretches.specs.Changes.{entryFor}
+use Rattle.applies.specs.declared.deeds.Deed.{Deed}
+use Rattle.applies.specs.declared.deeds.Deed.the-variants.{Prewrite}
 use Rattle.calls.specs.Walks.{rowAt}
-use Rattle.calls.specs.Passes.{ApplyAsks}
+use Rattle.calls.specs.Passes.{EntryReady, Ready, counted}
 use Rattle.calls.proofs.EntryLaws.{parts-are, row-fits}
-use Rattle.calls.proofs.ApplyLaws.{Changes, Applying, applying-passed, applying-room, ChangingAll, changing-start, changing-here, changing-more}
-use Rattle.calls.proofs.JudgeLaws.{Weighed, changing-free}
+use Rattle.calls.proofs.ApplyLaws.{Changes, Applying, applying-passed, ready-all}
+use Rattle.calls.proofs.JudgeLaws.{Weighed, applying-free}
 use Rattle.calls.proofs.DoneLaws.{ByEntries}
-use Rattle.prewrites.specs.Checks.{stepsOf}
+use Rattle.prewrites.specs.declared.heads.Terms.{Terms}
+use Rattle.prewrites.specs.Checks.{headOf, stepsOf}
 
 -- ---- what an entry adds
 
@@ -79,42 +80,36 @@ one-more h b m e = rw e (omega arith)
 -- ---- one entry after the other
 
 abbrev pub changesOf : Head → Changes Mutation
-changesOf h = record { key = keyIn; start = h .start; check = prewriteEntry h; apply = applyPrewrite h; most = 375; depends = prewrite-depends h; only = prewrite-only h (h .start) }
+changesOf h = record { key = keyIn; start = h .start; check = prewriteEntry h; apply = applyPrewrite h; depends = prewrite-depends h; only = prewrite-only h (h .start) }
 
--- what is left to apply to the store as it is
-abbrev pub Locking : Head → Box → Bytes → Bytes → ℕ → List Entry → ℕ → Store → Type 0
-Locking h b area s n es i cur = ChangingAll (changesOf h) (mutationOf s) (applyAll (applyPrewrite h) (shown (mutationOf s) n es) b) area s n es i cur
+abbrev pub deedOf : Terms → Deed
+deedOf t = Prewrite (t .txn) (t .start) (t .ttl)
 
-module _ (h : Head) {st : Store} {area s : Bytes} {n : ℕ} {es : List Entry} (asks : (ApplyAsks (prewriteEntry h) (applyPrewrite h) (mutationOf s) 375 st area s n es) × (headStep h ≡ Accepted)) where
-  pub locking-start : Locking h (boxOf st area) area s n es 0 st
-  locking-start = let a = asks .0 in changing-start (changesOf h) (mutationOf s) (a .form .listed) (a .built) (mutations-by-keys s n es ∙ a .form .ascends) (a .passed) refl (a .room)
+module _ (t : Terms) (primary : Key) (s : Bytes) where
+  abbrev h : Head
+  h = headOf t primary
 
-  module _ {area′ : Bytes} {i : ℕ} {cur : Store} (v : Locking h (boxOf st area) area′ s n es i cur) (more : i < n) where
-    abbrev e : Entry
-    e = getD es i noEntry
+  -- what one entry asks, where it and those after it would pass
+  entry-ready : (headStep (headOf t primary) ≡ Accepted) → {want : Box} → Fits (loadOf want) → (e : Entry) (rest : List Mutation) (b : Box) → Applying (changesOf (headOf t primary)) want b (mutationOf s e ∷ rest) → EntryReady (deedOf t) primary s e b
+  entry-ready p {want} f e rest b v st area built q room = record {
+    built = built;
+    head = p;
+    passed = passed;
+    row-fits = row-fits s e (prewrite-passed h (boxOf st area) _ passed .row);
+    slot-free = λ z. applying-free (weighed h) here (built .kept) f (one-more h (boxOf st area) (mutationOf s e) z);
+    area-room = room;
+  }
+    where
+      here : Applying (changesOf h) want (boxOf st area) (mutationOf s e ∷ rest)
+      here = subst (λ (x : Box). Applying (changesOf h) want x (mutationOf s e ∷ rest)) (sym q) v
 
-    abbrev b : Box
-    b = boxOf cur area′
+      passed : prewriteEntry h (boxOf st area) (entryFor (keyAt s e) (e .put) (rowAt s e)) ≡ Accepted
+      passed = ap (prewriteEntry h (boxOf st area)) (parts-are s e) ∙ applying-passed here
 
-    here : Applying (changesOf h) (applyAll (applyPrewrite h) (shown (mutationOf s) n es) (boxOf st area)) b (cur .top) (mutationOf s e ∷ drop (i + 1) (shown (mutationOf s) n es))
-    here = changing-here v more
-
-    passed : prewriteEntry h b (entryFor (keyAt s e) (e .put) (rowAt s e)) ≡ Accepted
-    passed = ap (prewriteEntry h b) (parts-are s e) ∙ applying-passed here
-
-    pub locking-asks : PrewriteAsks cur area′ h (keyAt s (getD es i noEntry)) (getD es i noEntry .put) (rowAt s (getD es i noEntry))
-    locking-asks = record {
-      built = v .left .built;
-      head = asks .1;
-      passed = passed;
-      row-fits = row-fits s e (prewrite-passed h b _ passed .row);
-      slot-free = λ f. changing-free (weighed h) v more (asks .0 .fit) (one-more h b (mutationOf s e) f);
-      area-room = applying-room here;
-    }
-
-    pub locking-more : {r : Store} {area″ : Bytes} → Applied cur area′ (applyPrewrite h (entryFor (keyAt s (getD es i noEntry)) (getD es i noEntry .put) (rowAt s (getD es i noEntry))) (boxOf cur area′)) (cur .top + 375) r area″
-        → Locking h (boxOf st area) area″ s n es (i + 1) r
-    locking-more {r} {area″} l = changing-more v more (subst (λ (m : Mutation). Leaves (applyPrewrite h m b) (cur .top + 375) r area″) (parts-are s e) (l .leaves))
+  pub locks-ready : {n : ℕ} {es : List Entry} (b : Box) → headStep (headOf t primary) ≡ Accepted → InForm s n es → checkAll (prewriteEntry (headOf t primary)) b (shown (mutationOf s) n es) ≡ Accepted
+      → Fits (loadOf (applyAll (applyPrewrite (headOf t primary)) (shown (mutationOf s) n es) b)) → Ready (deedOf t) primary s (counted n es) b
+  locks-ready {n} {es} b p form c f =
+      ready-all (changesOf h) (mutationOf s) (deedOf t) primary s (λ e x. refl) (entry-ready p f) n es b (record { ascends = mutations-by-keys s n es ∙ form .ascends; passed = c; is = refl })
 
 -- ---- the call
 

@@ -44,7 +44,7 @@ use Rattle.lines.proofs.TidyLaws.{built-tidy}
 use Rattle.stretches.specs.Loads.{rowSize, lockSize}
 use Rattle.stretches.proofs.LoadLaws.{row-most}
 use Rattle.stretches.proofs.KeptLaws.{lock-size}
-use Rattle.calls.specs.Walks.{sizeIf, rowAt}
+use Rattle.calls.specs.Walks.{onlyIf, rowAt}
 use Rattle.calls.specs.Weights.{noWeight, Refused, EntryChecked}
 use Rattle.calls.specs.declared.weights.Weight.{Weight}
 use Rattle.calls.specs.declared.weights.Seen.{Seen}
@@ -88,7 +88,7 @@ old-weighs {key} {primary} {row} f e = record {
 pub parts-short : {s : Bytes} (e : Entry) {primary : Bytes} → EntryIn s e → length primary ≤ 255 → PartsShort (keyAt s e) primary (rowAt s e)
 parts-short {s} e i p =
     let few = size-few (e .put) (e .rowlen) in
-    let r = bytes-long s (e .rowat) (sizeIf (e .put) (e .rowlen)) (omega (arith, few, i .row-in)) in
+    let r = bytes-long s (e .rowat) (onlyIf (e .put) (e .rowlen)) (omega (arith, few, i .row-in)) in
     record { key-short = key-short e i; primary-short = p; row-short = omega (arith, r, few, i .row-small) }
 
 -- ---- the steps that no store can fail

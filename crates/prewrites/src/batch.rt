@@ -12,17 +12,15 @@ ghost use Rattle.calls.specs.Passes.{allDone};
 ghost use Rattle.prewrites.specs.Checks.{headOf};
 use crate::heads::Terms;
 use crate::heads::head_step;
-use crate::locking::apply_all;
 use crate::passes::check_all;
+use applies::Deed;
 use calls::Changed;
 use forms::Entry;
 use lines::AREA;
 use lines::Store;
-use rules::Answer;
-use stretches::make_place;
 
-// The steps of a batch that is in form and not empty, its head passed: "per entry ascending ..; Then 11", and the applying pass, after a
-// repack where the area wants one for the entries' bytes: two keys of 48, a row of 255 and three numbers, 375 an entry.
+// The steps of a batch that is in form and not empty, its head passed: "per entry ascending ..; Then 11", and the applying pass. Where
+// nothing changes no entry is applied: one way out, since the store would be copied once more where two ways meet.
 fn prewrite_all(
     store: Store,
     area: &mut [u8],
@@ -36,19 +34,17 @@ fn prewrite_all(
     ensures { λ r. ⌜ Settled store (now (area .entry)) (allDone (prewriteEntry (headOf terms (now (primary .entry)))) (applyPrewrite (headOf terms (now (primary .entry)))) (shown (mutationOf (now (batch .entry))) n list) (boxOf store (now (area .entry)))) r (now (area .exit)) ⌝ }
 {
     let v = check_all(store, area, terms, primary, batch, n, list);
-    if !v.moves {
-        let answer = v.answer;
-        return Changed {
-            store: store,
-            answer: answer,
-        };
-    }
-    let need = n * 375;
-    let placed = make_place(store, area, need);
-    let applied = apply_all(placed, area, terms, primary, batch, n, list);
+    let answer = v.answer;
+    let deed = Deed::Prewrite {
+        txn: terms.txn,
+        start: terms.start,
+        ttl: terms.ttl,
+    };
+    let m = calls::only_if(v.moves, n);
+    let applied = calls::apply_all(store, area, deed, primary, batch, m, list);
     Changed {
         store: applied,
-        answer: Answer::Accepted,
+        answer: answer,
     }
 }
 

@@ -129,7 +129,9 @@ pub fn check_entry(
     requires { ⌜ EntryAsks store (now area) (now key) (now primary) (now row) ⌝ }
     ensures { λ r. ⌜ EntryChecked (stepsOf (headOf terms (now (primary .entry)))) (boxOf store (now (area .entry))) (entryOf (now (key .entry)) put (now (row .entry))) r ⌝ }
 {
-    let found = look(store, area, key, terms.start, 0);
+    let lines = store.lines;
+    let load = store.load;
+    let found = look(lines, load, store.top, area, key, terms.start, 0);
     let lock = found.lock;
     let below = found.history.below;
     let answer = entry_step(below, lock, area, terms, primary, key, put, row);

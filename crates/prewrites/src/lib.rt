@@ -3,7 +3,6 @@
 pub mod batch;
 pub mod checks;
 pub mod heads;
-pub mod locking;
 pub mod passes;
 pub mod single;
 

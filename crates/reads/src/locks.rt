@@ -17,7 +17,9 @@ pub fn intent_for_read(store: Store, area: &[u8; AREA], key: &[u8], moment: u64)
     if !forms::key_in_form(key) {
         return Pointed::Refused(Answer::No(1));
     }
-    let found = lines::look(store, area, key, 0, moment);
+    let lines = store.lines;
+    let load = store.load;
+    let found = lines::look(lines, load, store.top, area, key, 0, moment);
     let lock = found.lock;
     match lock {
         Locked::Nobody => Pointed::Nothing,

@@ -62,7 +62,9 @@ pub fn read(store: Store, area: &[u8; AREA], key: &[u8], moment: u64) -> Seen
     if !forms::key_in_form(key) {
         return Seen::Refused(Answer::No(1));
     }
-    let found = lines::look(store, area, key, 0, moment);
+    let lines = store.lines;
+    let load = store.load;
+    let found = lines::look(lines, load, store.top, area, key, 0, moment);
     let lock = found.lock;
     let lets = lock_lets(lock, moment);
     match lets {

@@ -2,37 +2,35 @@
 -- Assumes nothing.
 use Prim.Native.Nat.{ℕ, _+_, _≤_, _<_}
 use native.Mathlib.Omega.{arith}
-use mathlib.Core.Path.{_≡_, refl, ap₂}
+use mathlib.Core.Path.{_≡_, refl, sym, ap₂, subst}
 use mathlib.Core.Bool.{not}
 use mathlib.Core.List.{List, _∷_}
 use mathlib.Core.Option.{Option, none, some}
 use lib.Dec.{eqb}
-use lib.ListN.{getD, drop}
 use borrow.Author.Tests.{eqb-false}
 use Rattle.seqs.specs.Tables.{shown}
 use Rattle.forms.specs.Bytes.{Bytes}
 use Rattle.forms.specs.Key.{Key}
 use Rattle.forms.specs.Row.{Row}
-use Rattle.forms.specs.Places.{keyAt, noEntry}
+use Rattle.forms.specs.Places.{keyAt, InForm}
 use Rattle.forms.specs.declared.batch.Entry.{Entry}
 use Rattle.rules.specs.declared.answers.Answer.{Answer}
 use Rattle.rules.specs.declared.answers.Answer.the-variants.{Accepted}
 use Rattle.rules.specs.declared.records.Record.{Record}
 use Rattle.rules.specs.Answers.{_▸_, need}
 use Rattle.rules.specs.Box.{Box, Lock, recordsOf, lockOf, rowOf}
-use Rattle.rules.specs.Room.{roomFor}
+use Rattle.rules.specs.Room.{loadOf, roomFor, Fits}
 use Rattle.rules.specs.Calls.{settle, nonEmpty, zeroStep, stampedAt}
 use Rattle.rules.specs.Rollback.{rollbackKey, rollbackRoom, rollbackSteps, rollbackTo, applyRollback, rollbackAll}
 use Rattle.laws.specs.Adds.{plus, recordLoad, ofLock, ofRow, ifNew, rollbackAdds, rollbackFrees}
 use Rattle.laws.proofs.StepLaws.{then-right, need-true, not-true}
-use Rattle.laws.proofs.BatchLaws.{applyAll}
+use Rattle.laws.proofs.BatchLaws.{checkAll, applyAll}
 use Rattle.laws.proofs.RollbackLaws.{rollback-depends, rollback-only, rollbackKeys-all, applyRollbacks-all, rollbacks-load}
-use Rattle.lines.specs.declared.store.Store.{Store}
 use Rattle.lines.specs.View.{boxOf}
-use Rattle.applies.specs.Applies.{RollbackAsks, Applied}
-use Rattle.calls.specs.Passes.{ApplyAsks}
-use Rattle.calls.proofs.ApplyLaws.{Changes, Applying, applying-passed, applying-room, ChangingAll, changing-start, changing-here, changing-more}
-use Rattle.calls.proofs.JudgeLaws.{Weighed, changing-free}
+use Rattle.applies.specs.declared.deeds.Deed.the-variants.{Rollback}
+use Rattle.calls.specs.Passes.{EntryReady, Ready, counted}
+use Rattle.calls.proofs.ApplyLaws.{Changes, Applying, applying-passed, ready-all}
+use Rattle.calls.proofs.JudgeLaws.{Weighed, applying-free}
 use Rattle.calls.proofs.DoneLaws.{ByEntries}
 use Rattle.rollbacks.specs.Checks.{stepsOf}
 
@@ -73,31 +71,18 @@ one-more start b k n e = rw (n, e) (go (rowOf k start (b .defaults)))
 -- ---- one key after the other
 
 abbrev pub changesOf : ℕ → ℕ → Changes Key
-changesOf txn start = record { key = λ k. k; start = start; check = rollbackKey txn start; apply = applyRollback start; most = 64; depends = rollback-depends txn start; only = rollback-only start start }
+changesOf txn start = record { key = λ k. k; start = start; check = rollbackKey txn start; apply = applyRollback start; depends = rollback-depends txn start; only = rollback-only start start }
 
--- what is left to apply to the store as it is
-abbrev pub Rolling : ℕ → ℕ → Box → Bytes → Bytes → ℕ → List Entry → ℕ → Store → Type 0
-Rolling txn start b area s n es i cur = ChangingAll (changesOf txn start) (keyAt s) (applyAll (applyRollback start) (shown (keyAt s) n es) b) area s n es i cur
-
-module _ (txn start : ℕ) {st : Store} {area s : Bytes} {n : ℕ} {es : List Entry} (asks : (ApplyAsks (rollbackKey txn start) (applyRollback start) (keyAt s) 64 st area s n es) × (start ≡ 0 → ⊥)) where
-  pub rolling-start : Rolling txn start (boxOf st area) area s n es 0 st
-  rolling-start = let a = asks .0 in changing-start (changesOf txn start) (keyAt s) (a .form .listed) (a .built) (a .form .ascends) (a .passed) refl (a .room)
-
-  module _ {area′ : Bytes} {i : ℕ} {cur : Store} (v : Rolling txn start (boxOf st area) area′ s n es i cur) (more : i < n) where
-    here : Applying (changesOf txn start) (applyAll (applyRollback start) (shown (keyAt s) n es) (boxOf st area)) (boxOf cur area′) (cur .top) (keyAt s (getD es i noEntry) ∷ drop (i + 1) (shown (keyAt s) n es))
-    here = changing-here v more
-
-    pub rolling-asks : RollbackAsks cur area′ txn start (keyAt s (getD es i noEntry))
-    rolling-asks = record {
-      built = v .left .built;
-      head = asks .1;
-      passed = applying-passed here;
-      slot-free = λ f e. changing-free (weighed txn start) v more (asks .0 .fit) (one-more start (boxOf cur area′) (keyAt s (getD es i noEntry)) f e);
-      area-room = applying-room here;
-    }
-
-    pub rolling-more : {r : Store} {area″ : Bytes} → Applied cur area′ (applyRollback start (keyAt s (getD es i noEntry)) (boxOf cur area′)) (cur .top + 64) r area″ → Rolling txn start (boxOf st area) area″ s n es (i + 1) r
-    rolling-more l = changing-more v more (l .leaves)
+-- what each key asks in its turn, where all would pass
+pub rolls-ready : (txn start : ℕ) (primary : Key) {s : Bytes} {n : ℕ} {es : List Entry} (b : Box) → (start ≡ 0 → ⊥) → InForm s n es → checkAll (rollbackKey txn start) b (shown (keyAt s) n es) ≡ Accepted
+    → Fits (loadOf (applyAll (applyRollback start) (shown (keyAt s) n es) b)) → Ready (Rollback txn start) primary s (counted n es) b
+rolls-ready txn start primary {s} {n} {es} b z form c f =
+    ready-all (changesOf txn start) (keyAt s) (Rollback txn start) primary s (λ e x. refl) one n es b (record { ascends = form .ascends; passed = c; is = refl })
+  where
+    one : (e : Entry) (rest : List Key) (x : Box) → Applying (changesOf txn start) (applyAll (applyRollback start) (shown (keyAt s) n es) b) x (keyAt s e ∷ rest) → EntryReady (Rollback txn start) primary s e x
+    one e rest x v st area built q room =
+        let here : Applying (changesOf txn start) (applyAll (applyRollback start) (shown (keyAt s) n es) b) (boxOf st area) (keyAt s e ∷ rest) = subst (λ (y : Box). Applying (changesOf txn start) (applyAll (applyRollback start) (shown (keyAt s) n es) b) y (keyAt s e ∷ rest)) (sym q) v in
+        record { built = built; head = z; passed = applying-passed here; slot-free = λ g o. applying-free (weighed txn start) here (built .kept) f (one-more start (boxOf st area) (keyAt s e) g o); area-room = room }
 
 -- ---- the call
 

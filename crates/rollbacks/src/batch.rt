@@ -14,16 +14,15 @@ ghost use Rattle.calls.specs.Settled.{Settled};
 ghost use Rattle.calls.specs.Walks.{AllAsks};
 ghost use Rattle.calls.specs.Passes.{allDone};
 use crate::passes::check_all;
-use crate::rolling::apply_all;
+use applies::Deed;
 use calls::Changed;
 use forms::Entry;
 use lines::AREA;
 use lines::Store;
 use rules::Answer;
-use stretches::make_place;
 
-// The steps of a batch that is in form and not empty, its head passed: "per key: ..; Then 11", and the applying pass, after a repack where
-// the area wants one for the keys' bytes: a key of 48 and two numbers, 64 a key.
+// The steps of a batch that is in form and not empty, its head passed: "per key: ..; Then 11", and the applying pass. Where nothing
+// changes no key is applied.
 fn rollback_all(
     store: Store,
     area: &mut [u8],
@@ -37,19 +36,17 @@ fn rollback_all(
     ensures { λ r. ⌜ Settled store (now (area .entry)) (allDone (rollbackKey txn start) (applyRollback start) (shown (keyAt (now (batch .entry))) n list) (boxOf store (now (area .entry)))) r (now (area .exit)) ⌝ }
 {
     let v = check_all(store, area, txn, start, batch, n, list);
-    if !v.moves {
-        let answer = v.answer;
-        return Changed {
-            store: store,
-            answer: answer,
-        };
-    }
-    let need = n * 64;
-    let placed = make_place(store, area, need);
-    let applied = apply_all(placed, area, txn, start, batch, n, list);
+    let answer = v.answer;
+    let deed = Deed::Rollback {
+        txn: txn,
+        start: start,
+    };
+    let m = calls::only_if(v.moves, n);
+    let none = &batch[0..0];
+    let applied = calls::apply_all(store, area, deed, none, batch, m, list);
     Changed {
         store: applied,
-        answer: Answer::Accepted,
+        answer: answer,
     }
 }
 

@@ -97,7 +97,9 @@ pub fn check_key(store: Store, area: &[u8], txn: u64, start: u64, key: &[u8]) ->
     requires { ⌜ KeyAsks store (now area) (now key) ⌝ }
     ensures { λ r. ⌜ EntryChecked (stepsOf txn start) (boxOf store (now (area .entry))) (now (key .entry)) r ⌝ }
 {
-    let found = look(store, area, key, start, start);
+    let lines = store.lines;
+    let load = store.load;
+    let found = look(lines, load, store.top, area, key, start, start);
     let lock = found.lock;
     let history = found.history;
     let with = history.with;

@@ -3,7 +3,6 @@
 pub mod batch;
 pub mod checks;
 pub mod passes;
-pub mod rolling;
 pub mod single;
 
 pub use batch::rollback_intents_batch;

@@ -25,7 +25,7 @@ use Rattle.lines.specs.Made.{SlotBelow, Kept, Made}
 use Rattle.lines.proofs.ViewLaws.{bytes-long}
 use Rattle.lines.proofs.NeedLaws.{area-enough}
 use Rattle.stretches.specs.Changes.{Leaves}
-use Rattle.stretches.specs.Packs.{PackAsks, Packed, Repacked, Placed}
+use Rattle.stretches.specs.Packs.{PackAsks, Packed, Repacked}
 use Rattle.stretches.proofs.StretchLaws.{SameBytes, slot-same, row-same, slot-kept, default-kept}
 use Rattle.stretches.proofs.ChangeLaws.{shows-box}
 
@@ -206,11 +206,3 @@ module _ {st : Store} {area : Bytes} (m : Made st area) where
 
       front : take (r .top) area′ ≡ take (r .top) into
       front = subst (λ (n : ℕ). bytesAt area′ 0 n ≡ bytesAt into 0 (r .top - 0)) long (w .stands) ∙ ap (bytesAt into 0) whole
-
-  -- ---- `make_place`
-
-  pub placed-same : {need : ℕ} → need ≤ 131072 - st .top → Placed st area need st area
-  placed-same h = record { made = m; shown = refl; load-is = refl; room = omega (arith, m .built .top-in) }
-
-  pub placed-anew : {need : ℕ} {r : Store} {area′ : Bytes} → need ≤ 63488 → Repacked st area r area′ → Placed st area need r area′
-  placed-anew h p = record { made = p .made; shown = p .shown; load-is = p .load-is; room = omega (arith, p .top-most) }

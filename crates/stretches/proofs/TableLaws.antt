@@ -1,4 +1,4 @@
--- `change`: the loop that makes place, and the one that closes up.
+-- A slot comes to its place: the loop that makes place for it, and the one that closes up where another goes.
 -- Assumes nothing.
 use Prim.Native.Nat.{ℕ, _+_, _-_, _≤_, _<_}
 use native.Mathlib.Omega.{arith}

@@ -1,7 +1,7 @@
 -- What packing the area anew asks and leaves.
 -- Assumes nothing.
 use mathlib.Core.Path.{_≡_}
-use Prim.Native.Nat.{ℕ, _+_, _≤_}
+use Prim.Native.Nat.{_≤_}
 use lib.ListN.{length, take}
 use Rattle.seqs.specs.Tables.{Table, shown}
 use Rattle.forms.specs.Bytes.{Bytes}
@@ -29,10 +29,3 @@ pub record Repacked (st : Store) (area : Bytes) (r : Store) (area′ : Bytes) : 
   pub shown : boxOf r area′ ≡ boxOf st area
   pub load-is : r .load ≡ st .load
   pub top-most : r .top ≤ 67584
-
--- the same box, with place above the top
-pub record Placed (st : Store) (area : Bytes) (need : ℕ) (r : Store) (area′ : Bytes) : Type 0 where
-  pub made : Made r area′
-  pub shown : boxOf r area′ ≡ boxOf st area
-  pub load-is : r .load ≡ st .load
-  pub room : r .top + need ≤ 131072

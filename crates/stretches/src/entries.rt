@@ -11,6 +11,7 @@ ghost use Rattle.rules.specs.Box.{lockOf};
 ghost use Rattle.rules.specs.Prewrite.{lockLine};
 ghost use Rattle.rules.specs.Commit.{commitTo};
 ghost use Rattle.lines.specs.View.{boxOf};
+ghost use Rattle.lines.specs.Made.{storeOf};
 ghost use Rattle.stretches.specs.Changes.{headFor, entryFor, recordOver, LockAsks, SlotAsks, slotChange, RecordAsks, EndAsks, Leaves, changed, ChangeAsks};
 use crate::changes::Change;
 use crate::changes::Coming;
@@ -122,9 +123,12 @@ fn place_record(
     }
 }
 
-// A record of the key with a Put's row; the key's lock goes, if it has one, and its row with it. A Delete's or Rollback's row is empty.
+// A record of the key with a Put's row; the key's lock goes, if it has one, and its row with it. A Delete's or Rollback's row is empty. It
+// takes the parts of the store, as `look` does; the contract alone names its lines.
 pub fn put_record(
-    store: Store,
+    lines: [Slot; 1024],
+    old: Load,
+    top: usize,
     area: &mut [u8],
     seen: Looked,
     key: &[u8],
@@ -133,11 +137,9 @@ pub fn put_record(
     kind: Kind,
     row: &[u8],
 ) -> Change
-    requires { ⌜ RecordAsks store (now area) seen (now key) start stamp kind (now row) ⌝ }
-    ensures { λ r. ⌜ (ChangeAsks store r) × (Leaves (recordOver (now (key .entry)) (recordFor start stamp kind) (now (row .entry)) (boxOf store (now (area .entry)))) (store .top + length (now (key .entry)) + 8 + 8 + length (now (row .entry))) (changed store r) (now (area .exit))) ⌝ }
+    requires { ⌜ RecordAsks (storeOf lines old top) (now area) seen (now key) start stamp kind (now row) ⌝ }
+    ensures { λ r. ⌜ (ChangeAsks (storeOf lines old top) r) × (Leaves (recordOver (now (key .entry)) (recordFor start stamp kind) (now (row .entry)) (boxOf (storeOf lines old top) (now (area .entry)))) (top + length (now (key .entry)) + 8 + 8 + length (now (row .entry))) (changed (storeOf lines old top) r) (now (area .exit))) ⌝ }
 {
-    let top = store.top;
-    let old = store.load;
     let end = append_record(area, top, key, stamp, start, row);
     place_record(top, old, seen, key.len(), kind, row.len(), end)
 }

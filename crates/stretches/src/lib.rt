@@ -3,7 +3,6 @@ pub mod changes;
 pub mod entries;
 pub mod loads;
 pub mod packing;
-pub mod tables;
 pub mod writes;
 
 pub use changes::Change;
@@ -17,8 +16,6 @@ pub use loads::less;
 pub use loads::lock_load;
 pub use loads::more;
 pub use loads::record_load;
-pub use packing::make_place;
 pub use packing::repack;
-pub use tables::change;
 pub use writes::append_lock;
 pub use writes::append_record;

@@ -1,11 +1,9 @@
 // The area packed anew: the stretches of the lines, in table order, from its beginning. "Room that was freed counts as free at once."
 ghost use mathlib.Core.Path.{_≡_};
-ghost use Prim.Native.Nat.{_≤_};
 ghost use Rattle.lines.specs.View.{past};
 ghost use Rattle.lines.specs.Made.{Made};
-ghost use Rattle.stretches.specs.Packs.{PackAsks, Packed, Repacked, Placed};
+ghost use Rattle.stretches.specs.Packs.{PackAsks, Packed, Repacked};
 use forms::append;
-use lines::AREA;
 use lines::Line;
 use lines::Slot;
 use lines::Store;
@@ -61,15 +59,4 @@ pub fn repack(store: Store, area: &mut [u8]) -> Store
     let top = l.top;
     append(area, 0, &into[0..top]);
     l
-}
-
-// Place for `need` bytes past the top: the area is packed anew only where they would pass its end.
-pub fn make_place(store: Store, area: &mut [u8], need: usize) -> Store
-    requires { ⌜ (Made store (now area)) × (need ≤ 63488) ⌝ }
-    ensures { λ r. ⌜ Placed store (now (area .entry)) need r (now (area .exit)) ⌝ }
-{
-    if need <= AREA - store.top {
-        return store;
-    }
-    repack(store, area)
 }

@@ -1,6 +1,7 @@
+-- `applies::apply_rollback` meets its contract.
+-- Assumes nothing.
 use mathlib.Core.List.{[]}
 use Rattle.applies.proofs.ApplyLaws.{rollback-asks, rollback-done, rollback-stays}
-use mathlib.Core.Path.{refl}
 use borrow.Author.Needs.{needs}
 use Prim.Native.Nat.{_-_}
 use mathlib.Core.Path.{refl}
@@ -8,19 +9,18 @@ use Rattle.applies.proofs.apply_rollback.Statement.{statement}
 use Rattle.applies.proofs.apply_rollback.Tie as tie
 
 put-record-requires : tie.Need-put-record-requires
-put-record-requires c κs = rollback-asks (c .before .before .before .before .before .before .before .before .before .pre) ((c .before .before .before .before .before .look) .ensures) ((c .before .before .enum-told) .given .1) _ refl
+put-record-requires c κs = rollback-asks ((c .before .before .before .before .before .before .before .before .before .pre) .0) ((c .before .before .before .before .before .before .before .before .before .pre) .1) ((c .before .before .enum-told) .given .1) _ refl
 
 returns : tie.Need-returns
-returns c = let q = (c .before .before .put-record) .ensures in (q .0, rollback-done (c .before .before .before .before .before .before .before .before .before .before .before .before .pre) ((c .before .before .before .before .before .before .before .before .look) .ensures) ((c .before .before .before .before .before .enum-told) .given .1) [] refl (q .1))
+returns c = let q = (c .before .before .put-record) .ensures in (q .0, rollback-done ((c .before .before .before .before .before .before .before .before .before .before .before .before .pre) .0) ((c .before .before .before .before .before .before .before .before .before .before .before .before .pre) .1) ((c .before .before .before .before .before .enum-told) .given .1) [] refl (q .1))
 
 returns-2 : tie.Need-returns-2
-returns-2 c = (tt, rollback-stays (c .before .before .before .before .before .before .before .pre) ((c .before .before .before .look) .ensures) ((c .enum-told2) .given .1))
+returns-2 c = (tt, rollback-stays ((c .before .before .before .before .before .before .before .pre) .0) ((c .before .before .before .before .before .before .before .pre) .1) ((c .enum-told2) .given .1))
 
 pub apply-rollback-spec : {M : Type 1} → statement M
 apply-rollback-spec =
     tie.close
     (tie.spec
-    (λ c κs. search needs)
     (λ c. search needs)
     (λ c. search needs)
     (λ c. search needs)
@@ -29,5 +29,4 @@ apply-rollback-spec =
     (λ c. search needs)
     (λ c. search needs)
     returns
-    (λ c. search needs)
     returns-2)

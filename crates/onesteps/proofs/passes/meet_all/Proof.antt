@@ -16,14 +16,8 @@ Inv-loop store area terms batch n list met₀ i₀ met i = MeetingAll (endingOf 
 abbrev μ-loop : tie.MeasureT-loop
 μ-loop store area terms batch n list met₀ i₀ met i = n - i
 
-nothing-met-requires : tie.Need-nothing-met-requires Inv-loop μ-loop
-nothing-met-requires c κs = search needs
-
 loop-holds : tie.Need-loop-holds Inv-loop μ-loop
 loop-holds c = meeting-start (endingOf ((c .before .before .before .args) .terms)) _ ((c .before .before .before .pre) .form .listed) ((c .nothing-met) .ensures)
-
-mul-e : tie.Need-mul-e Inv-loop μ-loop
-mul-e c = search needs
 
 array-copy-out-e : tie.Need-array-copy-out-e Inv-loop μ-loop
 array-copy-out-e c = pass-small ((c .before .loop) .inv) ((c .loop-test) .taken)
@@ -35,22 +29,19 @@ row-of-requires : tie.Need-row-of-requires Inv-loop μ-loop
 row-of-requires c κs = pass-in ((c .before .before .before .loop) .inv) ((c .before .before .loop-test) .taken)
 
 look-requires : tie.Need-look-requires Inv-loop μ-loop
-look-requires c κs = (c .before .before .before .before .before .before .before .before .pre) .made .built
+look-requires c κs = (c .before .before .before .before .before .before .before .before .before .before .pre) .made .built
 
 meet-requires : tie.Need-meet-requires Inv-loop μ-loop
-meet-requires c κs = (rw ((c .before .before .key-of) .ensures, (c .before .row-of) .ensures) (meet-asks _ ((c .before .before .before .before .before .before .before .before .before .pre) .made) (pass-in ((c .before .before .before .before .before .loop) .inv) ((c .before .before .before .before .loop-test) .taken))), (c .look) .ensures)
+meet-requires c κs = (rw ((c .before .before .before .before .key-of) .ensures, (c .before .before .before .row-of) .ensures) (meet-asks _ ((c .before .before .before .before .before .before .before .before .before .before .before .pre) .made) (pass-in ((c .before .before .before .before .before .before .before .loop) .inv) ((c .before .before .before .before .before .before .loop-test) .taken))), (c .look) .ensures)
 
 join-requires : tie.Need-join-requires Inv-loop μ-loop
-join-requires c κs = meeting-small (endingOf ((c .before .before .before .before .before .before .before .before .before .before .args) .terms)) _ ((c .before .before .before .before .before .before .loop) .inv) ((c .before .before .before .before .before .loop-test) .taken) ((c .before .before .before .key-of) .ensures) ((c .before .before .row-of) .ensures) ((c .meet) .ensures)
+join-requires c κs = meeting-small (endingOf ((c .before .before .before .before .before .before .before .before .before .before .before .before .args) .terms)) _ ((c .before .before .before .before .before .before .before .before .loop) .inv) ((c .before .before .before .before .before .before .before .loop-test) .taken) ((c .before .before .before .before .before .key-of) .ensures) ((c .before .before .before .before .row-of) .ensures) ((c .meet) .ensures)
 
 add-i : tie.Need-add-i Inv-loop μ-loop
-add-i c = omega (arith, pass-small ((c .before .before .before .before .before .before .before .loop) .inv) ((c .before .before .before .before .before .before .loop-test) .taken))
-
-loop-less : tie.Need-loop-less Inv-loop μ-loop
-loop-less c = search needs
+add-i c = omega (arith, pass-small ((c .before .before .before .before .before .before .before .before .before .loop) .inv) ((c .before .before .before .before .before .before .before .before .loop-test) .taken))
 
 loop-again : tie.Need-loop-again Inv-loop μ-loop
-loop-again c = meeting-more (endingOf ((c .before .before .before .before .before .before .before .before .before .before .before .args) .terms)) _ ((c .before .before .before .before .before .before .before .loop) .inv) ((c .before .before .before .before .before .before .loop-test) .taken) ((c .before .before .before .before .key-of) .ensures) ((c .before .before .before .row-of) .ensures) ((c .before .meet) .ensures) ((c .join) .ensures)
+loop-again c = meeting-more (endingOf ((c .before .before .before .before .before .before .before .before .before .before .before .before .before .args) .terms)) _ ((c .before .before .before .before .before .before .before .before .before .loop) .inv) ((c .before .before .before .before .before .before .before .before .loop-test) .taken) ((c .before .before .before .before .before .before .key-of) .ensures) ((c .before .before .before .before .before .row-of) .ensures) ((c .before .meet) .ensures) ((c .join) .ensures)
 
 returns : tie.Need-returns Inv-loop μ-loop
 returns c = meeting-end (endingOf ((c .before .before .before .before .before .args) .terms)) _ ((c .before .loop) .inv) ((c .loop-test) .left)
@@ -61,9 +52,9 @@ meet-all-spec =
     (tie.spec
     Inv-loop
     μ-loop
-    nothing-met-requires
+    (λ c κs. search needs)
     loop-holds
-    mul-e
+    (λ c. search needs)
     array-copy-out-e
     key-of-requires
     row-of-requires
@@ -71,6 +62,6 @@ meet-all-spec =
     meet-requires
     join-requires
     add-i
-    loop-less
+    (λ c. search needs)
     loop-again
     returns)

@@ -5,10 +5,10 @@ use Rattle.stretches.proofs.entries.put_record.Statement.{statement}
 use Rattle.stretches.proofs.entries.put_record.Tie as tie
 
 place-record-requires : tie.Need-place-record-requires
-place-record-requires c κs = slot-asks (c .before .before .before .before .before .before .before .before .pre)
+place-record-requires c κs = slot-asks (c .before .before .before .before .before .before .before .pre)
 
 returns : tie.Need-returns
-returns c = record-put (c .before .before .before .before .before .before .before .before .before .pre) ((c .before .before .before .append-record) .ensures) ((c .place-record) .ensures)
+returns c = record-put (c .before .before .before .before .before .before .before .before .pre) ((c .before .before .before .append-record) .ensures) ((c .place-record) .ensures)
 
 pub put-record-spec : {M : Type 1} → statement M
 put-record-spec =

@@ -1,0 +1,80 @@
+// The applying pass of every changing call: one entry after the other, each the definition's own change. The loop changes the table where it
+// stands, since a function that took and gave back a store would copy it twice for each entry.
+ghost use Rattle.calls.specs.Passes.{ApplyAsks, AllApplied};
+use crate::parts::key_of;
+use crate::parts::row_of;
+use applies::Deed;
+use applies::apply_entry;
+use applies::most_of;
+use applies::point_of;
+use forms::Entry;
+use lines::AREA;
+use lines::Store;
+use lines::look;
+use stretches::Change;
+use stretches::repack;
+
+// The area is packed anew where the entries' bytes would pass its end. A slot that comes moves those from its place on by one; where one
+// goes for it, those between the two places close up.
+pub fn apply_all(
+    store: Store,
+    area: &mut [u8],
+    deed: Deed,
+    primary: &[u8],
+    batch: &[u8],
+    n: usize,
+    list: [Entry; 32],
+) -> Store
+    requires { ⌜ ApplyAsks deed (now primary) store (now area) (now batch) n list ⌝ }
+    ensures { λ r. ⌜ AllApplied deed (now (primary .entry)) store (now (area .entry)) (now (batch .entry)) n list r (now (area .exit)) ⌝ }
+{
+    let point = point_of(deed);
+    let need = n * most_of(deed);
+    let mut l = store;
+    while AREA - l.top < need {
+        l = repack(l, area);
+    }
+    let mut i: usize = 0;
+    while i < n {
+        let e = list[i];
+        let key = key_of(batch, e);
+        let row = row_of(batch, e);
+        let lines = l.lines;
+        let old = l.load;
+        let seen = look(lines, old, l.top, area, key, point.start, point.stamp);
+        let c = apply_entry(l, area, seen, deed, primary, key, e.put, row);
+        i += 1;
+        match c {
+            Change::Stays => {}
+            Change::Inserts(x) => {
+                let s = x.slot;
+                let load = x.load;
+                let to = x.to;
+                let mut k = old.lines;
+                while to < k {
+                    let t = l.lines[k - 1];
+                    l.lines[k] = t;
+                    k -= 1;
+                }
+                l.lines[to] = s;
+                l.load = load;
+                l.top = x.top;
+            }
+            Change::Replaces(from, x) => {
+                let s = x.slot;
+                let load = x.load;
+                let to = x.to;
+                let mut k = from;
+                while k + 1 < to {
+                    let t = l.lines[k + 1];
+                    l.lines[k] = t;
+                    k += 1;
+                }
+                l.lines[k] = s;
+                l.load = load;
+                l.top = x.top;
+            }
+        }
+    }
+    l
+}
