@@ -8,7 +8,7 @@ use paper::store::Bytes;
 
 use crate::orders::{ORDERS, put};
 use crate::random::Random;
-use crate::stock::{EXTREMES, Stock, row};
+use crate::stock::{EXTREMES, Stock, row, time_to_live};
 
 /// How often a record is drawn for each one wanted.
 const TRIES: usize = 20;
@@ -82,7 +82,7 @@ fn some_lock(random: &mut Random, stock: &Stock, writes: &BTreeMap<u64, RawRecor
         transaction: if random.percent(4) { u64::MAX } else { random.between(1, 3) as u64 },
         primary: random.pick(&stock.keys).clone(),
         start,
-        time_to_live: if random.percent(4) { u64::MAX } else { random.between(1, 3) as u64 },
+        time_to_live: time_to_live(random),
         kind: *random.pick(&[1, 1, 2]),
     }
 }

@@ -7,6 +7,7 @@ pub mod batch;
 mod damage;
 pub mod faults;
 mod grow;
+pub mod held;
 pub mod hostile;
 mod image;
 mod looks;
@@ -76,6 +77,8 @@ pub enum Kind {
     Fresh,
     /// The same from an odd but sound image.
     Odd,
+    /// Calls that meet another's lock.
+    Held,
     /// Single forms above all, with keys and rows of odd lengths.
     Singles,
     /// Images, sound, sick and faulty, with the store's figures between.
@@ -94,9 +97,10 @@ pub enum Kind {
     Edge,
 }
 
-const KINDS: [(Kind, usize); 9] = [
-    (Kind::Fresh, 245),
-    (Kind::Odd, 340),
+const KINDS: [(Kind, usize); 10] = [
+    (Kind::Fresh, 230),
+    (Kind::Odd, 295),
+    (Kind::Held, 60),
     (Kind::Images, 150),
     (Kind::Hostile, 40),
     (Kind::Room, 70),
@@ -113,13 +117,13 @@ pub fn kind_of(seed: u64) -> Kind {
 }
 
 /// The trace of a seed. A full box costs a driver as much time as thousands of reads and shows restore alone, so where
-/// images are what is read, most of these give way to small ones. One trace in ten, and where the changing ops are single
-/// forms alone two in three, is about these. Where restore stands alone, all that would be about calls is about images.
+/// images are what is read, most of these give way to small ones. One trace in eleven, and where the changing ops are
+/// single forms alone every second, is about these. Where restore stands alone, all that would be about calls is about images.
 pub fn trace(seed: u64, ops: Ops) -> Bytes {
     let kind = match kind_of(seed) {
         Kind::Room | Kind::Large if ops.reads_images() && !seed.is_multiple_of(8) => Kind::Odd,
         Kind::Fresh if ops.restores_alone() => Kind::Images,
-        Kind::Odd if ops.restores_alone() => Kind::Hostile,
+        Kind::Odd | Kind::Held if ops.restores_alone() => Kind::Hostile,
         Kind::Fresh | Kind::Odd if ops.singles_alone() => Kind::Singles,
         Kind::Fresh | Kind::Odd if ops == Ops::all() && seed.is_multiple_of(6) => Kind::Singles,
         kind => kind,
@@ -143,6 +147,7 @@ pub fn trace_of(kind: Kind, seed: u64, ops: Ops) -> Bytes {
             maker.push(restore);
             some_calls(&mut maker, 4, if ops.reads_images() { 200 } else { 35 });
         }
+        Kind::Held => maker.held(),
         Kind::Singles => single_forms(&mut maker),
         Kind::Images => {
             for _ in 0..maker.random.between(1, 6) {

@@ -139,6 +139,15 @@ pub fn stamp(random: &mut Random, store: &Store, key: &[u8], faulty: bool) -> u6
     }
 }
 
+/// A time to live of any size; not 0.
+pub fn time_to_live(random: &mut Random) -> u64 {
+    match random.below(10) {
+        0..4 => random.between(1, 3) as u64,
+        4 => *random.pick(&EXTREMES[1..]),
+        _ => (random.number() >> random.below(64)).max(1),
+    }
+}
+
 /// Every start and stamp that stands at the key.
 pub fn stamps_of(store: &Store, key: &[u8]) -> Vec<u64> {
     let mut known: Vec<u64> = store.records_of(key).flat_map(|(stamp, record)| [stamp, record.start]).collect();

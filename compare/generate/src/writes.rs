@@ -8,7 +8,7 @@ use paper::trace::Call;
 
 use crate::batch::{broken_keys, broken_mutations, key_bytes, mutation_bytes};
 use crate::maker::Maker;
-use crate::stock::{EXTREMES, row, row_out_of_form, stamp, transaction};
+use crate::stock::{row, row_out_of_form, stamp, time_to_live, transaction};
 
 /// What a changing call is aimed at; the keys ascend.
 pub struct Aim {
@@ -34,8 +34,7 @@ impl Maker {
         let time_to_live = match &held {
             _ if self.random.percent(if faulty { 30 } else { 2 }) => 0,
             Some(lock) if self.random.percent(85) => lock.time_to_live,
-            _ if self.random.percent(4) => *self.random.pick(&EXTREMES),
-            _ => self.random.between(1, 2) as u64,
+            _ => time_to_live(&mut self.random),
         };
         let Aim { transaction, start, .. } = aim;
         if op == 7 {

@@ -4,6 +4,7 @@
 use std::collections::{BTreeMap, BTreeSet};
 
 use generate::{Kind, Ops, kind_of, named, singles, trace, trace_of};
+use paper::answer::LOCKED;
 use paper::restore::Image;
 use paper::room::{DEFAULTS, LINES, LIVE_BYTES, LOCKS, Use};
 use paper::run::{run_call, run_trace};
@@ -99,6 +100,27 @@ fn single_forms_come_with_every_length() {
             assert!(seen >= 50, "{place:?} of {length} bytes: {seen}");
         }
     }
+}
+
+/// Each op that can answer 7 does so often, on locks of both kinds and of many times to live.
+#[test]
+fn every_call_meets_locks_of_every_sort() {
+    let mut held: BTreeMap<(u8, u8), usize> = BTreeMap::new();
+    let mut lives = BTreeSet::new();
+    for seed in 0..1000 {
+        let bytes = trace(seed, Ops::all());
+        let ops: Vec<u8> = read_trace(&bytes).unwrap_or_default().iter().map(Call::op).collect();
+        for (op, answer) in ops.into_iter().zip(run_trace(&bytes)).filter(|(_, answer)| answer.number == LOCKED) {
+            *held.entry((op, answer.holder.kind)).or_default() += 1;
+            lives.insert(answer.holder.time_to_live);
+        }
+    }
+    for op in [1, 2, 6, 7, 8, 9, 10, 11, 12] {
+        let (put, delete) = (held[&(op, 1)], held[&(op, 2)]);
+        assert!(put >= 100 && delete >= 100, "op {op}: {put} Put locks, {delete} Delete locks");
+    }
+    assert_eq!(held.len(), 18, "no other op and no other kind: {held:?}");
+    assert!(lives.len() >= 300 && lives.last() == Some(&u64::MAX), "{} times to live", lives.len());
 }
 
 #[test]

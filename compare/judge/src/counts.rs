@@ -1,6 +1,6 @@
-//! What was compared: the calls by op; those on a box that is just full, and those that pack the area anew; the single
-//! forms by the lengths that a batch's length byte sets apart; the restores by the order of their entries, by the answer
-//! and by what makes the image sick.
+//! What was compared: the calls by op; those on a box that is just full, those that meet a lock, and those that pack the
+//! area anew; the single forms by the lengths that a batch's length byte sets apart; the restores by the order of their
+//! entries, by the answer and by what makes the image sick.
 
 use std::collections::BTreeMap;
 
@@ -15,12 +15,15 @@ use paper::sick::Sickness;
 use paper::store::Store;
 use paper::trace::{Call, read_trace};
 
+use crate::held::Held;
+
 #[derive(Default)]
 pub struct Counts {
     pub answers: u64,
     ops: BTreeMap<u8, u64>,
     full: [u64; 4],
     no_room: u64,
+    held: Held,
     repacks: BTreeMap<u8, u64>,
     lengths: BTreeMap<usize, u64>,
     restores: BTreeMap<&'static str, BTreeMap<u8, u64>>,
@@ -41,6 +44,7 @@ impl Counts {
             *self.ops.entry(call.op()).or_default() += 1;
             *self.repacks.entry(call.op()).or_default() += u64::from(packed);
             self.no_room += u64::from(answer.number == NO_ROOM);
+            self.held.take(&mut store, call, &answer);
             match call {
                 Call::Prewrite { key, row, .. } => self.take_lengths(&[key.len(), row.len()]),
                 Call::Commit { key, .. } | Call::Rollback { key, .. } => self.take_lengths(&[key.len()]),
@@ -99,6 +103,7 @@ impl Counts {
              answered 11: x{}",
             self.no_room
         );
+        self.held.print();
         let packed = |op: &u8| format!("{op} x{}", self.repacks.get(op).unwrap_or(&0));
         let packed: Vec<String> = repacks::OPS.iter().map(packed).collect();
         println!("calls that pack the area anew, by op: {}", packed.join(", "));

@@ -4,6 +4,7 @@
 pub mod bends;
 pub mod classes;
 mod counts;
+mod held;
 pub mod length;
 pub mod one;
 pub mod rust_side;

@@ -28,9 +28,9 @@ pub struct Difference {
 /// "In the Rust: 0 Ok; 7, 8 WriteConflict; 9, 13 CorruptData; 1, 3, 4, 5, 10 InvalidArgument; the rest are ours."
 ///
 /// More than that line is asked where it can be: an accepted call's count and payload, and that a WriteConflict's text
-/// names the holder exactly for 7. Of ours, a row out of form (2) is InvalidArgument, a batch not in form (6) makes no
-/// call, a short buffer (12) has the Rust give a page longer than the buffer; where there is no room (11) the Rust
-/// says Ok, which is a difference of the class `room`.
+/// names the holder exactly for 7, of which it has transaction and start alone. Of ours, a row out of form (2) is
+/// InvalidArgument, a batch not in form (6) makes no call, a short buffer (12) has the Rust give a page longer than the
+/// buffer; where there is no room (11) the Rust says Ok, which is a difference of the class `room`.
 pub fn agrees(call: &Call, paper: &Answer, said: &Outcome) -> bool {
     let buffer = match call {
         Call::Page { buffer, .. } | Call::IntentPage { buffer, .. } | Call::Conflicting { buffer, .. } => Some(*buffer),
@@ -41,7 +41,9 @@ pub fn agrees(call: &Call, paper: &Answer, said: &Outcome) -> bool {
             Some(_) => *count == paper.count && paper.payload.starts_with(payload),
             None => *count == paper.count && *payload == paper.payload,
         },
-        (LOCKED, Outcome::Held { transaction, start }) => (*transaction, *start) == (paper.transaction, paper.start),
+        (LOCKED, Outcome::Held { transaction, start }) => {
+            (*transaction, *start) == (paper.holder.transaction, paper.holder.start)
+        }
         (HISTORY, Outcome::Conflict) => true,
         (CONTRADICTION | IMAGE, Outcome::CorruptData) => true,
         (1 | 2 | 3 | 4 | 5 | 10, Outcome::InvalidArgument) => true,

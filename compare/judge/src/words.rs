@@ -1,6 +1,6 @@
 //! Calls and answers in words, for a person to read.
 
-use paper::answer::Answer;
+use paper::answer::{Answer, Holder};
 use paper::form::{key_batch, mutation_batch};
 use paper::page::Bounds;
 use paper::restore::Image;
@@ -65,10 +65,11 @@ pub fn call(call: &Call) -> String {
 }
 
 pub fn answer(answer: &Answer) -> String {
-    let Answer { number, transaction, start, count, payload } = answer;
+    let Answer { number, holder, count, payload } = answer;
     let mut words = format!("{number}");
-    if (*transaction, *start) != (0, 0) {
-        words += &format!(", holder {transaction} at {start}");
+    if *holder != Holder::default() {
+        let Holder { transaction, start, time_to_live, kind } = holder;
+        words += &format!(", holder {transaction} at {start}, time to live {time_to_live}, kind {kind}");
     }
     if *count != 0 {
         words += &format!(", count {count}");

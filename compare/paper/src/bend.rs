@@ -21,6 +21,12 @@ pub fn bent(bend: Bend) -> bool {
     IN_FORCE.get().contains(&Some(bend))
 }
 
+/// Is any rule bent now?
+#[inline]
+pub fn any_bent() -> bool {
+    IN_FORCE.get()[0].is_some()
+}
+
 /// Runs the work with one rule bent, besides those that are.
 pub fn with_bend<T>(bend: Bend, work: impl FnOnce() -> T) -> T {
     with_bends(&[bend], work)
@@ -47,3 +53,29 @@ pub enum Reach {
     /// No such store can, for this reason.
     Never(&'static str),
 }
+
+/// Makes the list of bends: each a name, what it does, and why no reachable store can show it if none can.
+macro_rules! bends {
+    ($($name:ident $text:literal $(never $reason:literal)?;)*) => {
+        /// One rule of the paper, bent.
+        #[derive(Clone, Copy, Debug, PartialEq, Eq)]
+        pub enum Bend { $($name,)* }
+
+        impl Bend {
+            pub const ALL: &'static [Bend] = &[$(Bend::$name,)*];
+
+            /// What the bent rule does, in one line.
+            pub fn text(self) -> &'static str {
+                match self { $(Bend::$name => $text,)* }
+            }
+
+            pub fn reach(self) -> $crate::bend::Reach {
+                match self { $(Bend::$name => bends!(@reach $($reason)?),)* }
+            }
+        }
+    };
+    (@reach) => { $crate::bend::Reach::Shown };
+    (@reach $reason:literal) => { $crate::bend::Reach::Never($reason) };
+}
+
+pub(crate) use bends;

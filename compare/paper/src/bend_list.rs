@@ -1,29 +1,6 @@
 //! The list of bends: one line each, in the paper's order. A bend that no reachable store can show says why.
 
-use crate::bend::Reach;
-
-macro_rules! bends {
-    ($($name:ident $text:literal $(never $reason:literal)?;)*) => {
-        /// One rule of the paper, bent.
-        #[derive(Clone, Copy, Debug, PartialEq, Eq)]
-        pub enum Bend { $($name,)* }
-
-        impl Bend {
-            pub const ALL: &'static [Bend] = &[$(Bend::$name,)*];
-
-            /// What the bent rule does, in one line.
-            pub fn text(self) -> &'static str {
-                match self { $(Bend::$name => $text,)* }
-            }
-
-            pub fn reach(self) -> Reach {
-                match self { $(Bend::$name => bends!(@reach $($reason)?),)* }
-            }
-        }
-    };
-    (@reach) => { Reach::Shown };
-    (@reach $reason:literal) => { Reach::Never($reason) };
-}
+use crate::bend::bends;
 
 bends! {
     // Key, row, batch
@@ -66,6 +43,38 @@ bends! {
     HolderSwapped "answer 7 gives start and transaction the wrong way round";
     HolderMissing "answer 7 gives zeros";
     HeldIsHistory "answer 7 is 8";
+    // The holder's time to live and kind (misnamed.rs)
+    HolderTimeToLiveIsStart "answer 7 gives the start for the time to live";
+    HolderStartIsTimeToLive "answer 7 gives the time to live for the start";
+    HolderNewFieldsZero "answer 7 gives zeros for time to live and kind";
+    HolderTimeToLiveZero "answer 7 gives zero for the time to live";
+    HolderTimeToLiveOf32 "answer 7 gives the last 4 bytes of the time to live";
+    HolderKindZero "answer 7 gives zero for the kind";
+    HolderKindAlwaysPut "answer 7 gives Put for any kind";
+    HolderKindFromZero "answer 7 gives 0 for Put and 1 for Delete";
+    HolderFieldsOfFirstLock "answer 7 gives time to live and kind of the store's first lock";
+    HolderKindOfNewestRecord "answer 7 gives the kind of the key's newest record, if it has one";
+    HolderKindOfEntry "answer 7 gives the kind of the entry that met the lock";
+    HolderTimeToLiveOfCall "answer 7 gives the time to live of the prewrite that met the lock";
+    HolderTimeLeft "answer 7 gives what is left of the time to live at the moment";
+    HolderShortInRead "answer 7 of a read gives zeros for time to live and kind";
+    HolderShortInPage "answer 7 of a page gives zeros for time to live and kind";
+    HolderShortInPrewrite "answer 7 of a prewrite gives zeros for time to live and kind";
+    HolderShortInPrewriteBatch "answer 7 of a prewrite of a batch gives zeros for time to live and kind";
+    HolderShortInCommit "answer 7 of a commit gives zeros for time to live and kind";
+    HolderShortInCommitBatch "answer 7 of a commit of a batch gives zeros for time to live and kind";
+    HolderShortInRollback "answer 7 of a rollback gives zeros for time to live and kind";
+    HolderShortInRollbackBatch "answer 7 of a rollback of a batch gives zeros for time to live and kind";
+    HolderShortInOneStep "answer 7 of a one-step batch gives zeros for time to live and kind";
+    AcceptedReadNamesLock "an accepted read gives time to live and kind of its key's lock";
+    OneIntentNamesLock "one intent gives time to live and kind in the holder's place too";
+    AcceptedChangeNamesLock "an accepted change gives time to live and kind of the lock that it met";
+    HistoryNamesLock "answer 8 gives time to live and kind of its key's lock";
+    ContradictionNamesLock "answer 9 gives time to live and kind of its key's lock";
+    HolderKindFirst "an answer has the holder's kind before the time to live";
+    HolderAfterCount "an answer has the holder's time to live and kind after the count";
+    HeadOf29 "an answer has no place for the holder's time to live and kind";
+    DamagedHeadOf29 "the answer to a trace not in form has no place for the holder's time to live and kind";
     // Room
     PrimaryTakesNoRoom "a lock's primary takes no live bytes";
     LockKeepsASecondLine "a lock keeps a second line free for its record";

@@ -2,9 +2,10 @@
 
 use crate::answer::{Answer, Refusal};
 use crate::area::{self, Area};
-use crate::bend::{Bend, bent};
+use crate::bend::{Bend, any_bent, bent, with_bend};
 use crate::commit::Commit;
 use crate::form::Reader;
+use crate::misnamed::{beside, misnamed};
 use crate::prewrite::Prewrite;
 use crate::store::{Bytes, Store};
 use crate::trace::{Call, read_trace};
@@ -14,6 +15,15 @@ pub const BEFORE: u8 = 0xEE;
 
 /// One call on the store: its answer in full.
 pub fn run_call(store: &mut Store, call: &Call) -> Answer {
+    if !any_bent() {
+        return answer_of(store, call);
+    }
+    let beside = beside(store, call);
+    let answer = answer_of(store, call);
+    misnamed(store, call, beside, answer)
+}
+
+fn answer_of(store: &mut Store, call: &Call) -> Answer {
     match call {
         Call::Read { moment, key } => match store.read(*moment, key) {
             Ok(shown) => Answer::accepted(0, flagged(shown.cloned())),
@@ -93,6 +103,9 @@ fn run_losing(op: u8, calls: &[Call]) -> Vec<Answer> {
 
 /// The answers of one trace, in bytes.
 pub fn answers(trace: &[u8], out: &mut Bytes) {
+    if bent(Bend::DamagedHeadOf29) && read_trace(trace).is_none() {
+        return with_bend(Bend::HeadOf29, || Answer::damaged().write(out));
+    }
     run_trace(trace).iter().for_each(|answer| answer.write(out));
 }
 

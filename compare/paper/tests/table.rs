@@ -3,6 +3,7 @@
 mod common;
 
 use common::*;
+use paper::answer::Holder;
 use paper::trace::Call;
 
 fn w1() -> Vec<Call> {
@@ -22,7 +23,7 @@ fn w1_prewrite_then_read() {
     assert_eq!(numbers(&w1()), [0]);
     assert_eq!(shown(&after(w1(), read(a(), 9))), None);
     let held = after(w1(), read(a(), 10));
-    assert_eq!((held.number, held.transaction, held.start), (7, 7, 10));
+    assert_eq!((held.number, held.holder), (7, Holder { transaction: 7, start: 10, time_to_live: 1, kind: 1 }));
     assert_eq!(held.payload, [0]);
 }
 
@@ -90,6 +91,6 @@ fn w10_page_below_its_first_row() {
 #[test]
 fn w11_the_key_past_the_last_row_refuses() {
     let held = after([w2(), vec![prewrite(b(), 12)]].concat(), page(12, 7, 12));
-    assert_eq!((held.number, held.transaction, held.start), (7, 7, 12));
+    assert_eq!((held.number, held.holder), (7, Holder { transaction: 7, start: 12, time_to_live: 1, kind: 1 }));
     assert_eq!(held.payload, [0xEE; 12], "a refusal leaves the buffer alone");
 }

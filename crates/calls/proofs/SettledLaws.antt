@@ -7,6 +7,7 @@ use Rattle.rules.specs.declared.answers.Answer.{Answer}
 use Rattle.rules.specs.declared.answers.Answer.the-variants.{Accepted, No, Held}
 use Rattle.rules.specs.Answers.{_▸_}
 use Rattle.rules.specs.Calls.{Done}
+use Rattle.laws.proofs.StepLaws.{answered}
 use Rattle.lines.specs.declared.store.Store.{Store}
 use Rattle.lines.specs.View.{boxOf}
 use Rattle.lines.specs.Made.{Made}
@@ -38,7 +39,7 @@ untouched = record { store-is = refl; area-is = refl }
 -- nothing has changed, and the definition leaves the box
 pub settled-same : {st : Store} {area : Bytes} {d : Done} {a : Answer} → Made st area → d ≡ record { answer = a; box = boxOf st area } → Settled st area d (record { store = st; answer = a }) area
 settled-same {st} {area} {d} m e = record {
-  answer-is = sym (ap (λ (x : Done). x .answer) e);
+  answer-is = answered (sym (ap (λ (x : Done). x .answer) e));
   made = m;
   shown = sym (ap (λ (x : Done). x .box) e);
   refused = λ n. untouched;
@@ -54,7 +55,7 @@ settled-still {st} {r} {area} {area′} {d} {a} u m e =
 pub settled-new : {st : Store} {area : Bytes} {d : Done} {r : Store} {area′ : Bytes} → Made r area′ → d ≡ record { answer = Accepted; box = boxOf r area′ } → (boxOf r area′ ≡ boxOf st area → ⊥)
     → Settled st area d (record { store = r; answer = Accepted }) area′
 settled-new {st} {area} {d} {r} {area′} m e n = record {
-  answer-is = sym (ap (λ (x : Done). x .answer) e);
+  answer-is = answered (sym (ap (λ (x : Done). x .answer) e));
   made = m;
   shown = sym (ap (λ (x : Done). x .box) e);
   refused = λ f. absurd (f refl);

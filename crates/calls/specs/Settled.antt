@@ -5,6 +5,7 @@ use mathlib.Core.Bool.{Bool, true, false}
 use Rattle.forms.specs.Bytes.{Bytes}
 use Rattle.rules.specs.declared.answers.Answer.{Answer}
 use Rattle.rules.specs.declared.answers.Answer.the-variants.{Accepted, No, Held}
+use Rattle.rules.specs.Answers.{Answered}
 use Rattle.rules.specs.Calls.{Done}
 use Rattle.lines.specs.declared.store.Store.{Store}
 use Rattle.lines.specs.View.{boxOf}
@@ -24,7 +25,7 @@ pub record Untouched (st : Store) (area : Bytes) (r : Store) (area′ : Bytes) :
 -- the answer is the definition's, and the store shows the definition's box; "A refusal changes nothing in store or buffers"; and a call that
 -- is "accepted and unchanged", as a replay is, changes nothing either
 pub record Settled (st : Store) (area : Bytes) (d : Done) (r : Changed) (area′ : Bytes) : Type 0 where
-  pub answer-is : r .answer ≡ d .answer
+  pub answer-is : Answered (d .answer) (r .answer)
   pub made : Made (r .store) area′
   pub shown : boxOf (r .store) area′ ≡ d .box
   pub refused : (r .answer ≡ Accepted → ⊥) → Untouched st area (r .store) area′

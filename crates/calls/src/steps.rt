@@ -5,13 +5,12 @@ ghost use Prim.Native.Nat.{_+_, _≤_};
 ghost use lib.ListN.{length};
 ghost use Rattle.forms.specs.Bytes.{Bytes, bytesAt};
 ghost use Rattle.forms.specs.Readers.{when};
-ghost use Rattle.rules.specs.Box.{eqKind, holderOf};
+ghost use Rattle.rules.specs.Box.{eqKind};
 ghost use Rattle.rules.specs.Calls.{owns, zeroStep, rowArgument, rowStands};
 ghost use Rattle.lines.specs.Looks.{lockIn};
 ghost use Rattle.calls.specs.Settled.{isAccepted};
 use lines::Intent;
 use rules::Answer;
-use rules::Holder;
 use rules::Kind;
 
 // "zero transaction, start": 3
@@ -45,16 +44,6 @@ pub fn owns(l: Intent, txn: u64, start: u64) -> bool
         return false;
     }
     l.start == start
-}
-
-// "Answer 7 carries the holder's transaction and start"
-pub fn held_by(l: Intent) -> Answer
-    ensures { λ r. ⌜ ((area : Bytes) → r ≡ Answer.Held (holderOf (lockIn area l))) ⌝ }
-{
-    Answer::Held(Holder {
-        txn: l.txn,
-        start: l.start,
-    })
 }
 
 pub fn same_kind(a: Kind, b: Kind) -> bool

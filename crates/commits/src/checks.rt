@@ -40,7 +40,7 @@ fn check_lock(lock: Locked, newer: bool, terms: Terms) -> Answer
         Locked::Nobody => Answer::No(8),
         Locked::By(l) => {
             if !calls::owns(l, terms.txn, terms.start) {
-                return calls::held_by(l);
+                return lines::held_by(l);
             }
             if !newer {
                 return Answer::No(8);

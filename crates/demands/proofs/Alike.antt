@@ -10,7 +10,6 @@ use Rattle.seqs.specs.Tables.{Table}
 use Rattle.forms.specs.Bytes.{Bytes}
 use Rattle.forms.specs.Key.{Key}
 use Rattle.rules.specs.declared.room.Load.{Load}
-use Rattle.rules.specs.Answers as answers
 use Rattle.rules.specs.Answers.{answerOf}
 use Rattle.rules.specs.Box.{fresh}
 use Rattle.rules.specs.Room.{loadOf, sumOf}
@@ -19,6 +18,7 @@ use Rattle.rules.specs.Page.{Bounds, Limits}
 use Rattle.rules.specs.Prewrite.{Head}
 use Rattle.rules.specs.Commit.{Ending}
 use Rattle.rules.specs.Written.{Written}
+use Rattle.laws.proofs.StepLaws.{answered}
 use Rattle.lines.specs.declared.store.Store.{Store}
 use Rattle.lines.specs.declared.store.Slot.{Slot}
 use Rattle.lines.specs.View.{boxOf, noSlot}
@@ -37,7 +37,7 @@ use Rattle.demands.proofs.Refusals.{refusals}
 
 -- the parts of `Same`; one answer has one number and one holder
 same : {o : Sort} (w : Lent) (g q : Given o) → answerIn w g ≡ answerIn w q → countIn g ≡ countIn q → shownIn w g ≡ shownIn w q → partIn g ≡ partIn q → boxIn (after w g) ≡ boxIn (after w q) → after w g .buffer ≡ after w q .buffer → Same w g q
-same w g q a n s p b o = record { answer = a; number = ap answers.number a; holder = ap answers.holder a; count = n; shown = s; part = p; box = b; buffer = o }
+same w g q a n s p b o = record { answer = answered a; count = n; shown = s; part = p; box = b; buffer = o }
 
 -- ---- a fresh store: the very same value, with whatever area
 
@@ -64,7 +64,7 @@ pub record Alike (r : Changed) (area : Bytes) (q : Changed) (area′ : Bytes) : 
   pub box : boxOf (r .store) area ≡ boxOf (q .store) area′
 
 pub settled-once : {st : Store} {area : Bytes} {d : Done} {r q : Changed} {area₁ area₂ : Bytes} → Settled st area d r area₁ → Settled st area d q area₂ → Alike r area₁ q area₂
-settled-once s t = record { answer = s .answer-is ∙ sym (t .answer-is); box = s .shown ∙ sym (t .shown) }
+settled-once s t = record { answer = s .answer-is .case-is ∙ sym (t .answer-is .case-is); box = s .shown ∙ sym (t .shown) }
 
 module _ (w : Lent) where
   page-same : {x : Written} {r q : Paged} {out out′ : Bytes} → PagedAs x r out → PagedAs x q out′ → Same w (paged r out) (paged q out′)
@@ -115,7 +115,7 @@ module _ (w : Lent) where
       same w (stepped r x) (stepped t y) (o .answer) (a .count-is ∙ sym (b .count-is)) refl refl (o .box) refl
 
   pub restore-once : (s : Bytes) → Once w (restoring s)
-  restore-once s (changed r x) (changed t y) a b = changed-same w (record { answer = a .answer-is ∙ sym (b .answer-is); box = a .shown ∙ sym (b .shown) })
+  restore-once s (changed r x) (changed t y) a b = changed-same w (record { answer = a .answer-is .case-is ∙ sym (b .answer-is .case-is); box = a .shown ∙ sym (b .shown) })
 
   pub stats-once : Once w counting
   stats-once (counted s) (counted t) a b = same w (counted s) (counted t) refl refl (ap chains (a ∙ sym b)) refl refl refl
@@ -146,7 +146,7 @@ one-outcome _ w marking = marks-once w
 
 -- refused, nothing is open: store, area and buffer are those that were lent
 pub one-refusal : OneRefusal
-one-refusal o w c g q k l n = refusals o w c g k n .left ∙ sym (refusals o w c q l (λ e. n (one-outcome o w c g q k l .answer ∙ e)) .left)
+one-refusal o w c g q k l n = refusals o w c g k n .left ∙ sym (refusals o w c q l (λ e. n (one-outcome o w c g q k l .answer .case-is ∙ e)) .left)
 
 -- "accepted and unchanged": of the seven changing calls nothing is open either, where the box is as it was
 pub still-once : {st : Store} {area : Bytes} {d : Done} {r q : Changed} {area₁ area₂ : Bytes} → Settled st area d r area₁ → Settled st area d q area₂ → d .box ≡ boxOf st area → (r .store ≡ q .store) × (area₁ ≡ area₂)

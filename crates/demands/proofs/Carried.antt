@@ -90,7 +90,7 @@ demand3-carried {cs} w g {w′} f run =
 pub restored-carried : {cs : List Call} (w : Lent) (s : Bytes) (g : Given aChange) {w′ : Lent} → Kept w (restoring s) g → answerIn w g ≡ Accepted → Ran cs (calls.after w g) w′
     → (i : Image) × (image s ≡ some i) × demands.Demand3Restored i cs w′
 restored-carried {cs} w s (changed r area) {w′} k p run =
-    let t = taken s (boxIn w) (sym (k .answer-is) ∙ p) in
+    let t = taken s (boxIn w) (sym (k .answer-is .case-is) ∙ p) in
     let v = ran-shows cs (restored (t .img)) run (k .made) (k .shown ∙ t .shown) in
     let d = demand3-restored (t .img) (t .good) (t .healthy) cs in (
       t .img,

@@ -45,7 +45,7 @@ written-refused f (answers.shown p) buffer n = go (leb (length (pageBytes f p)) 
 module _ (w : Lent) where
   page-left : {A : Type 0} (f : A → Bytes) (reply : Reply (Page A)) (r : Paged) (out : Bytes) → PagedAs (written f reply (w .buffer)) r out → (r .answer ≡ Accepted → ⊥) → Unchanged w (paged r out)
   page-left f reply r out p n =
-      let b = written-refused f reply (w .buffer) (λ e. n (p .answer-is ∙ e)) in
+      let b = written-refused f reply (w .buffer) (λ e. n (p .answer-is .case-is ∙ e)) in
       record {
         left = ap (λ (x : Bytes). record { store = w .store; area = w .area; buffer = x }) (p .out-is ∙ b .buffer-is);
         box = refl;
@@ -97,7 +97,7 @@ refusals _ w (oneStepping h s) (stepped r area) p n =
     record {
       left = l;
       box = ap boxIn l;
-      count = p .count-is ∙ oneStep-refused h s (boxIn w) (λ e. n (p .settled .answer-is ∙ e));
+      count = p .count-is ∙ oneStep-refused h s (boxIn w) (λ e. n (p .settled .answer-is .case-is ∙ e));
       shown = refl;
       part = refl;
     }

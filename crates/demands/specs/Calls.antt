@@ -13,7 +13,7 @@ use Rattle.rules.specs.declared.answers.Answer.the-variants.{Accepted}
 use Rattle.rules.specs.declared.figures.Stats.{Stats}
 use Rattle.rules.specs.declared.figures.Marks.{Marks}
 use Rattle.rules.specs.Answers as answers
-use Rattle.rules.specs.Answers.{Reply, answerOf}
+use Rattle.rules.specs.Answers.{Answered, Reply, answerOf}
 use Rattle.rules.specs.Box.{Box, Lock}
 use Rattle.rules.specs.Read.{read}
 use Rattle.rules.specs.Intent.{intentAt}
@@ -232,9 +232,7 @@ Refusals = (o : Sort) (w : Lent) (c : Public o) (g : Given o) → Kept w c g →
 -- two outcomes have "number, holder, count, shown row, the store after it and the whole of each lent buffer" in common. The store is told by
 -- the box that it shows; where the stretches lie in the area, and the area's bytes outside them, are left open.
 pub record Same {o : Sort} (w : Lent) (g q : Given o) : Type 0 where
-  pub answer : answerIn w g ≡ answerIn w q
-  pub number : answers.number (answerIn w g) ≡ answers.number (answerIn w q)
-  pub holder : answers.holder (answerIn w g) ≡ answers.holder (answerIn w q)
+  pub answer : Answered (answerIn w q) (answerIn w g)
   pub count : countIn g ≡ countIn q
   pub shown : shownIn w g ≡ shownIn w q
   pub part : partIn g ≡ partIn q

@@ -45,7 +45,7 @@ changed : (d : Done) {m : Changed} {area′ out out′ : Bytes} {n : ℕ} → Do
     → RanAs (changing d) out (record { store = m .store; len = n }) area′ out′
 changed d {m} {out = out} {out′ = out′} {n = n} v long w =
     let u : Writes (toldBytes (changing d)) out n out′ = subst (λ (x : Answer). Writes (answerBytes x 0 []) out n out′) (v .answer-is) w in
-    let h : length (toldBytes (changing d)) ≤ length out = omega (arith, length-answer (number (d .answer)) (holder (d .answer) .txn) (holder (d .answer) .start) 0 []) in
+    let h : length (toldBytes (changing d)) ≤ length out = omega (arith, length-answer (number (d .answer)) (holder (d .answer)) 0 []) in
     record { made = v .made; shown = v .shown; put = written h u; within = omega (arith, written-count h u) }
 
 pub tells-change : {m : Changed} {out out′ : Bytes} {n : ℕ} → longest ≤ length out → Writes (answerBytes (m .answer) 0 []) out n out′ → TellsChange m out (record { store = m .store; len = n }) out′
@@ -53,10 +53,10 @@ tells-change long w = record { tells = λ d area′ v. changed d v long w }
 
 -- the promise of restore, and that of every other changing call
 pub replaced : {st : Store} {area : Bytes} {d : Done} {m : Changed} {area′ : Bytes} → Replaced st area d m area′ → DoneAs d m area′
-replaced v = record { answer-is = v .answer-is; made = v .made; shown = v .shown }
+replaced v = record { answer-is = v .answer-is .case-is; made = v .made; shown = v .shown }
 
 pub settled : {st : Store} {area : Bytes} {d : Done} {m : Changed} {area′ : Bytes} → Settled st area d m area′ → DoneAs d m area′
-settled v = record { answer-is = v .answer-is; made = v .made; shown = v .shown }
+settled v = record { answer-is = v .answer-is .case-is; made = v .made; shown = v .shown }
 
 -- a single prewrite is its batch of one, and its kind a flag
 pub prewritten : (h : Head) (k r : Bytes) (b : Box) (put : Bool) {st : Store} {area : Bytes} {m : Changed} {area′ : Bytes} → Settled st area (prewrite h (record { key = k; row = when put r }) b) m area′
@@ -69,9 +69,9 @@ prewritten h k r b false v = settled v
 pub counted : {st : Store} {area : Bytes} {d : Counted} {m : Stepped} {area′ out out′ : Bytes} {n : ℕ} → Counts st area d m area′ → longest ≤ length out → Writes (answerBytes (m .answer) (m .count) []) out n out′
     → RanAs (counting d) out (record { store = m .store; len = n }) area′ out′
 counted {d = d} {m = m} {out = out} {out′ = out′} {n = n} v long w =
-    let a : Writes (answerBytes (d .done .answer) (m .count) []) out n out′ = subst (λ (x : Answer). Writes (answerBytes x (m .count) []) out n out′) (v .settled .answer-is) w in
+    let a : Writes (answerBytes (d .done .answer) (m .count) []) out n out′ = subst (λ (x : Answer). Writes (answerBytes x (m .count) []) out n out′) (v .settled .answer-is .case-is) w in
     let u : Writes (toldBytes (counting d)) out n out′ = subst (λ (x : ℕ). Writes (answerBytes (d .done .answer) x []) out n out′) (v .count-is) a in
-    let h : length (toldBytes (counting d)) ≤ length out = omega (arith, length-answer (number (d .done .answer)) (holder (d .done .answer) .txn) (holder (d .done .answer) .start) (d .count) []) in
+    let h : length (toldBytes (counting d)) ≤ length out = omega (arith, length-answer (number (d .done .answer)) (holder (d .done .answer)) (d .count) []) in
     record { made = v .settled .made; shown = v .settled .shown; put = written h u; within = omega (arith, written-count h u) }
 
 -- ---- by the op

@@ -1,14 +1,18 @@
--- What follows when all the steps of a checking pass have passed: `search passed` takes a chain that is Accepted apart.
+-- What follows when all the steps of a checking pass have passed: `search passed` takes a chain that is Accepted apart; and that an answer of
+-- the case that is due has the paper's number and holder.
 -- Assumes nothing.
 use Prim.Native.Nat.{ℕ}
-use mathlib.Core.Path.{_≡_, refl, sym}
+use mathlib.Core.Path.{_≡_, refl, sym, ap}
 use mathlib.Core.Bool.{Bool, true, false, _&&_, _||_, not}
 use mathlib.Core.Option.{Option, none, some}
 use Rattle.forms.specs.Readers.{isSome}
 use Rattle.rules.specs.declared.answers.Holder.{Holder}
 use Rattle.rules.specs.declared.answers.Answer.{Answer}
 use Rattle.rules.specs.declared.answers.Answer.the-variants.{Accepted, No, Held}
-use Rattle.rules.specs.Answers.{_▸_, need, needOwn}
+use Rattle.rules.specs.Answers.{number, holder, Answered, _▸_, need, needOwn}
+
+pub answered : {due got : Answer} → got ≡ due → Answered due got
+answered e = record { number-is = ap number e; holder-is = ap holder e; case-is = e }
 
 pub then-left : (v w : Answer) → v ▸ w ≡ Accepted → v ≡ Accepted
 unfolding _▸_

@@ -1,9 +1,11 @@
 // The store: one table of small slots by value. A line is one stretch of bytes in an area that the caller lends: its key, its numbers, its
 // row. specs/View.antt says which box a store shows; the defaults of that box are the rows that its Put lines carry.
+pub mod holders;
 pub mod keys;
 pub mod store;
 pub mod views;
 
+pub use holders::held_by;
 pub use keys::Found;
 pub use keys::History;
 pub use keys::Locked;

@@ -93,7 +93,7 @@ fn lock_step(lock: Locked, terms: Terms, put: bool) -> Answer
         Locked::Nobody => Answer::Accepted,
         Locked::By(l) => {
             if !calls::owns(l, terms.txn, terms.start) {
-                return calls::held_by(l);
+                return lines::held_by(l);
             }
             let kind = l.kind;
             let asked = kind_for(put);

@@ -9,7 +9,8 @@ use lib.ListN.{length, take, drop, length-append}
 use borrow.Rule.Slice.PartMut.{putMid}
 use Rattle.forms.specs.Bytes.{Bytes, bytesAt, pieceBytes}
 use Rattle.forms.specs.Numbers.{digits}
-use Rattle.rules.specs.Written.{kindByte, lockBytes}
+use Rattle.rules.specs.Box.{kindByte}
+use Rattle.rules.specs.Written.{lockBytes}
 use Rattle.lines.specs.declared.store.Line.{Line}
 use Rattle.lines.specs.declared.store.Line.the-variants.{Standing, Finished}
 use Rattle.lines.specs.declared.store.Slot.{Slot}

@@ -21,6 +21,7 @@ use Rattle.rules.specs.declared.answers.Answer.the-variants.{Accepted, No, Held
 use Rattle.rules.specs.Answers.{Reply, nothing, shown, refused, ifPassed}
 use Rattle.rules.specs.Page.{Page}
 use Rattle.rules.specs.Written.{Written, allBytes, moreByte, pageBytes, writeIf, written}
+use Rattle.laws.proofs.StepLaws.{answered}
 use Rattle.lines.specs.View.{noSlot}
 use Rattle.walks.specs.declared.walked.Walked.{Walked}
 use Rattle.walks.specs.Walked.{same, pageOn, entryBytes, SlotIn, pageOf, WalkedAs}
@@ -118,11 +119,11 @@ module _ {area : Bytes} {want : Reply (Page Bytes)} {w : Walked} (v : WalkedAs a
   module _ {r : Paged} where
     pub paged-no : {n : ℕ} → w .answer ≡ No n → r ≡ record { answer = No n; count = 0 } → PagedAs (written same want out) r out
     unfolding ifPassed written
-    paged-no e p = by e (record { answer-is = ap (λ (x : Paged). x .answer) p; count-is = ap (λ (x : Paged). x .count) p; out-is = refl })
+    paged-no e p = by e (record { answer-is = answered (ap (λ (x : Paged). x .answer) p); count-is = ap (λ (x : Paged). x .count) p; out-is = refl })
 
     pub paged-held : {h : Holder} → w .answer ≡ Held h → r ≡ record { answer = Held h; count = 0 } → PagedAs (written same want out) r out
     unfolding ifPassed written
-    paged-held e p = by e (record { answer-is = ap (λ (x : Paged). x .answer) p; count-is = ap (λ (x : Paged). x .count) p; out-is = refl })
+    paged-held e p = by e (record { answer-is = answered (ap (λ (x : Paged). x .answer) p); count-is = ap (λ (x : Paged). x .count) p; out-is = refl })
 
   module _ (e : w .answer ≡ Accepted) where
     size : w .size ≡ length (pageBytes same (pageOf area w))
@@ -137,7 +138,7 @@ module _ {area : Bytes} {want : Reply (Page Bytes)} {w : Walked} (v : WalkedAs a
     unfolding writeIf
     paged-short h p =
         accepted false (lt-leb (length (pageBytes same (pageOf area w))) (length out) (omega (arith, size)))
-        (record { answer-is = ap (λ (x : Paged). x .answer) p; count-is = ap (λ (x : Paged). x .count) p; out-is = refl })
+        (record { answer-is = answered (ap (λ (x : Paged). x .answer) p); count-is = ap (λ (x : Paged). x .count) p; out-is = refl })
 
     module _ (h : w .size ≤ length out) where
       pub page-asked : WriteAsks area w (pageBytes same (pageOf area w)) out
@@ -147,7 +148,7 @@ module _ {area : Bytes} {want : Reply (Page Bytes)} {w : Walked} (v : WalkedAs a
       unfolding writeIf
       paged-put {n} x =
           accepted true (le-leb (length (pageBytes same (pageOf area w))) (length out) (omega (arith, size)))
-          (record { answer-is = refl; count-is = all; out-is = x .is ∙ ap (λ (k : ℕ). pageBytes same (pageOf area w) ++ drop k out) all })
+          (record { answer-is = answered refl; count-is = all; out-is = x .is ∙ ap (λ (k : ℕ). pageBytes same (pageOf area w) ++ drop k out) all })
         where
           all : n ≡ length (pageBytes same (pageOf area w))
           all = omega (arith, x .next)
@@ -176,7 +177,7 @@ paged-on f r out {p} {out′} x = subst (λ (w : Written). PagedAs w p out′) (
 
 module _ {w : Written} {r q : Paged} {x y : Bytes} (a : PagedAs w r x) (b : PagedAs w q y) where
   pub one-answer : r .answer ≡ q .answer
-  one-answer = a .answer-is ∙ sym (b .answer-is)
+  one-answer = a .answer-is .case-is ∙ sym (b .answer-is .case-is)
 
   pub one-count : r .count ≡ q .count
   one-count = a .count-is ∙ sym (b .count-is)

@@ -1,8 +1,7 @@
 // An entry of a page: "each key length byte, key, row length byte, row"; "An intent page has, after each key, the lock as in the image".
-ghost use mathlib.Core.Path.{_≡_};
 ghost use Prim.Native.Nat.{_+_};
 ghost use lib.ListN.{length};
-ghost use Rattle.rules.specs.Written.{kindByte, lockBytes};
+ghost use Rattle.rules.specs.Written.{lockBytes};
 ghost use Rattle.lines.specs.Looks.{lockIn};
 ghost use Rattle.walks.specs.Walked.{entryBytes};
 ghost use Rattle.pages.specs.Laid.{Laid, PieceAsks, EntryAsks};
@@ -14,18 +13,6 @@ use lines::Intent;
 use lines::Slot;
 use lines::Told;
 use lines::line_of;
-use rules::Kind;
-
-// "Kinds: 1 Put, 2 Delete, 3 Rollback"
-fn kind_byte(kind: Kind) -> u8
-    ensures { λ r. ⌜ r ≡ kindByte kind ⌝ }
-{
-    match kind {
-        Kind::Put => 1,
-        Kind::Delete => 2,
-        Kind::Rollback => 3,
-    }
-}
 
 // "Lock: 8-byte transaction, primary length, primary, 8-byte start, 8-byte time to live, kind byte"
 fn put_lock(out: &mut [u8], at: usize, area: &[u8], l: Intent) -> usize
@@ -37,7 +24,7 @@ fn put_lock(out: &mut [u8], at: usize, area: &[u8], l: Intent) -> usize
     let c = put_digits(out, b, Width::Eight, l.start);
     let d = put_digits(out, c, Width::Eight, l.ttl);
     let kind = l.kind;
-    let k = kind_byte(kind);
+    let k = rules::kind_byte(kind);
     put_byte(out, d, k)
 }
 

@@ -113,7 +113,7 @@ module _ (h : Head) (put : Bool) (row : Row) (top : ℕ) (area : Bytes) (key : K
   own-row = own (owns (h .txn) (h .start) (lockIn area i)) refl
     where
       holder : Holder
-      holder = record { txn = i .txn; start = i .start }
+      holder = box.holderOf (lockIn area i)
 
       kinds : (k : Kind) → i .kind ≡ k → i .start ≡ h .start → (t : Bool)
           → fields && box.eqKind k (kindOf (when t row)) && rowStands (when t row) (some held) ≡ fields && box.eqKind k (kindOf (when t row)) && rowStands (when t row) (box.rowOf key (h .start) ds)

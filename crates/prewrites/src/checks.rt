@@ -57,7 +57,7 @@ fn check_lock(
         Locked::Nobody => Answer::Accepted,
         Locked::By(l) => {
             if !calls::owns(l, terms.txn, terms.start) {
-                return calls::held_by(l);
+                return lines::held_by(l);
             }
             if !same_lock(l, area, terms, primary, put) {
                 return Answer::No(9);

@@ -4,11 +4,12 @@ use Prim.Native.Nat.{ℕ, _≤_, _<_}
 use native.Mathlib.Omega.{arith}
 use mathlib.Core.Path.{_≡_, sym, ap, _∙_, subst}
 use mathlib.Core.Bool.{true, false}
+use lib.ListN.{length}
 use borrow.Author.Tests.{lt-ltb, le-ltb}
 use Rattle.forms.specs.Bytes.{Bytes}
 use Rattle.forms.specs.Key.{Key, keyForm}
 use Rattle.rules.specs.declared.answers.Answer.the-variants.{No}
-use Rattle.rules.specs.Answers.{need, ifPassed}
+use Rattle.rules.specs.Answers.{need, Reply, answerOf, ifPassed}
 use Rattle.rules.specs.Box.{Box, Lock}
 use Rattle.rules.specs.Intent.{lockIf, unlessAbove, judgeLock, intentAt}
 use Rattle.lines.specs.declared.store.Store.{Store}
@@ -19,13 +20,18 @@ use Rattle.lines.specs.declared.keys.Looked.{Looked}
 use Rattle.lines.specs.View.{boxOf}
 use Rattle.lines.specs.Made.{Built}
 use Rattle.lines.specs.Looks.{LookedAt, LockThere, lockIn, lockedBy}
+use Rattle.laws.proofs.StepLaws.{answered}
+use Rattle.reads.specs.declared.seen.Pointed.{Pointed}
 use Rattle.reads.specs.declared.seen.Pointed.the-variants as pointed
-use Rattle.reads.specs.Seen.{PointedAs}
+use Rattle.reads.specs.Seen.{pointedIn, PointedBelow, PointedAs}
 use Rattle.lines.proofs.SoundLaws.{sound-lock}
+
+point-as : {want : Reply Lock} {area : Bytes} {r : Pointed} → pointedIn area r ≡ want → PointedBelow (length area) r → PointedAs want area r
+point-as e h = record { answer-is = answered (ap (λ (x : Reply Lock). answerOf x) e); is = e; within = h }
 
 pub point-invalid : (k : Key) (m : ℕ) (b : Box) (area : Bytes) → keyForm k ≡ false → PointedAs (intentAt k m b) area (pointed.Refused (No 1))
 unfolding intentAt ifPassed need
-point-invalid k m b area h = record { is = sym (rw h); within = tt }
+point-invalid k m b area h = point-as (sym (rw h)) tt
 
 module _ {st : Store} {area k : Bytes} {start m : ℕ} {found : Looked} (b : Built st area) (form : keyForm k ≡ true) (f : LookedAt st area k start m found) where
   -- the lock that the lookup found is judged
@@ -35,18 +41,17 @@ module _ {st : Store} {area k : Bytes} {start m : ℕ} {found : Looked} (b : Bui
 
   pub point-nobody : found .lock ≡ Nobody → PointedAs (intentAt k m (boxOf st area)) area pointed.Nothing
   unfolding judgeLock
-  point-nobody e = record { is = judged e; within = tt }
+  point-nobody e = point-as (judged e) tt
 
   module _ {i : Intent} (e : found .lock ≡ By i) where
     pub point-above : m < i .start → PointedAs (intentAt k m (boxOf st area)) area pointed.Nothing
     unfolding judgeLock unlessAbove
-    point-above h = record { is = sym (rw (lt-ltb m (i .start) h)) ∙ judged e; within = tt }
+    point-above h = point-as (sym (rw (lt-ltb m (i .start) h)) ∙ judged e) tt
 
     pub point-lock : i .start ≤ m → PointedAs (intentAt k m (boxOf st area)) area (pointed.Lock i)
     unfolding judgeLock unlessAbove lockIf
-    point-lock h = record {
-      is = sym (rw (le-ltb m (i .start) h, sound-lock k (boxOf st area .lines) (lockIn area i) (b .kept .good) (sym (f .lock-is) ∙ ap (lockedBy area) e))) ∙ judged e;
-      within =
-          let there : LockThere (st .top) area (boxOf st area .defaults) k (By i) = subst (LockThere (st .top) area (boxOf st area .defaults) k) e (f .lock-there) in
-          omega (arith, there .primary-in, b .top-in, b .area-long);
-    }
+    point-lock h =
+        let there : LockThere (st .top) area (boxOf st area .defaults) k (By i) = subst (LockThere (st .top) area (boxOf st area .defaults) k) e (f .lock-there) in
+        point-as
+        (sym (rw (le-ltb m (i .start) h, sound-lock k (boxOf st area .lines) (lockIn area i) (b .kept .good) (sym (f .lock-is) ∙ ap (lockedBy area) e))) ∙ judged e)
+        (omega (arith, there .primary-in, b .top-in, b .area-long))

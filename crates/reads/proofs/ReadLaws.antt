@@ -18,12 +18,12 @@ use Rattle.rules.specs.declared.answers.Holder.{Holder}
 use Rattle.rules.specs.declared.records.Kind.{Kind}
 use Rattle.rules.specs.declared.records.Kind.the-variants.{Put, Delete, Rollback}
 use Rattle.rules.specs.declared.records.Record.{Record}
-use Rattle.rules.specs.Answers.{_▸_, need, needOwn, Reply, nothing, ifPassed}
+use Rattle.rules.specs.Answers.{_▸_, need, needOwn, Reply, nothing, answerOf, ifPassed}
 use Rattle.rules.specs.Box as box
 use Rattle.rules.specs.Calls.{foundIf}
 use Rattle.rules.specs.Sound.{soundRecord, allSound}
 use Rattle.rules.specs.Read.{lockLets, keepIf, atOrBelow, newestFirst, showRow, oneRecord, walk, read}
-use Rattle.laws.proofs.StepLaws.{and-left, and-right, and-both}
+use Rattle.laws.proofs.StepLaws.{answered, and-left, and-right, and-both}
 use Rattle.lines.specs.declared.store.Store.{Store}
 use Rattle.lines.specs.declared.views.Intent.{Intent}
 use Rattle.lines.specs.declared.keys.Found.{Found}
@@ -33,7 +33,7 @@ use Rattle.lines.specs.declared.keys.Locked.the-variants.{Nobody, By}
 use Rattle.lines.specs.declared.keys.Looked.{Looked}
 use Rattle.lines.specs.View.{rowIf, boxOf}
 use Rattle.lines.specs.Made.{Built}
-use Rattle.lines.specs.Looks.{said, lockedBy, notRolled, FoundThere, LookedAt}
+use Rattle.lines.specs.Looks.{lockIn, said, lockedBy, notRolled, FoundThere, LookedAt}
 use Rattle.reads.specs.declared.seen.Seen.{Seen}
 use Rattle.reads.specs.declared.seen.Seen.the-variants as seen
 use Rattle.reads.specs.Seen.{seenIn, SeenBelow, SeenAs, newestSeen}
@@ -50,9 +50,9 @@ module _ (m : ℕ) (lock : Locked) where
   unfolding lockLets needOwn
   lets-above {i} e h area = rw (e, lt-ltb m (i .start) h)
 
-  pub lets-held : {i : Intent} → lock ≡ By i → i .start ≤ m → (area : Bytes) → Held (record { txn = i .txn; start = i .start }) ≡ lockLets m (lockedBy area lock)
+  pub lets-held : {i : Intent} {a : Answer} → lock ≡ By i → i .start ≤ m → ((area : Bytes) → a ≡ Held (box.holderOf (lockIn area i))) → (area : Bytes) → a ≡ lockLets m (lockedBy area lock)
   unfolding lockLets needOwn
-  lets-held {i} e h area = rw (e, le-ltb m (i .start) h)
+  lets-held {i} e h held area = held area ∙ rw (e, le-ltb m (i .start) h)
 
 -- ---- the walk
 
@@ -94,6 +94,9 @@ walk-newest k ds (w ∷ ws) s = go (soundRecord w) (w .kind) refl (and-left _ _ 
 
 -- ---- the answers
 
+seen-as : {want : Reply Row} {area : Bytes} {r : Seen} → seenIn area r ≡ want → SeenBelow (length area) r → SeenAs want area r
+seen-as e h = record { answer-is = answered (ap (λ (x : Reply Row). answerOf x) e); is = e; within = h }
+
 if-then : {A : Type 0} (a b : Answer) (r : Reply A) → ifPassed (a ▸ b) r ≡ ifPassed a (ifPassed b r)
 unfolding ifPassed _▸_
 if-then Accepted b r = refl
@@ -107,7 +110,7 @@ module _ (k : Key) (m : ℕ) (b : box.Box) where
 
   pub read-invalid : (area : Bytes) → keyForm k ≡ false → SeenAs (read k m b) area (seen.Refused (No 1))
   unfolding ifPassed need
-  read-invalid area h = record { is = sym (read-steps false h); within = tt }
+  read-invalid area h = seen-as (sym (read-steps false h)) tt
 
 module _ {st : Store} {area k : Bytes} {start m : ℕ} {found : Looked} (b : Built st area) (form : keyForm k ≡ true) (f : LookedAt st area k start m found) {lets : Answer} (l : (area : Bytes) → lets ≡ lockLets m (lockedBy area (found .lock))) where
   abbrev ds : List box.Default
@@ -122,11 +125,11 @@ module _ {st : Store} {area k : Bytes} {start m : ℕ} {found : Looked} (b : Bui
 
   pub read-no : {n : ℕ} → lets ≡ No n → SeenAs (read k m (boxOf st area)) area (seen.Refused (No n))
   unfolding ifPassed
-  read-no e = record { is = steps e refl; within = tt }
+  read-no e = seen-as (steps e refl) tt
 
   pub read-held : {h : Holder} → lets ≡ Held h → SeenAs (read k m (boxOf st area)) area (seen.Refused (Held h))
   unfolding ifPassed
-  read-held e = record { is = steps e refl; within = tt }
+  read-held e = seen-as (steps e refl) tt
 
   -- what the newest record that counts shows, with its row
   newest-is : (n : Found) → FoundThere (st .top) area ds k n → seenIn area (newestSeen n) ≡ showNewest k ds (said n)
@@ -151,10 +154,8 @@ module _ {st : Store} {area k : Bytes} {start m : ℕ} {found : Looked} (b : Bui
   unfolding ifPassed
   read-newest e q =
       subst (SeenAs (read k m (boxOf st area)) area) (sym q)
-      (record {
-        is =
-            steps e
-            (newest-is (found .history .newest) (f .history .newest-row) ∙ ap (showNewest k ds) (f .history .newest)
-            ∙ walk-newest k ds (newestFirst m ws) (sound-newest m ws (sound-records k (boxOf st area .lines) (b .kept .good))));
-        within = newest-in (found .history .newest) (f .history .newest-row);
-      })
+      (seen-as
+      (steps e
+      (newest-is (found .history .newest) (f .history .newest-row) ∙ ap (showNewest k ds) (f .history .newest)
+      ∙ walk-newest k ds (newestFirst m ws) (sound-newest m ws (sound-records k (boxOf st area .lines) (b .kept .good)))))
+      (newest-in (found .history .newest) (f .history .newest-row)))

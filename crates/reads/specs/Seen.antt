@@ -1,5 +1,4 @@
--- The paper's replies of what a read and an intent at a point answer in numbers, and the promises of the two. `answerOf`, `number` and
--- `holder` of rules' Answers give each reply's number and holder.
+-- The paper's replies of what a read and an intent at a point answer in numbers, and the promises of the two.
 -- Assumes nothing.
 use Prim.Native.Nat.{ℕ, _+_, _≤_}
 use mathlib.Core.Path.{_≡_}
@@ -8,7 +7,7 @@ use Rattle.forms.specs.Bytes.{Bytes, bytesAt}
 use Rattle.forms.specs.Row.{Row}
 use Rattle.rules.specs.declared.records.Kind.{Kind}
 use Rattle.rules.specs.declared.records.Kind.the-variants.{Put, Delete, Rollback}
-use Rattle.rules.specs.Answers.{Reply, nothing, shown, refused}
+use Rattle.rules.specs.Answers.{Answered, Reply, nothing, shown, refused, answerOf}
 use Rattle.rules.specs.Box.{Lock}
 use Rattle.lines.specs.Looks.{lockIn}
 use Rattle.lines.specs.declared.keys.Found.{Found}
@@ -31,8 +30,9 @@ SeenBelow n seen.Nothing = Unit {0}
 SeenBelow n (seen.Row at len) = at + len ≤ n
 SeenBelow n (seen.Refused a) = Unit {0}
 
--- an answer is this reply, and what it shows lies in the area
+-- an answer is this reply, with its number and holder, and what it shows lies in the area
 pub record SeenAs (want : Reply Row) (area : Bytes) (r : Seen) : Type 0 where
+  pub answer-is : Answered (answerOf want) (answerOf (seenIn area r))
   pub is : seenIn area r ≡ want
   pub within : SeenBelow (length area) r
 
@@ -59,7 +59,8 @@ PointedBelow n pointed.Nothing = Unit {0}
 PointedBelow n (pointed.Lock i) = i .at + i .len ≤ n
 PointedBelow n (pointed.Refused a) = Unit {0}
 
--- an answer is this reply, and the primary that it shows lies in the area
+-- an answer is this reply, with its number and holder, and the primary that it shows lies in the area
 pub record PointedAs (want : Reply Lock) (area : Bytes) (r : Pointed) : Type 0 where
+  pub answer-is : Answered (answerOf want) (answerOf (pointedIn area r))
   pub is : pointedIn area r ≡ want
   pub within : PointedBelow (length area) r

@@ -14,7 +14,6 @@ use lines::Found;
 use lines::Locked;
 use lines::Store;
 use rules::Answer;
-use rules::Holder;
 use rules::Kind;
 
 // "lock with start at or below the moment, 7"
@@ -27,10 +26,7 @@ pub fn lock_lets(lock: Locked, moment: u64) -> Answer
             if moment < l.start {
                 return Answer::Accepted;
             }
-            Answer::Held(Holder {
-                txn: l.txn,
-                start: l.start,
-            })
+            lines::held_by(l)
         }
     }
 }

@@ -14,7 +14,9 @@ use Rattle.forms.specs.Places.{putIf}
 use Rattle.forms.specs.Key.{Key}
 use Rattle.forms.proofs.NumberLaws.{length-digits}
 use Rattle.rules.specs.declared.records.Kind.{Kind}
-use Rattle.rules.specs.Written.{kindByte, lockBytes}
+use Rattle.rules.specs.declared.answers.Holder.{Holder}
+use Rattle.rules.specs.Box.{kindByte}
+use Rattle.rules.specs.Written.{lockBytes}
 use Rattle.replies.specs.Put.{Placed, room, lengthIf, Put}
 use Rattle.replies.specs.Payloads.{nothingPayload, rowPayload, lockPayload}
 use Rattle.replies.specs.Answers.{answerFields}
@@ -22,23 +24,24 @@ use Rattle.replies.proofs.PutLaws.{laid-start, laid-more, laid-as, laid
 
 -- ---- an answer
 
-pub length-answer : (n txn start count : ℕ) (p : Bytes) → length (answerFields n txn start count p) ≡ 29 + length p
+pub length-answer : (n : ℕ) (h : Holder) (count : ℕ) (p : Bytes) → length (answerFields n h count p) ≡ 38 + length p
 unfolding answerFields
-length-answer n txn start count p =
+length-answer n h count p =
     simp length-append
-    (omega (arith, length-digits 8 txn, length-digits 8 start, length-digits 8 count, length-digits 4 (length p)))
+    (omega (arith, length-digits 8 (h .txn), length-digits 8 (h .start), length-digits 8 (h .ttl), length-digits 8 count, length-digits 4 (length p)))
 
-module _ (n txn start count : ℕ) (p : Bytes) {s : Bytes} where
-  pub answer-short : length s < 29 → Put (room (answerFields n txn start count p) s) (answerFields n txn start count p) s 0 s
-  answer-short h = put-none (omega (arith, length-answer n txn start count p))
+module _ (n : ℕ) (o : Holder) (count : ℕ) (p : Bytes) {s : Bytes} where
+  pub answer-short : length s < 38 → Put (room (answerFields n o count p) s) (answerFields n o count p) s 0 s
+  answer-short h = put-none (omega (arith, length-answer n o count p))
 
-  pub answer-long : 29 ≤ length s → length s - 29 < length p → Put (room (answerFields n txn start count p) s) (answerFields n txn start count p) s 0 s
-  answer-long l h = put-none (omega (arith, length-answer n txn start count p))
+  pub answer-long : 38 ≤ length s → length s - 38 < length p → Put (room (answerFields n o count p) s) (answerFields n o count p) s 0 s
+  answer-long l h = put-none (omega (arith, length-answer n o count p))
 
-  pub answer-put : {a b c d e r : ℕ} {t₁ t₂ t₃ t₄ t₅ t₆ : Bytes} → 29 ≤ length s → length p ≤ length s - 29 → Placed 0 1 (n ∷ []) s a t₁ → Placed a 8 (digits 8 txn) t₁ b t₂ → Placed b 8 (digits 8 start) t₂ c t₃
-      → Placed c 8 (digits 8 count) t₃ d t₄ → Placed d 4 (digits 4 (length p)) t₄ e t₅ → Placed e (length p) p t₅ r t₆ → Put (room (answerFields n txn start count p) s) (answerFields n txn start count p) s r t₆
+  pub answer-put : {a b c d e f g r : ℕ} {t₁ t₂ t₃ t₄ t₅ t₆ t₇ t₈ : Bytes} → 38 ≤ length s → length p ≤ length s - 38 → Placed 0 1 (n ∷ []) s a t₁ → Placed a 8 (digits 8 (o .txn)) t₁ b t₂ → Placed b 8 (digits 8 (o .start)) t₂ c t₃
+      → Placed c 8 (digits 8 (o .ttl)) t₃ d t₄ → Placed d 1 (o .kind ∷ []) t₄ e t₅ → Placed e 8 (digits 8 count) t₅ f t₆ → Placed f 4 (digits 4 (length p)) t₆ g t₇ → Placed g (length p) p t₇ r t₈
+      → Put (room (answerFields n o count p) s) (answerFields n o count p) s r t₈
   unfolding answerFields
-  answer-put l h u₁ u₂ u₃ u₄ u₅ u₆ =
+  answer-put l h u₁ u₂ u₃ u₄ u₅ u₆ u₇ u₈ =
       laid-end
       (laid-as
       (laid-more
@@ -46,7 +49,9 @@ module _ (n txn start count : ℕ) (p : Bytes) {s : Bytes} where
       (laid-more
       (laid-more
       (laid-more
-      (laid-more (laid-start s) u₁ (omega arith)) u₂ (omega arith)) u₃ (omega arith)) u₄ (omega arith)) u₅ (omega arith)) u₆ (omega arith))
+      (laid-more
+      (laid-more
+      (laid-more (laid-start s) u₁ (omega arith)) u₂ (omega arith)) u₃ (omega arith)) u₄ (omega arith)) u₅ (omega arith)) u₆ (omega arith)) u₇ (omega arith)) u₈ (omega arith))
       (simp append-assoc))
 
 -- ---- the payloads of a read and of one intent

@@ -4,8 +4,6 @@ pub mod answer;
 pub mod payload;
 pub mod put;
 
-pub use answer::holder_of;
-pub use answer::number_of;
 pub use answer::put_answer;
 pub use payload::put_lock;
 pub use payload::put_marks;

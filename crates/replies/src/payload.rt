@@ -1,9 +1,7 @@
 // Payloads: what a read, one intent, statistics and the marks show.
-ghost use mathlib.Core.Path.{_≡_};
 ghost use mathlib.Core.Bool.{_&&_};
 ghost use lib.ListN.{length};
 ghost use lib.Dec.{leb};
-ghost use Rattle.rules.specs.Written.{kindByte};
 ghost use Rattle.replies.specs.Put.{Put, room};
 ghost use Rattle.replies.specs.Payloads.{nothingPayload, rowPayload, lockPayload, statsPayload, marksPayload};
 use crate::put::byte_to;
@@ -39,17 +37,6 @@ pub fn put_row(out: &mut [u8], row: &[u8]) -> usize
     bytes_to(out, a, row)
 }
 
-// "Kinds: 1 Put, 2 Delete, 3 Rollback"
-fn kind_byte(kind: Kind) -> u8
-    ensures { λ r. ⌜ r ≡ kindByte kind ⌝ }
-{
-    match kind {
-        Kind::Put => 1,
-        Kind::Delete => 2,
-        Kind::Rollback => 3,
-    }
-}
-
 // "or 1 and the lock in the image's form". A primary of more than 255 bytes has no such form, and is not written.
 pub fn put_lock(out: &mut [u8], txn: u64, primary: &[u8], start: u64, ttl: u64, kind: Kind) -> usize
     ensures { λ r. ⌜ Put (leb (length (now (primary .entry))) 255 && room (lockPayload txn (now (primary .entry)) start ttl kind) (now (out .entry))) (lockPayload txn (now (primary .entry)) start ttl kind) (now (out .entry)) r (now (out .exit)) ⌝ }
@@ -66,7 +53,7 @@ pub fn put_lock(out: &mut [u8], txn: u64, primary: &[u8], start: u64, ttl: u64, 
     let d = bytes_to(out, c, primary);
     let e = number_to(out, d, Width::Eight, start);
     let f = number_to(out, e, Width::Eight, ttl);
-    byte_to(out, f, kind_byte(kind))
+    byte_to(out, f, rules::kind_byte(kind))
 }
 
 // "keys with a default, defaults, locks, keys with a record, records; then for defaults and after that for records the chains of 1, of 2 to

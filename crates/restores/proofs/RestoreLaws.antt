@@ -19,7 +19,7 @@ use Rattle.rules.specs.Room.{sumOf, loadOf}
 use Rattle.rules.specs.Calls.{Done}
 use Rattle.rules.specs.Image.{Image, image}
 use Rattle.rules.specs.Restore.{allGood, boxOf, restoreSteps, restoreTo, restore}
-use Rattle.laws.proofs.StepLaws.{and-left, and-right}
+use Rattle.laws.proofs.StepLaws.{answered, and-left, and-right}
 use Rattle.laws.proofs.BoxOrder.{order-defaults}
 use Rattle.laws.proofs.LoadLaws.{load-fields}
 use Rattle.laws.proofs.SettleLaws.{settle-answer, settle-new, settle-leaves, Leaves}
@@ -177,7 +177,7 @@ module _ {s : Bytes} {v : Verdict} {rows places : List ℕ} {st : Store} {area :
   restore-refused h =
       let n = is-refusal (v .answer) e (ap not h) in
       let q = d .answer-is (view.boxOf st area) in
-      record { answer-is = q; made = m; shown = sym (refusal-leaves (image s) (view.boxOf st area) (λ a. n (q ∙ a))); refused = λ _. untouched }
+      record { answer-is = answered q; made = m; shown = sym (refusal-leaves (image s) (view.boxOf st area) (λ a. n (q ∙ a))); refused = λ _. untouched }
 
   pub restore-done : t ≡ true → {end k top : ℕ} {area′ : Bytes} {r : Store} → Filling s (v .load) (v .wat) rows places st end k top area′ r → end ≡ max (v .load .lines) (st .load .lines) → end ≤ k
       → Replaced st area (restore s (view.boxOf st area)) (record { store = record { lines = r .lines; load = v .load; top = top }; answer = v .answer }) area′
@@ -188,7 +188,7 @@ module _ {s : Bytes} {v : Verdict} {rows places : List ℕ} {st : Store} {area :
       let i : restore s (view.boxOf st area) ≡ restoreTo (some (f .placed .img)) (view.boxOf st area) = ap (λ (o : Option Image). restoreTo o (view.boxOf st area)) (f .placed .is) in
       let w = filled f m l g in
       record {
-        answer-is = q;
+        answer-is = answered q;
         made = record { built = w .built; fit = f .placed .fit };
         shown = w .shown ∙ sym (ap (λ (x : Done). x .box) i ∙ accepted-takes (f .placed .img) (view.boxOf st area) (sym (ap (λ (x : Done). x .answer) i) ∙ sym q ∙ a));
         refused = λ n. absurd (n a);

@@ -38,7 +38,7 @@ fn own_step(lock: Locked, txn: u64, start: u64) -> Answer
         Locked::Nobody => Answer::Accepted,
         Locked::By(l) => {
             if !calls::owns(l, txn, start) {
-                return calls::held_by(l);
+                return lines::held_by(l);
             }
             Answer::Accepted
         }

@@ -1,5 +1,6 @@
 -- Document 01, "Proved table": W1 to W11, one table under one claim. Each row says what a call gives and what the paper says, both as the
--- numbers that a caller sees; the claim is that the list of rows which differ is empty, so that a wrong row is named.
+-- numbers that a caller sees, the holder as document 02, CR 9, has it; the claim is that the list of rows which differ is empty, so that a
+-- wrong row is named.
 -- "Table 1, key a = 00 00 00 01 61 (b ends in 62), row 00 00, transaction 7; where unsaid, primary a, time to live 1, row limit 1, no bounds."
 -- Assumes nothing.
 use Prim.Native.Nat.{ℕ, zero, suc, _-_}
@@ -19,12 +20,12 @@ use Rattle.forms.specs.Ones.{fitted, oneMutation, oneKey}
 use Rattle.rules.specs.declared.answers.Answer.{Answer}
 use Rattle.rules.specs.declared.records.Kind.the-variants.{Delete}
 use Rattle.rules.specs.Answers.{number, holder, _▸_, need, needOwn, Reply, nothing, shown, refused, answerOf, ifPassed}
-use Rattle.rules.specs.Box.{Box, fresh, Lock, Line, Standing, Finished, KeyLine, Default, recordsOf, addRecord, lockOf, addLock, rowOf, addRow, before, rowBefore, putIn, insertBy, dropLock, unlessLock, dropRow, unlessRow}
+use Rattle.rules.specs.Box.{Box, fresh, Lock, Line, Standing, Finished, KeyLine, Default, kindByte, recordsOf, addRecord, lockOf, addLock, rowOf, addRow, before, rowBefore, putIn, insertBy, dropLock, unlessLock, dropRow, unlessRow}
 use Rattle.rules.specs.Sound.{allSound, soundLock}
 use Rattle.rules.specs.Room.{sumOf, loadOf, fits, roomFor}
 use Rattle.rules.specs.Read.{lockLets, keepIf, atOrBelow, newestFirst, showIf, showRow, oneRecord, walk, read}
 use Rattle.rules.specs.Page.{Bounds, Limits, boundsStep, pageArguments, keysOf, keysWithin, onPage, tooLarge, costStep, limitStep, onJudged, pageWalk, unlessPast, readKey, page}
-use Rattle.rules.specs.Written.{kindByte, keyRowBytes, allBytes, pageBytes, Written, writeIf, written, scanPage}
+use Rattle.rules.specs.Written.{keyRowBytes, allBytes, pageBytes, Written, writeIf, written, scanPage}
 use Rattle.rules.specs.Calls.{Done, settle, ofBatch, zeroStep, allBelow, foundIf, stampedAt, recordFor}
 use Rattle.rules.specs.Prewrite.{Head, headStep, lockStep, prewriteEntry, prewriteEntries, storeIf, lockLine, unlessLocked, applyPrewrite, applyPrewrites, prewriteRoom, prewriteSteps, prewriteAll, prewriteBatch, prewrite}
 use Rattle.rules.specs.Commit.{Ending, endingStep, withStart, commitLock, commitStep, commitKey, commitKeys, commitTo, applyCommit, applyCommits, commitSteps, commitAll, commitBatch, commit}
@@ -46,10 +47,15 @@ unfoldable pub differing : List Case → List String
 differing [] = []
 differing (c ∷ cs) = nameUnless (eqBytes (c .got) (c .wanted)) (c .name) (differing cs)
 
--- ---- what a caller sees, as numbers: the answer's number and the holder's transaction and start; then what else the call gives
+-- ---- what a caller sees, as numbers: the answer's number and the holder's transaction, start, time to live and kind; then what else the call
+-- gives
 
 saw : Answer → List ℕ → List ℕ
-saw a more = number a ∷ holder a .txn ∷ holder a .start ∷ more
+saw a more = number a ∷ holder a .txn ∷ holder a .start ∷ holder a .ttl ∷ holder a .kind ∷ more
+
+-- "every other answer carries zeros"
+plain : ℕ → List ℕ → List ℕ
+plain n more = n ∷ 0 ∷ 0 ∷ 0 ∷ 0 ∷ more
 
 sawDone : Done → List ℕ
 sawDone d = saw (d .answer) []
@@ -143,28 +149,28 @@ box11 = prewrite (head 11) (put keyB) box2 .box
 
 pub table : List Case
 table =
-    record { name = "W1 prewrite Put start 10"; got = sawDone (prewriteA 10 fresh); wanted = 0 ∷ 0 ∷ 0 ∷ [] } ∷
-    record { name = "W1 read at 9 nothing"; got = sawRow (read keyA 9 box1); wanted = 0 ∷ 0 ∷ 0 ∷ 0 ∷ [] } ∷
-    record { name = "W1 read at 10 answer 7 with 7, 10"; got = sawRow (read keyA 10 box1); wanted = 7 ∷ 7 ∷ 10 ∷ 0 ∷ [] } ∷
-    record { name = "W2 then commit at 12"; got = sawDone (commitA 10 12 box1); wanted = 0 ∷ 0 ∷ 0 ∷ [] } ∷
-    record { name = "W2 read at 11 nothing"; got = sawRow (read keyA 11 box2); wanted = 0 ∷ 0 ∷ 0 ∷ 0 ∷ [] } ∷
-    record { name = "W2 read at 12 the row"; got = sawRow (read keyA 12 box2); wanted = 0 ∷ 0 ∷ 0 ∷ 1 ∷ 0 ∷ 0 ∷ [] } ∷
-    record { name = "W3 then rollback of start 12: 9"; got = sawDone (rollbackA 12 box2); wanted = 9 ∷ 0 ∷ 0 ∷ [] } ∷
-    record { name = "W4 after W2, rollback of start 10: 8"; got = sawDone (rollbackA 10 box2); wanted = 8 ∷ 0 ∷ 0 ∷ [] } ∷
-    record { name = "W5 after W2, prewrite start 12: 8"; got = sawDone (prewriteA 12 box2); wanted = 8 ∷ 0 ∷ 0 ∷ [] } ∷
-    record { name = "W5 start 13: 0"; got = sawDone (prewriteA 13 box2); wanted = 0 ∷ 0 ∷ 0 ∷ [] } ∷
-    record { name = "W6 fresh, rollback start 5: 0, one line"; got = saw (rollbackA 5 fresh .answer) (length (box6 .lines) ∷ []); wanted = 0 ∷ 0 ∷ 0 ∷ 1 ∷ [] } ∷
-    record { name = "W6 again: 0, same state"; got = saw (rollbackA 5 box6 .answer) (flat (rollbackA 5 box6 .box)); wanted = 0 ∷ 0 ∷ 0 ∷ flat box6 } ∷
-    record { name = "W7 then prewrite start 5: 8"; got = sawDone (prewriteA 5 box6); wanted = 8 ∷ 0 ∷ 0 ∷ [] } ∷
-    record { name = "W8 after W2, one-step (10, 12) of a alone with that row: 0, count 1"; got = sawCount (oneStep (ending 10 12) batchA box2); wanted = 0 ∷ 0 ∷ 0 ∷ 1 ∷ [] } ∷
-    record { name = "W8 of a and b: 9"; got = sawCount (oneStep (ending 10 12) batchAB box2); wanted = 9 ∷ 0 ∷ 0 ∷ 0 ∷ [] } ∷
+    record { name = "W1 prewrite Put start 10"; got = sawDone (prewriteA 10 fresh); wanted = plain 0 [] } ∷
+    record { name = "W1 read at 9 nothing"; got = sawRow (read keyA 9 box1); wanted = plain 0 (0 ∷ []) } ∷
+    record { name = "W1 read at 10 answer 7 with 7, 10, time to live 1, Put"; got = sawRow (read keyA 10 box1); wanted = 7 ∷ 7 ∷ 10 ∷ 1 ∷ 1 ∷ 0 ∷ [] } ∷
+    record { name = "W2 then commit at 12"; got = sawDone (commitA 10 12 box1); wanted = plain 0 [] } ∷
+    record { name = "W2 read at 11 nothing"; got = sawRow (read keyA 11 box2); wanted = plain 0 (0 ∷ []) } ∷
+    record { name = "W2 read at 12 the row"; got = sawRow (read keyA 12 box2); wanted = plain 0 (1 ∷ 0 ∷ 0 ∷ []) } ∷
+    record { name = "W3 then rollback of start 12: 9"; got = sawDone (rollbackA 12 box2); wanted = plain 9 [] } ∷
+    record { name = "W4 after W2, rollback of start 10: 8"; got = sawDone (rollbackA 10 box2); wanted = plain 8 [] } ∷
+    record { name = "W5 after W2, prewrite start 12: 8"; got = sawDone (prewriteA 12 box2); wanted = plain 8 [] } ∷
+    record { name = "W5 start 13: 0"; got = sawDone (prewriteA 13 box2); wanted = plain 0 [] } ∷
+    record { name = "W6 fresh, rollback start 5: 0, one line"; got = saw (rollbackA 5 fresh .answer) (length (box6 .lines) ∷ []); wanted = plain 0 (1 ∷ []) } ∷
+    record { name = "W6 again: 0, same state"; got = saw (rollbackA 5 box6 .answer) (flat (rollbackA 5 box6 .box)); wanted = plain 0 (flat box6) } ∷
+    record { name = "W7 then prewrite start 5: 8"; got = sawDone (prewriteA 5 box6); wanted = plain 8 [] } ∷
+    record { name = "W8 after W2, one-step (10, 12) of a alone with that row: 0, count 1"; got = sawCount (oneStep (ending 10 12) batchA box2); wanted = plain 0 (1 ∷ []) } ∷
+    record { name = "W8 of a and b: 9"; got = sawCount (oneStep (ending 10 12) batchAB box2); wanted = plain 9 (0 ∷ []) } ∷
     record {
       name = "W9 after W2, page at 12, byte limit 7";
       got = sawPage (pageAt12 7 box2);
-      wanted = 0 ∷ 0 ∷ 0 ∷ 12 ∷ 0x00 ∷ 0x01 ∷ 0x05 ∷ 0x00 ∷ 0x00 ∷ 0x00 ∷ 0x01 ∷ 0x61 ∷ 0x02 ∷ 0x00 ∷ 0x00 ∷ 0x00 ∷ 238 ∷ 238 ∷ [];
+      wanted = plain 0 (12 ∷ 0x00 ∷ 0x01 ∷ 0x05 ∷ 0x00 ∷ 0x00 ∷ 0x00 ∷ 0x01 ∷ 0x61 ∷ 0x02 ∷ 0x00 ∷ 0x00 ∷ 0x00 ∷ 238 ∷ 238 ∷ []);
     } ∷
-    record { name = "W10 byte limit 6: 10"; got = sawPage (pageAt12 6 box2); wanted = 10 ∷ 0 ∷ 0 ∷ 0 ∷ buffer } ∷
-    record { name = "W11 a shown, b locked by the moment, row limit 1: 7"; got = sawPage (pageAt12 7 box11); wanted = 7 ∷ 7 ∷ 11 ∷ 0 ∷ buffer } ∷
+    record { name = "W10 byte limit 6: 10"; got = sawPage (pageAt12 6 box2); wanted = plain 10 (0 ∷ buffer) } ∷
+    record { name = "W11 a shown, b locked by the moment, row limit 1: 7"; got = sawPage (pageAt12 7 box11); wanted = 7 ∷ 7 ∷ 11 ∷ 1 ∷ 1 ∷ 0 ∷ buffer } ∷
     []
 
 -- ---- "Room": the load that a caller could count, and 11 only after every earlier refusal
@@ -186,13 +192,13 @@ roomTable =
     record { name = "a lock counts key plus primary, a default key plus row"; got = sawLoad box1; wanted = 1 ∷ 1 ∷ 1 ∷ 17 ∷ [] } ∷
     record { name = "a record counts its key"; got = sawLoad box2; wanted = 1 ∷ 0 ∷ 1 ∷ 12 ∷ [] } ∷
     record { name = "256 locks of 10 bytes each, and a record"; got = sawLoad full; wanted = 257 ∷ 256 ∷ 0 ∷ 2565 ∷ [] } ∷
-    record { name = "no room for one lock more: 11"; got = sawDone (prewriteA 13 full); wanted = 11 ∷ 0 ∷ 0 ∷ [] } ∷
-    record { name = "no room, and history forbids it: 8 goes before 11"; got = sawDone (prewriteA 12 full); wanted = 8 ∷ 0 ∷ 0 ∷ [] } ∷
+    record { name = "no room for one lock more: 11"; got = sawDone (prewriteA 13 full); wanted = plain 11 [] } ∷
+    record { name = "no room, and history forbids it: 8 goes before 11"; got = sawDone (prewriteA 12 full); wanted = plain 8 [] } ∷
     []
 
 -- no row of either table differs
 both : (differing table ≡ []) × (differing roomTable ≡ [])
-unfolding sawLoad locks full roomTable nameUnless differing saw sawDone sawRow sawCount sawPage flatLine flatLines flatDefaults flat keyA keyB row put head ending prewriteA commitA rollbackA batchA batchAB noBounds buffer pageAt12 box1 box2 box6 box11 table cmp eqBytes ltBytes readOn _>>=_ just only byte stretch piece upTo times section ended whole numberFrom digits numberOf tableOf keyForm integers texts fields rowForm ofKind mutation above ascend ifAscend batchOf mutations keys fitted oneMutation oneKey _▸_ need needOwn ifPassed fresh recordsOf addRecord lockOf addLock rowOf addRow before rowBefore putIn insertBy dropLock unlessLock dropRow unlessRow allSound soundLock sumOf loadOf fits roomFor lockLets keepIf atOrBelow newestFirst showIf showRow oneRecord walk read boundsStep pageArguments keysOf keysWithin onPage tooLarge costStep limitStep onJudged pageWalk unlessPast readKey page keyRowBytes allBytes pageBytes writeIf written scanPage settle ofBatch zeroStep allBelow foundIf stampedAt headStep lockStep prewriteEntry prewriteEntries storeIf lockLine unlessLocked applyPrewrite applyPrewrites prewriteRoom prewriteSteps prewriteAll prewriteBatch prewrite endingStep withStart commitLock commitStep commitKey commitKeys commitTo applyCommit applyCommits commitSteps commitAll commitBatch commit rollbackRecords rollbackLock rollbackStep rollbackKey rollbackKeys rollbackTo applyRollback applyRollbacks rollbackRoom rollbackSteps rollbackAll rollbackBatch rollback argumentsStep appliedIf appliedBy appliedIn noneOther allApplied someApplied stepLock stepEntry stepEntries newestStep replaceIf applyStep applySteps stepNew stepApplied stepArguments thenApplied countIf stepDone stepAll ofCounted oneStep
+unfolding sawLoad locks full roomTable nameUnless differing saw plain sawDone sawRow sawCount sawPage flatLine flatLines flatDefaults flat keyA keyB row put head ending prewriteA commitA rollbackA batchA batchAB noBounds buffer pageAt12 box1 box2 box6 box11 table cmp eqBytes ltBytes readOn _>>=_ just only byte stretch piece upTo times section ended whole numberFrom digits numberOf tableOf keyForm integers texts fields rowForm ofKind mutation above ascend ifAscend batchOf mutations keys fitted oneMutation oneKey _▸_ need needOwn ifPassed fresh recordsOf addRecord lockOf addLock rowOf addRow before rowBefore putIn insertBy dropLock unlessLock dropRow unlessRow allSound soundLock sumOf loadOf fits roomFor lockLets keepIf atOrBelow newestFirst showIf showRow oneRecord walk read boundsStep pageArguments keysOf keysWithin onPage tooLarge costStep limitStep onJudged pageWalk unlessPast readKey page keyRowBytes allBytes pageBytes writeIf written scanPage settle ofBatch zeroStep allBelow foundIf stampedAt headStep lockStep prewriteEntry prewriteEntries storeIf lockLine unlessLocked applyPrewrite applyPrewrites prewriteRoom prewriteSteps prewriteAll prewriteBatch prewrite endingStep withStart commitLock commitStep commitKey commitKeys commitTo applyCommit applyCommits commitSteps commitAll commitBatch commit rollbackRecords rollbackLock rollbackStep rollbackKey rollbackKeys rollbackTo applyRollback applyRollbacks rollbackRoom rollbackSteps rollbackAll rollbackBatch rollback argumentsStep appliedIf appliedBy appliedIn noneOther allApplied someApplied stepLock stepEntry stepEntries newestStep replaceIf applyStep applySteps stepNew stepApplied stepArguments thenApplied countIf stepDone stepAll ofCounted oneStep
 both = (refl, refl)
 
 pub worked : differing table ≡ []

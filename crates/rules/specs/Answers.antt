@@ -1,6 +1,8 @@
--- Document 01, "What a call answers". Steps stand one to a line, joined by ▸: the first refusal is the answer.
+-- Document 01, "What a call answers", and the holder as document 02, CR 9, has it. Steps stand one to a line, joined by ▸: the first refusal is
+-- the answer.
 -- Assumes nothing.
 use Prim.Native.Nat.{ℕ}
+use mathlib.Core.Path.{_≡_}
 use mathlib.Core.Bool.{Bool, true, false}
 use Rattle.rules.specs.declared.answers.Holder.{Holder}
 use Rattle.rules.specs.declared.answers.Answer.{Answer}
@@ -13,14 +15,22 @@ number Accepted = 0
 number (No n) = n
 number (Held h) = 7
 
--- "Answer 7 carries the holder's transaction and start; every other answer carries zeros"
+-- "every other answer carries zeros"; CR 9: "Every other answer carries zeros there"
 abbrev pub noHolder : Holder
-noHolder = record { txn = 0; start = 0 }
+noHolder = record { txn = 0; start = 0; ttl = 0; kind = 0 }
 
+-- the paper's values of each case: "Answer 7 carries the holder's transaction and start", the time to live and the kind
 abbrev pub holder : Answer → Holder
 holder Accepted = noHolder
 holder (No n) = noHolder
 holder (Held h) = h
+
+-- "If an answer is an enum, a definition gives this paper's number and values for each of its cases. The promises use that definition.": the
+-- call gave the answer that is due, by the paper's number and values, and by its case
+pub record Answered (due got : Answer) : Type 0 where
+  pub number-is : number got ≡ number due
+  pub holder-is : holder got ≡ holder due
+  pub case-is : got ≡ due
 
 -- the first refusal is the answer
 unfoldable pub _▸_ : Answer → Answer → Answer

@@ -47,9 +47,15 @@ pub record Box : Type 0 where
 unfoldable pub fresh : Box
 fresh = record { lines = []; defaults = [] }
 
--- "Answer 7 carries the holder's transaction and start"
+-- "Kinds: 1 Put, 2 Delete, 3 Rollback"
+abbrev pub kindByte : Kind → ℕ
+kindByte Put = 1
+kindByte Delete = 2
+kindByte Rollback = 3
+
+-- "Answer 7 carries the holder's transaction and start"; 02, CR 9: "besides transaction and start, the lock's time to live and kind"
 abbrev pub holderOf : Lock → Holder
-holderOf l = record { txn = l .txn; start = l .start }
+holderOf l = record { txn = l .txn; start = l .start; ttl = l .ttl; kind = kindByte (l .kind) }
 
 abbrev pub eqKind : Kind → Kind → Bool
 eqKind Put Put = true

@@ -12,17 +12,9 @@ pub use Rattle.forms.specs.Bytes.{pieceBytes}
 use Rattle.forms.specs.Numbers.{digits}
 use Rattle.rules.specs.declared.answers.Answer.{Answer}
 use Rattle.rules.specs.declared.answers.Answer.the-variants.{Accepted, No}
-use Rattle.rules.specs.declared.records.Kind.{Kind}
-use Rattle.rules.specs.declared.records.Kind.the-variants.{Put, Delete, Rollback}
 use Rattle.rules.specs.Answers.{Reply, nothing, shown, refused}
-use Rattle.rules.specs.Box.{Box, Lock}
+use Rattle.rules.specs.Box.{Box, Lock, kindByte}
 use Rattle.rules.specs.Page.{Bounds, Limits, Page, KeyRow, KeyLock, page, intentPage, conflictPage}
-
--- "Kinds: 1 Put, 2 Delete, 3 Rollback"
-abbrev pub kindByte : Kind → ℕ
-kindByte Put = 1
-kindByte Delete = 2
-kindByte Rollback = 3
 
 -- "Lock: 8-byte transaction, primary length, primary, 8-byte start, 8-byte time to live, kind byte"
 unfoldable pub lockBytes : Lock → Bytes

@@ -1,5 +1,6 @@
 // What code and definitions both speak of document 01: answers, kinds and records, room, figures. The steps themselves are the
-// definitions in specs/; here are the types, and the few tests that every call makes of a record and of the room.
+// definitions in specs/; here are the types, the paper's numbers of answers and kinds, and the few tests that every call makes of a record
+// and of the room.
 pub mod answers;
 pub mod figures;
 pub mod records;
@@ -7,11 +8,14 @@ pub mod room;
 
 pub use answers::Answer;
 pub use answers::Holder;
+pub use answers::holder_of;
+pub use answers::number_of;
 pub use figures::Figures;
 pub use figures::Marks;
 pub use figures::Stats;
 pub use records::Kind;
 pub use records::Record;
+pub use records::kind_byte;
 pub use records::record_sound;
 pub use room::Load;
 pub use room::load_fits;

@@ -1,5 +1,6 @@
-// Kinds and finished records, and when a record is sound.
+// Kinds with their numbers, finished records, and when a record is sound.
 ghost use mathlib.Core.Path.{_≡_};
+ghost use Rattle.rules.specs.Box.{kindByte};
 ghost use Rattle.rules.specs.Sound.{soundRecord, kindFits};
 
 // "Kinds: 1 Put, 2 Delete, 3 Rollback"; a standing intent is a Put or a Delete.
@@ -7,6 +8,16 @@ pub enum Kind {
     Put,
     Delete,
     Rollback,
+}
+
+pub fn kind_byte(kind: Kind) -> u8
+    ensures { λ r. ⌜ r ≡ kindByte kind ⌝ }
+{
+    match kind {
+        Kind::Put => 1,
+        Kind::Delete => 2,
+        Kind::Rollback => 3,
+    }
 }
 
 // A finished record: its write stamp, and the start, commit and kind that it says.

@@ -1,5 +1,5 @@
-// A worked session in one hall: a curator prewrites two labels, a visitor reads and is told who holds the key, the commit, a page, and an edit
-// that is withdrawn. Each line says who asks for what, and then what the box answered. The store and its area live here; every step hands on a
+// A worked session in one hall: a curator prewrites two labels, a visitor reads and is told who holds the key, for what and how long, the
+// commit, a page, and a removal that is withdrawn. Each line says who asks for what, and then what the box answered. The store and its area live here; every step hands on a
 // made store, whatever was answered.
 mod curators;
 mod telling;
@@ -34,15 +34,15 @@ fn two_labels(store: Store, area: &mut [u8; AREA], jaw: &[u8]) -> Store
     committed
 }
 
-// A new label for the jaw is withdrawn: the old one is seen again, and the new one can no longer be committed.
-fn withdrawn_label(store: Store, area: &mut [u8; AREA], jaw: &[u8]) -> Store
+// The jaw is to be removed, and that is withdrawn: its label is seen again, and the removal can no longer be committed.
+fn withdrawn_removal(store: Store, area: &mut [u8; AREA], jaw: &[u8]) -> Store
     requires { ⌜ Made store (now area) ⌝ }
     ensures { λ r. ⌜ Made r (now (area .exit)) ⌝ }
 {
-    let label = b"\x00\x01\x07\x00\x00\x00\x01jaw\x01\x12\x00\x01\x0fupper jaw, left";
+    let removal = b"\x00\x01\x07\x00\x00\x00\x01jaw\x02";
     let keys = b"\x00\x01\x07\x00\x00\x00\x01jaw";
-    let names = b"the new label of the jaw";
-    let written = prewrites(store, area, 8, 20, jaw, label, names);
+    let names = b"the removal of the jaw";
+    let written = prewrites(store, area, 8, 20, jaw, removal, names);
     asks_key(written, area, jaw, 25);
     let withdrawn = withdraws(written, area, 8, 20, jaw, names);
     asks_key(withdrawn, area, jaw, 25);
@@ -56,6 +56,6 @@ fn main() {
     asks_figures(store, &area, b"the hall opens: ");
     let labelled = two_labels(store, &mut area, jaw);
     asks_page(labelled, &area, 16);
-    let kept = withdrawn_label(labelled, &mut area, jaw);
+    let kept = withdrawn_removal(labelled, &mut area, jaw);
     asks_figures(kept, &area, b"in the end: ");
 }

@@ -4,6 +4,7 @@ ghost use Rattle.session.specs.Labels.{textPlace};
 use forms::Part;
 use libc::STDOUT_FILENO;
 use mvcc::Answer;
+use mvcc::Holder;
 
 pub fn say(words: &[u8]) {
     io::write_all(STDOUT_FILENO, words);
@@ -42,15 +43,30 @@ fn say_refusal(number: u8) {
     meaning(number);
 }
 
-// "Answer 7 carries the holder's transaction and start"
+// What a lock is for, by its kind: "1 Put, 2 Delete".
+fn say_kind(kind: u8) {
+    match kind {
+        1 => say(b" for a new label"),
+        2 => say(b" for a removal"),
+        _ => say(b" for no kind of the paper"),
+    }
+}
+
+// Who holds the key, since when and for what, and how long the lock is to stand.
+fn say_holder(holder: Holder) {
+    tell(b" by curator ", holder.txn, b" since ");
+    tell(b"", holder.start, b"");
+    say_kind(holder.kind);
+    tell(b", time to live ", holder.ttl, b"");
+}
+
 pub fn say_answer(answer: Answer) {
     match answer {
         Answer::Accepted => say(b"accepted"),
         Answer::No(n) => say_refusal(n),
         Answer::Held(holder) => {
             say_refusal(7);
-            tell(b" by curator ", holder.txn, b" since ");
-            tell(b"", holder.start, b"");
+            say_holder(holder);
         }
     }
     say(b"\n");

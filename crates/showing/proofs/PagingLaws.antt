@@ -25,7 +25,7 @@ pub told-page : (w : Written) {r : Paged} {page′ out out′ : Bytes} {n : ℕ}
 told-page w {r} {page′} {out} {out′} {n} v u =
     subst (λ (x : Bytes). Writes (answerBytes (w .answer) (w .count) x) out n out′) (v .out-is)
     (subst (λ (c : ℕ). Writes (answerBytes (w .answer) c page′) out n out′) (v .count-is)
-    (subst (λ (a : Answer). Writes (answerBytes a (r .count) page′) out n out′) (v .answer-is) u))
+    (subst (λ (a : Answer). Writes (answerBytes a (r .count) page′) out n out′) (v .answer-is .case-is) u))
 
 -- ---- the lent buffer
 

@@ -27,7 +27,7 @@ use Rattle.showing.proofs.TellLaws.{written, written-count}
 pub showed : (t : Told) (k : ℕ) {st : Store} {area out out′ : Bytes} {n : ℕ} → Made st area → boxOf st area ≡ t .box → length (t .payload) ≤ k → k ≤ 65535 → longest ≤ length out → Writes (toldBytes t) out n out′
     → RanAs t out (record { store = st; len = n }) area out′
 showed t k {out = out} m e short few long w =
-    let h : length (toldBytes t) ≤ length out = omega (arith, length-answer (number (t .answer)) (holder (t .answer) .txn) (holder (t .answer) .start) (t .count) (t .payload)) in
+    let h : length (toldBytes t) ≤ length out = omega (arith, length-answer (number (t .answer)) (holder (t .answer)) (t .count) (t .payload)) in
     record { made = m; shown = e; put = written h w; within = omega (arith, written-count h w) }
 
 -- ---- by the op

@@ -49,10 +49,9 @@ at-most n h v = omega (arith, within v)
 -- ---- an answer
 
 -- the number and the holder are the answer's
-pub tell-as : (a : Answer) (count : ℕ) (p : Bytes) {n : ℕ} {h : Holder} {out out′ : Bytes} {r : ℕ} → n ≡ number a → h ≡ holder a → Writes (answerFields n (h .txn) (h .start) count p) out r out′ → Writes (answerBytes a count p) out r out′
+pub tell-as : (a : Answer) (count : ℕ) (p : Bytes) {n : ℕ} {h : Holder} {out out′ : Bytes} {r : ℕ} → n ≡ number a → h ≡ holder a → Writes (answerFields n h count p) out r out′ → Writes (answerBytes a count p) out r out′
 tell-as a count p {n} {h} {out} {out′} {r} e f w =
-    subst (λ (m : ℕ). Writes (answerFields m (holder a .txn) (holder a .start) count p) out r out′) e
-    (subst (λ (g : Holder). Writes (answerFields n (g .txn) (g .start) count p) out r out′) f w)
+    subst (λ (m : ℕ). Writes (answerFields m (holder a) count p) out r out′) e (subst (λ (g : Holder). Writes (answerFields n g count p) out r out′) f w)
 
 -- one that carries the front of a buffer carries what was put there
 pub carried : (a : Answer) (count : ℕ) {p pay pay′ : Bytes} {n : ℕ} {out out′ : Bytes} {r : ℕ} → length p ≤ length pay → Writes p pay n pay′

@@ -45,9 +45,9 @@ pub record Unrun (st : Store) (area out : Bytes) (r : Ran) (area′ out′ : Byt
   pub out-is : out′ ≡ out
   pub len-is : r .len ≡ 0
 
--- the longest answer: 29 bytes, and a lent buffer of 65,535
+-- the longest answer: 38 bytes, and a lent buffer of 65,535
 abbrev pub longest : ℕ
-longest = 65564
+longest = 65573
 
 pub record RunCall (st : Store) (area s out : Bytes) (r : Ran) (area′ out′ : Bytes) : Type 0 where
   pub ran : longest ≤ length out → RanAs (toldOf (call s) (boxOf st area)) out r area′ out′

@@ -24,8 +24,7 @@ use Rattle.replies.specs.Put as put
 use Rattle.replies.specs.Payloads.{readPayload, intentPayload, statsPayload, marksPayload}
 use Rattle.replies.specs.Answers.{answerBytes, notInForm}
 
--- "the answer's number (1 byte), the holder's transaction (8), the holder's start (8), the count (8), a 4-byte payload length, the payload";
--- and the box after the call
+-- an answer, with its number and holder, a count and a payload; and the box after the call
 pub record Told : Type 0 where
   pub answer : Answer
   pub count : ℕ

@@ -16,9 +16,9 @@ use rules::Answer;
 pub fn tell(out: &mut [u8], answer: Answer, count: u64, payload: &[u8]) -> usize
     ensures { λ r. ⌜ Writes (answerBytes answer count (now (payload .entry))) (now (out .entry)) r (now (out .exit)) ⌝ }
 {
-    let number = replies::number_of(answer);
-    let holder = replies::holder_of(answer);
-    replies::put_answer(out, number, holder.txn, holder.start, count, payload)
+    let number = rules::number_of(answer);
+    let holder = rules::holder_of(answer);
+    replies::put_answer(out, number, holder, count, payload)
 }
 
 // An answer without payload.

@@ -18,10 +18,10 @@ use Rattle.forms.proofs.RowLaws.{row-bounds}
 use Rattle.forms.proofs.NumberLaws.{length-digits}
 use Rattle.rules.specs.declared.records.Kind.the-variants.{Rollback}
 use Rattle.rules.specs.Answers.{Reply, nothing, shown, refused}
-use Rattle.rules.specs.Box.{Lock, eqKind}
+use Rattle.rules.specs.Box.{Lock, kindByte, eqKind}
 use Rattle.rules.specs.Sound.{soundLock}
 use Rattle.rules.specs.Page.{Page, Limits, KeyRow, KeyLock, onPage, tooLarge, costStep, limitStep, onJudged, rowCost, lockCost, Bounds, inBounds, locksOf, locksWithin, pageWalk, soundStep, intentWalk, unlessAbove, conflicting}
-use Rattle.rules.specs.Written.{pieceBytes, kindByte, lockBytes, keyRowBytes, keyLockBytes}
+use Rattle.rules.specs.Written.{pieceBytes, lockBytes, keyRowBytes, keyLockBytes}
 use Rattle.laws.proofs.StepLaws.{and-right}
 use Rattle.lines.specs.declared.store.Slot.{Slot}
 use Rattle.lines.specs.declared.store.Stood.{Stood}

@@ -3,14 +3,17 @@
 use Prim.Native.Nat.{ℕ, _+_, _<_}
 use mathlib.Core.Path.{_≡_}
 use mathlib.Core.Bool.{Bool, true, false, _&&_, _||_, not}
+use mathlib.Core.List.{[]}
 use lib.Dec.{leb, ltb}
 use Rattle.rules.specs.declared.answers.Answer.the-variants.{Accepted}
 use Rattle.rules.specs.declared.records.Kind.{Kind}
 use Rattle.rules.specs.declared.records.Kind.the-variants.{Put, Delete, Rollback}
 use Rattle.rules.specs.Answers.{needOwn}
+use Rattle.rules.specs.Box.{holderOf}
 use Rattle.lines.specs.declared.store.Slot.{Slot}
 use Rattle.lines.specs.declared.views.Told.{Told}
 use Rattle.lines.specs.declared.views.Told.the-variants as told
+use Rattle.lines.specs.Looks.{lockIn}
 use Rattle.walks.specs.declared.walked.Scan.{Scan}
 use Rattle.walks.specs.declared.walked.Scan.the-variants.{Rows, Intents, Conflicts}
 use Rattle.walks.specs.declared.dues.Listed.{Listed}
@@ -31,8 +34,9 @@ abbrev pub listIf : Bool → Kind → Slot → Listed → Listed
 listIf true kind s old = listBy kind s old
 listIf false kind s old = old
 
+-- a holder has no bytes of the area: any will do
 abbrev pub seeRow : ℕ → Due → Slot → Told → Due
-seeRow moment d s (told.Standing i) = record { lets = needOwn (ltb moment (i .start)) (record { txn = i .txn; start = i .start }); line = d .line }
+seeRow moment d s (told.Standing i) = record { lets = needOwn (ltb moment (i .start)) (holderOf (lockIn [] i)); line = d .line }
 seeRow moment d s (told.Finished w) = record { lets = d .lets; line = listIf (leb (w .stamp) moment) (w .kind) s (d .line) }
 
 -- ---- a lock, by itself: all of them, or "skipped if it starts above the moment"

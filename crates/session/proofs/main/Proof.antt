@@ -23,11 +23,11 @@ two-labels-requires c κs = (c .before .before .before .before .before .fresh) .
 asks-page-requires : tie.Need-asks-page-requires
 asks-page-requires c κs = (c .before .two-labels) .ensures
 
-withdrawn-label-requires : tie.Need-withdrawn-label-requires
-withdrawn-label-requires c κs = (c .before .before .before .before .two-labels) .ensures
+withdrawn-removal-requires : tie.Need-withdrawn-removal-requires
+withdrawn-removal-requires c κs = (c .before .before .before .before .two-labels) .ensures
 
 asks-figures-requires-2 : tie.Need-asks-figures-requires-2
-asks-figures-requires-2 c κs = (c .before .before .withdrawn-label) .ensures
+asks-figures-requires-2 c κs = (c .before .before .withdrawn-removal) .ensures
 
 returns : tie.Need-returns
 returns c = search needs
@@ -41,7 +41,7 @@ main-spec =
     asks-figures-requires
     two-labels-requires
     asks-page-requires
-    withdrawn-label-requires
+    withdrawn-removal-requires
     slice-aggregate-asks-figures-2
     asks-figures-requires-2
     returns)

@@ -1,7 +1,7 @@
--- `session::withdrawn_label` meets its contract: each step hands a made store to the next. Assumes nothing.
+-- `session::withdrawn_removal` meets its contract: each step hands a made store to the next. Assumes nothing.
 use borrow.Author.Needs.{needs}
-use Rattle.session.proofs.withdrawn_label.Statement.{statement}
-use Rattle.session.proofs.withdrawn_label.Tie as tie
+use Rattle.session.proofs.withdrawn_removal.Statement.{statement}
+use Rattle.session.proofs.withdrawn_removal.Tie as tie
 
 prewrites-requires : tie.Need-prewrites-requires
 prewrites-requires c κs = search needs
@@ -21,8 +21,8 @@ commits-requires c κs = search needs
 returns : tie.Need-returns
 returns c = search needs
 
-pub withdrawn-label-spec : {M : Type 1} → statement M
-withdrawn-label-spec =
+pub withdrawn-removal-spec : {M : Type 1} → statement M
+withdrawn-removal-spec =
     tie.close
     (tie.spec
     prewrites-requires
