@@ -17,11 +17,31 @@ const TRIES: usize = 20;
 /// and below stamps of their key. Each key and start has one line, and a row stands for each Put alone. The entries stand
 /// in any order.
 pub fn few_keys(random: &mut Random, stock: &Stock) -> Image {
+    drawn(random, stock, |random| {
+        let long = random.percent(15);
+        let chain = if long { *random.pick(&[4, 5, 15, 16, 17, 18]) } else { random.below(4) };
+        (chain, if long && random.percent(50) { &[1] } else { &[1, 1, 2, 3] })
+    })
+}
+
+/// The same with chains of Rollbacks above all.
+pub fn few_chains(random: &mut Random, stock: &Stock) -> Image {
+    drawn(random, stock, |random| {
+        let kinds: [&[u8]; 3] = [&[1, 2, 3, 3, 3], &[1, 3, 3, 3, 3, 3, 3, 3, 3], &[3]];
+        (*random.pick(&[1, 2, 3, 4, 5, 6, 9, 17]), *random.pick(&kinds))
+    })
+}
+
+/// How many records a key has, and of which kinds these are drawn.
+type Chain = (usize, &'static [u8]);
+
+fn drawn(random: &mut Random, stock: &Stock, chain: impl Fn(&mut Random) -> Chain) -> Image {
     let table = table_of(random.pick::<Bytes>(&stock.keys));
     let mut image = Image { table, ..Image::default() };
     for key in stock.keys.iter().filter(|key| table_of(key) == table) {
         if random.percent(85) {
-            one_key(random, stock, &mut image, key);
+            let chain = chain(random);
+            one_key(random, stock, &mut image, key, chain);
         }
     }
     let order = *random.pick(&ORDERS);
@@ -29,11 +49,8 @@ pub fn few_keys(random: &mut Random, stock: &Stock) -> Image {
     image
 }
 
-fn one_key(random: &mut Random, stock: &Stock, image: &mut Image, key: &Bytes) {
+fn one_key(random: &mut Random, stock: &Stock, image: &mut Image, key: &Bytes, (chain, kinds): Chain) {
     let mut writes: BTreeMap<u64, RawRecord> = BTreeMap::new();
-    let long = random.percent(15);
-    let chain = if long { *random.pick(&[4, 5, 15, 16, 17, 18]) } else { random.below(4) };
-    let kinds: &[u8] = if long && random.percent(50) { &[1] } else { &[1, 1, 2, 3] };
     let span = chain + 10;
     for _ in 0..TRIES * chain {
         if writes.len() < chain {

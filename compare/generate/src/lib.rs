@@ -4,6 +4,7 @@
 //! and longer than 65,535 bytes, damaged traces.
 
 pub mod batch;
+pub mod chains;
 mod damage;
 pub mod faults;
 mod grow;
@@ -79,6 +80,8 @@ pub enum Kind {
     Odd,
     /// Calls that meet another's lock.
     Held,
+    /// Reads of keys with many records.
+    Chains,
     /// Single forms above all, with keys and rows of odd lengths.
     Singles,
     /// Images, sound, sick and faulty, with the store's figures between.
@@ -97,11 +100,12 @@ pub enum Kind {
     Edge,
 }
 
-const KINDS: [(Kind, usize); 10] = [
-    (Kind::Fresh, 230),
-    (Kind::Odd, 295),
-    (Kind::Held, 60),
-    (Kind::Images, 150),
+const KINDS: [(Kind, usize); 11] = [
+    (Kind::Fresh, 215),
+    (Kind::Odd, 275),
+    (Kind::Held, 65),
+    (Kind::Chains, 50),
+    (Kind::Images, 130),
     (Kind::Hostile, 40),
     (Kind::Room, 70),
     (Kind::Large, 10),
@@ -117,13 +121,14 @@ pub fn kind_of(seed: u64) -> Kind {
 }
 
 /// The trace of a seed. A full box costs a driver as much time as thousands of reads and shows restore alone, so where
-/// images are what is read, most of these give way to small ones. One trace in eleven, and where the changing ops are
+/// images are what is read, most of these give way to small ones. One trace in twelve, and where the changing ops are
 /// single forms alone every second, is about these. Where restore stands alone, all that would be about calls is about images.
 pub fn trace(seed: u64, ops: Ops) -> Bytes {
     let kind = match kind_of(seed) {
         Kind::Room | Kind::Large if ops.reads_images() && !seed.is_multiple_of(8) => Kind::Odd,
+        Kind::Chains if !ops.has(1) && !ops.restores_alone() => Kind::Odd,
         Kind::Fresh if ops.restores_alone() => Kind::Images,
-        Kind::Odd | Kind::Held if ops.restores_alone() => Kind::Hostile,
+        Kind::Odd | Kind::Held | Kind::Chains if ops.restores_alone() => Kind::Hostile,
         Kind::Fresh | Kind::Odd if ops.singles_alone() => Kind::Singles,
         Kind::Fresh | Kind::Odd if ops == Ops::all() && seed.is_multiple_of(6) => Kind::Singles,
         kind => kind,
@@ -148,6 +153,7 @@ pub fn trace_of(kind: Kind, seed: u64, ops: Ops) -> Bytes {
             some_calls(&mut maker, 4, if ops.reads_images() { 200 } else { 35 });
         }
         Kind::Held => maker.held(),
+        Kind::Chains => maker.chains(),
         Kind::Singles => single_forms(&mut maker),
         Kind::Images => {
             for _ in 0..maker.random.between(1, 6) {

@@ -37,7 +37,7 @@ impl Maker {
     /// Does the call show a row or a lock?
     fn shows(&self, call: &Call) -> bool {
         match call {
-            Call::Read { moment, key } => matches!(self.store.read(*moment, key), Ok(Some(_))),
+            Call::Read { moment, key } => matches!(self.store.read(*moment, key).shown, Ok(Some(_))),
             Call::OneIntent { moment, key } => matches!(self.store.one_intent(*moment, key), Ok(Some(_))),
             _ => false,
         }

@@ -77,7 +77,7 @@ impl Maker {
             33 => Call::Statistics,
             _ => Call::Marks,
         };
-        let look_after = (6..=12).contains(&op) && self.random.percent(25);
+        let look_after = (6..=12).contains(&op) && self.random.percent(if op == 12 { 60 } else { 25 });
         self.push(call);
         if look_after {
             self.look_after();

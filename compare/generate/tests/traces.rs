@@ -8,7 +8,7 @@ use paper::answer::LOCKED;
 use paper::restore::Image;
 use paper::room::{DEFAULTS, LINES, LIVE_BYTES, LOCKS, Use};
 use paper::run::{run_call, run_trace};
-use paper::store::Store;
+use paper::store::{Kind as StoredKind, Store};
 use paper::trace::{Call, MOST_BYTES, read_trace, write_trace};
 
 #[test]
@@ -86,7 +86,7 @@ fn single_forms_come_with_every_length() {
             match call {
                 Call::Prewrite { key, kind, row, .. } => {
                     count("key", &key);
-                    count(if kind == paper::store::Kind::Put { "Put row" } else { "Delete row" }, &row);
+                    count(if kind == StoredKind::Put { "Put row" } else { "Delete row" }, &row);
                 }
                 Call::Commit { key, .. } | Call::Rollback { key, .. } => count("key", &key),
                 _ => {}
@@ -121,6 +121,28 @@ fn every_call_meets_locks_of_every_sort() {
     }
     assert_eq!(held.len(), 18, "no other op and no other kind: {held:?}");
     assert!(lives.len() >= 300 && lives.last() == Some(&u64::MAX), "{} times to live", lives.len());
+}
+
+/// Of the reads, a third meet several records of their key by the moment, a Rollback among them, and some
+/// more than one byte can count.
+#[test]
+fn reads_meet_chains() {
+    let (mut all, mut several, mut most) = (0, 0, 0);
+    for seed in 0..3000 {
+        let mut store = Store::default();
+        for call in read_trace(&trace(seed, Ops::all())).unwrap_or_default() {
+            let count = run_call(&mut store, &call).count;
+            if let Call::Read { moment, key } = call {
+                let by = store.records_by(moment, &key);
+                let met = by.len() > 1 && by.iter().any(|(_, record)| record.kind == StoredKind::Rollback);
+                all += 1;
+                several += usize::from(met);
+                most = most.max(count);
+            }
+        }
+    }
+    assert!(several * 3 >= all, "{several} of {all}");
+    assert!(most > 255, "{most} at most");
 }
 
 #[test]

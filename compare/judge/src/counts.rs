@@ -1,6 +1,6 @@
-//! What was compared: the calls by op; those on a box that is just full, those that meet a lock, and those that pack the
-//! area anew; the single forms by the lengths that a batch's length byte sets apart; the restores by the order of their
-//! entries, by the answer and by what makes the image sick.
+//! What was compared: the calls by op; those on a box that is just full, those that meet a lock, the reads by the records
+//! that they examine, and the calls that pack the area anew; the single forms by the lengths that a batch's length byte
+//! sets apart; the restores by the order of their entries, by the answer and by what makes the image sick.
 
 use std::collections::BTreeMap;
 
@@ -16,6 +16,7 @@ use paper::store::Store;
 use paper::trace::{Call, read_trace};
 
 use crate::held::Held;
+use crate::reads::Reads;
 
 #[derive(Default)]
 pub struct Counts {
@@ -24,6 +25,7 @@ pub struct Counts {
     full: [u64; 4],
     no_room: u64,
     held: Held,
+    reads: Reads,
     repacks: BTreeMap<u8, u64>,
     lengths: BTreeMap<usize, u64>,
     restores: BTreeMap<&'static str, BTreeMap<u8, u64>>,
@@ -45,6 +47,7 @@ impl Counts {
             *self.repacks.entry(call.op()).or_default() += u64::from(packed);
             self.no_room += u64::from(answer.number == NO_ROOM);
             self.held.take(&mut store, call, &answer);
+            self.reads.take(&store, call, &answer);
             match call {
                 Call::Prewrite { key, row, .. } => self.take_lengths(&[key.len(), row.len()]),
                 Call::Commit { key, .. } | Call::Rollback { key, .. } => self.take_lengths(&[key.len()]),
@@ -104,6 +107,7 @@ impl Counts {
             self.no_room
         );
         self.held.print();
+        self.reads.print();
         let packed = |op: &u8| format!("{op} x{}", self.repacks.get(op).unwrap_or(&0));
         let packed: Vec<String> = repacks::OPS.iter().map(packed).collect();
         println!("calls that pack the area anew, by op: {}", packed.join(", "));

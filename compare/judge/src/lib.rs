@@ -7,6 +7,7 @@ mod counts;
 mod held;
 pub mod length;
 pub mod one;
+mod reads;
 pub mod rust_side;
 pub mod sample;
 pub mod shrink;

@@ -36,6 +36,10 @@ pub fn agrees(call: &Call, paper: &Answer, said: &Outcome) -> bool {
         Call::Page { buffer, .. } | Call::IntentPage { buffer, .. } | Call::Conflicting { buffer, .. } => Some(*buffer),
         _ => None,
     };
+    // "Other refusals still count 0": an error of the Rust's has no count. At a record a read's 9 counts, in no store of ours.
+    if paper.count != 0 && !matches!(paper.number, 0 | CONTRADICTION) {
+        return false;
+    }
     match (paper.number, said) {
         (0, Outcome::Accepted { count, payload }) => match buffer {
             Some(_) => *count == paper.count && paper.payload.starts_with(payload),

@@ -73,7 +73,10 @@ fn holder(text: &str) -> Option<(u64, u64)> {
 /// One call on mvcc.rs.
 pub fn run_rust<E: Engine>(engine: &mut E, call: &Call) -> Outcome {
     match call {
-        Call::Read { moment, key } => outcome(engine.read(*moment, key), |row| (0, flagged(row))),
+        Call::Read { moment, key } => {
+            let examined = examined(engine, *moment, key);
+            outcome(engine.read(*moment, key), |row| (examined, flagged(row)))
+        }
         Call::OneIntent { moment, key } => {
             outcome(engine.one_intent(*moment, key), |lock| (0, flagged(lock.map(|lock| lock_bytes(&lock)))))
         }
@@ -133,6 +136,15 @@ pub fn run_rust<E: Engine>(engine: &mut E, call: &Call) -> Outcome {
         Call::Statistics => Outcome::Accepted { count: 0, payload: numbers(&engine.statistics()) },
         Call::Marks => Outcome::Accepted { count: 0, payload: numbers(&engine.marks()) },
     }
+}
+
+/// The write records that the Rust's read looks at, which it does not say. Counted here, from its own maps, by change
+/// request 6: "For an answer from a Put or Delete it is one more than the Rollbacks passed over"; where there is none, these.
+fn examined<E: Engine>(engine: &E, moment: u64, key: &[u8]) -> u64 {
+    let (_, _, writes) = engine.maps();
+    let by = || writes.get(key).into_iter().flat_map(|chain| chain.range(..=Timestamp(moment)).rev());
+    let passed = by().take_while(|(_, write)| write.op == WriteKind::Rollback).count();
+    (passed + by().skip(passed).take(1).count()) as u64
 }
 
 fn outcome<T>(result: Result<T>, shown: impl FnOnce(T) -> (u64, Bytes)) -> Outcome {

@@ -4,7 +4,7 @@
 use std::collections::BTreeMap;
 use std::path::Path;
 
-use generate::{Ops, held, hostile, named, repacks, sick, singles};
+use generate::{Ops, chains, held, hostile, named, repacks, sick, singles};
 use paper::area;
 use paper::bend::{Bend, Reach};
 use paper::run::run_trace;
@@ -87,7 +87,7 @@ pub fn write(folder: &str, ops: Ops) -> bool {
         }
     }
     // Last, so that what the drawn traces are taken for does not hang on them.
-    let last = [repacks::cases(), singles::cases(), hostile::cases(), sick::cases(), held::cases()];
+    let last = [repacks::cases(), singles::cases(), hostile::cases(), sick::cases(), held::cases(), chains::cases()];
     for (_, calls) in last.into_iter().flatten() {
         if calls.iter().all(|call| ops.has(call.op())) {
             sample.offer(write_trace(&calls), None);

@@ -43,7 +43,7 @@ fn nothing() -> Outcome {
 }
 
 fn the_row() -> Outcome {
-    Outcome::Accepted { count: 0, payload: [&[1], &ROW[..]].concat() }
+    Outcome::Accepted { count: 1, payload: [&[1], &ROW[..]].concat() }
 }
 
 fn then(before: &[Call], call: Call) -> Vec<Call> {

@@ -107,6 +107,25 @@ bends! {
     ReadNewestDefault "a Put shows the newest default of its key";
     ReadRowUnjudged "a read does not judge the row's form"
         never "only rows in form are stored or restored";
+    // A read's count (miscounted.rs)
+    CountsAllRecords "a read counts all records of its key";
+    CountsAllByMoment "a read counts all records of its key at or below the moment";
+    CountsAboveMoment "a read counts the records above the moment too";
+    CountsTheLock "a read counts its key's lock too";
+    CountsOneMore "a read counts one more than it examined";
+    CountsOneWithoutRecord "a read that meets no record counts 1";
+    CountsNoRollbacks "a read does not count Rollbacks";
+    CountsRollbacksAlone "a read counts the Rollbacks passed over alone";
+    CountStopsAtRollback "a read's count stops at the first Rollback";
+    OnlyRollbacksCountNone "a read that meets Rollbacks alone counts 0";
+    OnlyRollbacksCountOneMore "a read that meets Rollbacks alone counts one more";
+    DeleteCountsNone "a read that a Delete answers counts 0";
+    CountOfOneByte "a read's count is given by its last byte";
+    HeldCountsTheLock "a read that a lock refuses counts 1";
+    HeldCountsRecords "a read that a lock refuses counts the records at or below the moment";
+    RefusingRecordUncounted "a read that is 9 at a record counts 0"
+        never "every call leaves sound records and a row for each Put, and restore refuses others";
+    OneIntentCounts "one intent counts the lock that it shows";
     OneIntentAtAnyMoment "one intent shows a lock above the moment";
     OneIntentStrictlyBelow "one intent hides a lock at the moment";
     OneIntentUnjudged "one intent shows an unsound lock"
@@ -138,6 +157,8 @@ bends! {
     PageTenNever "a byte limit below the first entry gives an empty page with more";
     PageByteStopWithoutMore "a stop at the byte limit says no more";
     PageCountIsRows "a page's count is its rows";
+    PageCountsRecords "a page's count is the records that its reads examined";
+    PageCountAddsRecords "a page's count is its bytes and the records that its reads examined";
     EmptyPageNeedsNoBuffer "resume at or past end is accepted with a short buffer too";
     BufferOneLonger "a buffer just as long as the page is 12";
     BufferRestZeroed "bytes beyond the page are zeroed";

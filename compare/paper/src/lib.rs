@@ -1,7 +1,7 @@
 //! The paper: an own reading of document 01 in plain Rust over maps.
 //!
-//! Each module is one paragraph of document 01; sick.rs is what change request 3 adds to Restore, and answer.rs has the
-//! holder of change request 9. Above each step stands the sentence it carries out, in quotes, in the order of the paper, so
+//! Each module is one paragraph of document 01; sick.rs is what change request 3 adds to Restore, read.rs has the
+//! count of change request 6 and answer.rs the holder of change request 9. Above each step stands the sentence it carries out, in quotes, in the order of the paper, so
 //! that a reader holding 01 can lay the two side by side. Where 01 leaves room, docs/DECISIONS.md has the reading.
 //!
 //! Nothing here is made for speed: a call that changes the box works out the box it would leave and takes it over
@@ -15,6 +15,7 @@ mod bend_list;
 pub mod commit;
 pub mod figures;
 pub mod form;
+mod miscounted;
 mod misnamed;
 mod misread;
 pub mod one_step;

@@ -25,6 +25,8 @@ struct Page {
     entries: Bytes,
     cost: u64,
     more: bool,
+    /// The records that its reads examined; asked by bends alone.
+    examined: u64,
     /// Resume stood at or past end; asked by a bend alone.
     past_end: bool,
 }
@@ -89,6 +91,12 @@ impl Page {
         }
         if bent(Bend::PageCountIsRows) {
             return Ok(self.count as u64);
+        }
+        if bent(Bend::PageCountsRecords) {
+            return Ok(self.examined);
+        }
+        if bent(Bend::PageCountAddsRecords) {
+            return Ok(length as u64 + self.examined);
         }
         Ok(length as u64)
     }
@@ -190,7 +198,9 @@ impl Store {
                 break;
             }
             // "Each key is read first, and its refusal refuses the page even if the page is already full."
-            let shown = match self.read_key(moment, key) {
+            let looked = self.read_key(moment, key);
+            page.examined += looked.examined;
+            let shown = match looked.shown {
                 Err(refusal) if refusal.number == LOCKED && bent(Bend::PageSkipsLockedKeys) => None,
                 read => read?,
             };

@@ -7,6 +7,7 @@ use crate::commit::Commit;
 use crate::form::Reader;
 use crate::misnamed::{beside, misnamed};
 use crate::prewrite::Prewrite;
+use crate::read::Looked;
 use crate::store::{Bytes, Store};
 use crate::trace::{Call, read_trace};
 
@@ -25,13 +26,18 @@ pub fn run_call(store: &mut Store, call: &Call) -> Answer {
 
 fn answer_of(store: &mut Store, call: &Call) -> Answer {
     match call {
-        Call::Read { moment, key } => match store.read(*moment, key) {
-            Ok(shown) => Answer::accepted(0, flagged(shown.cloned())),
-            Err(refusal) => Answer::refused(refusal, flagged(None)),
-        },
+        Call::Read { moment, key } => {
+            // "Each read also reports the number of write records it examined", refused or not.
+            let Looked { shown, examined } = store.read(*moment, key);
+            let answer = match shown {
+                Ok(row) => Answer::accepted(0, flagged(row.cloned())),
+                Err(refusal) => Answer::refused(refusal, flagged(None)),
+            };
+            Answer { count: examined, ..answer }
+        }
         Call::OneIntent { moment, key } => match store.one_intent(*moment, key) {
             Ok(shown) => Answer::accepted(
-                0,
+                u64::from(shown.is_some() && bent(Bend::OneIntentCounts)),
                 flagged(shown.map(|lock| {
                     let mut bytes = Bytes::new();
                     lock.write(&mut bytes);

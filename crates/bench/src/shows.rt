@@ -9,7 +9,8 @@ use std::num::wrapping_add_u64;
 pub fn read_once(store: Store, area: &[u8; AREA], key: &[u8], moment: u64) -> u64
     requires { ⌜ Made store (now area) ⌝ }
 {
-    let seen = mvcc::read(store, area, key, moment);
+    let reading = mvcc::read(store, area, key, moment);
+    let seen = reading.seen;
     of_seen(seen, mvcc::row_of(area, seen))
 }
 

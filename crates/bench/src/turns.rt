@@ -71,7 +71,25 @@ fn change_call(
 }
 
 // A call that changes the store is made on a copy of the area, so that all start from the same box. Only the bytes below the store's top are
-// copied: a store depends on none above it.
+// copied: a store depends on none above it. This stands by itself, so that no copy of the table which it makes falls on a call that shows something.
+fn change_on_copy(
+    store: Store,
+    area: &[u8; AREA],
+    copy: &mut [u8; AREA],
+    image: &[u8],
+    s: &[u8],
+    a: Asked,
+    way: u8,
+) -> u64
+    requires { ⌜ (TurnAsks store (now area) (now copy)) × (AskedIn (length (now s)) a) ⌝ }
+    ensures { λ _. ⌜ length (now (copy .exit)) ≡ 131072 ⌝ }
+{
+    let top = store.top;
+    copy_below(area, copy, top);
+    change_call(store, copy, image, s, a, way)
+}
+
+// One call, of either sort.
 fn one_call(
     store: Store,
     area: &[u8; AREA],
@@ -89,9 +107,7 @@ fn one_call(
     if way < 4 {
         return show_call(store, area, out, s, a, way, turn);
     }
-    let top = store.top;
-    copy_below(area, copy, top);
-    change_call(store, copy, image, s, a, way)
+    change_on_copy(store, area, copy, image, s, a, way)
 }
 
 fn one_turn(

@@ -80,7 +80,11 @@ module _ (w : Lent) where
   fresh-once (started s) (started t) a b = same w (started s) (started t) refl refl refl refl (a .shown ∙ sym (b .shown)) refl
 
   pub read-once : (k : Key) (m : ℕ) → Once w (reading k m)
-  read-once k m (seen s x) (seen t y) a b = let e = one-reply (a .0) (b .0) in same w (seen s x) (seen t y) (ap answerOf e) refl (ap rowIn e) (one-row (a .0) (b .0) (a .1) (b .1)) refl refl
+  read-once k m (seen s x) (seen t y) a b =
+      let p = a .0 .seen-as in
+      let q = b .0 .seen-as in
+      let e = one-reply p q in
+      same w (seen s x) (seen t y) (ap answerOf e) (a .0 .count-is ∙ sym (b .0 .count-is)) (ap rowIn e) (one-row p q (a .1) (b .1)) refl refl
 
   pub intent-once : (k : Key) (m : ℕ) → Once w (pointing k m)
   intent-once k m (pointed s x) (pointed t y) a b = let e = one-lock (a .0) (b .0) in same w (pointed s x) (pointed t y) (ap answerOf e) refl (ap lockIn e) (one-primary (a .0) (b .0) (a .1) (b .1)) refl refl

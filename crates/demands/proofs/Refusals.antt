@@ -1,28 +1,36 @@
 -- Demand 1, its second half: whatever the public call, a refusal leaves store, area and buffer as they were, counts nothing and shows nothing.
 -- Assumes nothing.
+use Prim.Native.Nat.{ℕ}
 use mathlib.Core.Path.{_≡_, refl, ap, _∙_}
 use mathlib.Core.Bool.{Bool, true, false}
+use mathlib.Core.List.{[]}
 use lib.ListN.{length}
 use lib.Dec.{leb}
 use Rattle.forms.specs.Bytes.{Bytes}
+use Rattle.forms.specs.Key.{Key}
 use Rattle.rules.specs.declared.answers.Answer.the-variants.{Accepted}
 use Rattle.rules.specs.Answers as answers
-use Rattle.rules.specs.Answers.{Reply}
+use Rattle.rules.specs.Answers.{Reply, answerOf}
+use Rattle.rules.specs.Read.{examine}
 use Rattle.rules.specs.Page.{Page}
 use Rattle.rules.specs.Written.{Written, pageBytes, writeIf, written, keyRowBytes, keyLockBytes, scanPage, scanIntentPage, scanConflictingIntents}
 use Rattle.rules.specs.Page.{page, intentPage, conflictPage}
 use Rattle.laws.proofs.SettleLaws.{oneStep-refused}
+use Rattle.ledger.proofs.Unmet.{read-count}
 use Rattle.lines.specs.declared.store.Store.{Store}
+use Rattle.lines.proofs.TidyLaws.{built-tidy}
 use Rattle.calls.specs.declared.changed.Changed.{Changed}
 use Rattle.calls.specs.Settled.{Untouched}
 use Rattle.reads.specs.declared.seen.Seen.{Seen}
 use Rattle.reads.specs.declared.seen.Seen.the-variants as reads
+use Rattle.reads.specs.declared.seen.Reading.{Reading}
 use Rattle.reads.specs.declared.seen.Pointed.{Pointed}
 use Rattle.reads.specs.declared.seen.Pointed.the-variants as points
-use Rattle.reads.specs.Parts.{RowPart, PrimaryPart}
+use Rattle.reads.specs.Seen.{seenIn, ReadAs}
+use Rattle.reads.specs.Parts.{rowPart, RowPart, PrimaryPart}
 use Rattle.pages.specs.declared.calls.Paged.{Paged}
 use Rattle.pages.specs.Paged.{PagedAs}
-use Rattle.demands.specs.Calls.{Lent, boxIn, started, seen, pointed, handed, paged, changed, stepped, counted, marked, nothing, answerIn, Unchanged, Refusals}
+use Rattle.demands.specs.Calls.{Lent, boxIn, started, seen, pointed, handed, paged, changed, stepped, counted, marked, nothing, rowIn, answerIn, Unchanged, Refusals}
 use Rattle.demands.specs.Calls.{starting, reading, pointing, handingRow, handingPrimary, paging, pagingIntents, pagingConflicts, prewritingBatch, committingBatch, rollingBackBatch, oneStepping, restoring, counting, marking}
 
 -- ---- a page
@@ -49,7 +57,7 @@ module _ (w : Lent) where
       record {
         left = ap (λ (x : Bytes). record { store = w .store; area = w .area; buffer = x }) (p .out-is ∙ b .buffer-is);
         box = refl;
-        count = p .count-is ∙ b .count;
+        count = λ _. p .count-is ∙ b .count;
         shown = refl;
         part = refl;
       }
@@ -62,19 +70,31 @@ module _ (w : Lent) where
       ∙ ap (λ (a : Bytes). record { store = w .store; area = a; buffer = w .buffer }) (u .area-is)
 
   changed-left : (r : Changed) (area : Bytes) → Untouched (w .store) (w .area) (r .store) area → Unchanged w (changed r area)
-  changed-left r area u = record { left = both (r .store) area u; box = ap boxIn (both (r .store) area u); count = refl; shown = refl; part = refl }
+  changed-left r area u = record { left = both (r .store) area u; box = ap boxIn (both (r .store) area u); count = λ _. refl; shown = refl; part = refl }
 
   -- ---- a read, and an intent at a point: the store is as it was by their types, and no row is shown
 
-  read-left : (s : Seen) (part : Bytes) → RowPart (w .area) s part → (answerIn w (seen s part) ≡ Accepted → ⊥) → Unchanged w (seen s part)
-  read-left reads.Nothing part p n = absurd (n refl)
-  read-left (reads.Row at len) part p n = absurd (n refl)
-  read-left (reads.Refused a) part p n = record { left = refl; box = refl; count = refl; shown = refl; part = p .is }
+  no-row : (s : Seen) → (answerOf (seenIn (w .area) s) ≡ Accepted → ⊥) → (rowIn (seenIn (w .area) s) ≡ nothing) × (rowPart (w .area) s ≡ [])
+  no-row reads.Nothing n = absurd (n refl)
+  no-row (reads.Row at len) n = absurd (n refl)
+  no-row (reads.Refused a) n = (refl, refl)
+
+  -- what a made store refuses it refuses before its first record
+  read-left : (k : Key) (m : ℕ) (r : Reading) (part : Bytes) → ReadAs (examine k m (boxIn w)) (w .area) r → RowPart (w .area) (r .seen) part → (answerIn w (seen r part) ≡ Accepted → ⊥) → Unchanged w (seen r part)
+  read-left k m r part g p n =
+      let z = no-row (r .seen) n in
+      record {
+        left = refl;
+        box = refl;
+        count = λ made. g .count-is ∙ read-count (boxIn w) (built-tidy (made .built)) k m (λ e. n (g .seen-as .answer-is .case-is ∙ e));
+        shown = z .0;
+        part = p .is ∙ z .1;
+      }
 
   intent-left : (s : Pointed) (part : Bytes) → PrimaryPart (w .area) s part → (answerIn w (pointed s part) ≡ Accepted → ⊥) → Unchanged w (pointed s part)
   intent-left points.Nothing part p n = absurd (n refl)
   intent-left (points.Lock i) part p n = absurd (n refl)
-  intent-left (points.Refused a) part p n = record { left = refl; box = refl; count = refl; shown = refl; part = p .is }
+  intent-left (points.Refused a) part p n = record { left = refl; box = refl; count = λ _. refl; shown = refl; part = p .is }
 
 -- ---- the theorem
 
@@ -82,7 +102,7 @@ module _ (w : Lent) where
 pub refusals : Refusals
 unfolding scanPage scanIntentPage scanConflictingIntents
 refusals _ w starting (started s) p n = absurd (n refl)
-refusals _ w (reading k m) (seen s part) p n = read-left w s part (p .1) n
+refusals _ w (reading k m) (seen r part) p n = read-left w k m r part (p .0) (p .1) n
 refusals _ w (pointing k m) (pointed s part) p n = intent-left w s part (p .1) n
 refusals _ w (handingRow s) (handed part) p n = absurd (n refl)
 refusals _ w (handingPrimary s) (handed part) p n = absurd (n refl)
@@ -97,7 +117,7 @@ refusals _ w (oneStepping h s) (stepped r area) p n =
     record {
       left = l;
       box = ap boxIn l;
-      count = p .count-is ∙ oneStep-refused h s (boxIn w) (λ e. n (p .settled .answer-is .case-is ∙ e));
+      count = λ _. p .count-is ∙ oneStep-refused h s (boxIn w) (λ e. n (p .settled .answer-is .case-is ∙ e));
       shown = refl;
       part = refl;
     }

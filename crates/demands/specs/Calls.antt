@@ -15,7 +15,7 @@ use Rattle.rules.specs.declared.figures.Marks.{Marks}
 use Rattle.rules.specs.Answers as answers
 use Rattle.rules.specs.Answers.{Answered, Reply, answerOf}
 use Rattle.rules.specs.Box.{Box, Lock}
-use Rattle.rules.specs.Read.{read}
+use Rattle.rules.specs.Read.{examine}
 use Rattle.rules.specs.Intent.{intentAt}
 use Rattle.rules.specs.Page.{Bounds, Limits}
 use Rattle.rules.specs.Written.{scanPage, scanIntentPage, scanConflictingIntents}
@@ -31,8 +31,9 @@ use Rattle.lines.specs.Made.{Made, FreshStore}
 use Rattle.calls.specs.declared.changed.Changed.{Changed}
 use Rattle.calls.specs.Settled.{Settled}
 use Rattle.reads.specs.declared.seen.Seen.{Seen}
+use Rattle.reads.specs.declared.seen.Reading.{Reading}
 use Rattle.reads.specs.declared.seen.Pointed.{Pointed}
-use Rattle.reads.specs.Seen.{seenIn, SeenAs, pointedIn, PointedAs}
+use Rattle.reads.specs.Seen.{seenIn, ReadAs, pointedIn, PointedAs}
 use Rattle.reads.specs.Parts.{RowPart, PrimaryPart}
 use Rattle.pages.specs.declared.calls.Paged.{Paged}
 use Rattle.pages.specs.Paged.{PagedAs}
@@ -96,8 +97,8 @@ boxIn w = boxOf (w .store) (w .area)
 pub data Given : Sort → Type 0 where
   -- a store for an area
   started : Store → Given aStore
-  -- a read's answer, and the part that `row_of` hands back of it; an intent at a point, and the part that `primary_of` hands back of it
-  seen : Seen → Bytes → Given aRow
+  -- a read's answer with its count, and the part that `row_of` hands back of it; an intent at a point, and the part that `primary_of` hands back
+  seen : Reading → Bytes → Given aRow
   pointed : Pointed → Bytes → Given aLock
   -- a part
   handed : Bytes → Given aPart
@@ -114,7 +115,7 @@ pub data Given : Sort → Type 0 where
 
 abbrev pub answerIn : {o : Sort} → Lent → Given o → Answer
 answerIn w (started s) = Accepted
-answerIn w (seen s part) = answerOf (seenIn (w .area) s)
+answerIn w (seen r part) = answerOf (seenIn (w .area) (r .seen))
 answerIn w (pointed p part) = answerOf (pointedIn (w .area) p)
 answerIn w (handed part) = Accepted
 answerIn w (paged r out) = r .answer
@@ -123,10 +124,11 @@ answerIn w (stepped r area) = r .answer
 answerIn w (counted s) = Accepted
 answerIn w (marked m) = Accepted
 
--- "A writing call also gives the bytes written"; "The count is the number of entries"; a call that gives no count has 0
+-- "A writing call also gives the bytes written"; "The count is the number of entries"; 02, CR 6: "the number of write records it examined"; a call
+-- that gives no count has 0
 abbrev pub countIn : {o : Sort} → Given o → ℕ
 countIn (started s) = 0
-countIn (seen s part) = 0
+countIn (seen r part) = r .count
 countIn (pointed p part) = 0
 countIn (handed part) = 0
 countIn (paged r out) = r .count
@@ -155,7 +157,7 @@ lockIn (answers.refused a) = nothing
 
 abbrev pub shownIn : {o : Sort} → Lent → Given o → Shown
 shownIn w (started s) = nothing
-shownIn w (seen s part) = rowIn (seenIn (w .area) s)
+shownIn w (seen r part) = rowIn (seenIn (w .area) (r .seen))
 shownIn w (pointed p part) = lockIn (pointedIn (w .area) p)
 shownIn w (handed part) = nothing
 shownIn w (paged r out) = nothing
@@ -167,7 +169,7 @@ shownIn w (marked m) = highest m
 -- the stretch of the store's own bytes that is handed back; none is the empty one
 abbrev pub partIn : {o : Sort} → Given o → Bytes
 partIn (started s) = []
-partIn (seen s part) = part
+partIn (seen r part) = part
 partIn (pointed p part) = part
 partIn (handed part) = part
 partIn (paged r out) = []
@@ -180,7 +182,7 @@ partIn (marked m) = []
 -- `&`: of these it is the functions' types that say so, and not their promises.
 abbrev pub after : {o : Sort} → Lent → Given o → Lent
 after w (started s) = record { store = s; area = w .area; buffer = w .buffer }
-after w (seen s part) = w
+after w (seen r part) = w
 after w (pointed p part) = w
 after w (handed part) = w
 after w (paged r out) = record { store = w .store; area = w .area; buffer = out }
@@ -195,7 +197,7 @@ after w (marked m) = w
 abbrev pub Kept : {o : Sort} → Lent → Public o → Given o → Type 0
 -- `fresh` promises it of every area of 131,072 bytes
 Kept w starting (started s) = FreshStore s (w .area)
-Kept w (reading k m) (seen s part) = SeenAs (read k m (boxIn w)) (w .area) s × RowPart (w .area) s part
+Kept w (reading k m) (seen r part) = ReadAs (examine k m (boxIn w)) (w .area) r × RowPart (w .area) (r .seen) part
 Kept w (pointing k m) (pointed p part) = PointedAs (intentAt k m (boxIn w)) (w .area) p × PrimaryPart (w .area) p part
 Kept w (handingRow s) (handed part) = RowPart (w .area) s part
 Kept w (handingPrimary p) (handed part) = PrimaryPart (w .area) p part
@@ -216,12 +218,17 @@ KeptOn st area c g = (buffer : Bytes) → Kept (record { store = st; area = area
 
 -- ---- the demands
 
+-- the only premise of a call
+abbrev pub MadeIn : Lent → Type 0
+MadeIn w = Made (w .store) (w .area)
+
 -- "A refusal changes nothing in store or buffers and shows no row"; "a refusal's counts are 0". `left`: the store is the same value, and area
--- and buffer have the same bytes.
+-- and buffer have the same bytes. `count` is said of a made store: a read that is 9 at a record counts it (02, CR 6: "the refusing one
+-- included"), and a made store has no such record.
 pub record Unchanged {o : Sort} (w : Lent) (g : Given o) : Type 0 where
   pub left : after w g ≡ w
   pub box : boxIn (after w g) ≡ boxIn w
-  pub count : countIn g ≡ 0
+  pub count : MadeIn w → countIn g ≡ 0
   pub shown : shownIn w g ≡ nothing
   pub part : partIn g ≡ []
 
@@ -251,10 +258,7 @@ OneOutcome = (o : Sort) (w : Lent) (c : Public o) → Once w c
 abbrev pub OneRefusal : Type 0
 OneRefusal = (o : Sort) (w : Lent) (c : Public o) (g q : Given o) → Kept w c g → Kept w c q → (answerIn w g ≡ Accepted → ⊥) → after w g ≡ after w q
 
--- "A made store stays made": `MadeIn` is the only premise of a call, and whatever call kept its promise leaves it so, refused or not
-abbrev pub MadeIn : Lent → Type 0
-MadeIn w = Made (w .store) (w .area)
-
+-- "A made store stays made": whatever call kept its promise leaves it so, refused or not
 abbrev pub StaysMade : Type 0
 StaysMade = (o : Sort) (w : Lent) (c : Public o) (g : Given o) → Kept w c g → MadeIn w → MadeIn (after w g)
 

@@ -17,6 +17,7 @@ use mvcc::Changed;
 use mvcc::Marks;
 use mvcc::Paged;
 use mvcc::Pointed;
+use mvcc::Reading;
 use mvcc::Seen;
 use mvcc::Stats;
 use mvcc::Stepped;
@@ -29,9 +30,9 @@ pub fn fresh() -> Store
 }
 
 // With whatever part `row_of` hands back of the answer.
-pub fn read(store: Store, area: &[u8; AREA], key: &[u8], moment: u64) -> Seen
+pub fn read(store: Store, area: &[u8; AREA], key: &[u8], moment: u64) -> Reading
     requires { ⌜ Made store (now area) ⌝ }
-    ensures { λ r. ⌜ ((buffer part : Bytes) → Kept (record { store = store; area = now (area .entry); buffer = buffer }) (handingRow r) (handed part) → Kept (record { store = store; area = now (area .entry); buffer = buffer }) (reading (now (key .entry)) moment) (seen r part)) ⌝ }
+    ensures { λ r. ⌜ ((buffer part : Bytes) → Kept (record { store = store; area = now (area .entry); buffer = buffer }) (handingRow (r .seen)) (handed part) → Kept (record { store = store; area = now (area .entry); buffer = buffer }) (reading (now (key .entry)) moment) (seen r part)) ⌝ }
 {
     mvcc::read(store, area, key, moment)
 }

@@ -16,11 +16,11 @@ use Rattle.rules.specs.declared.answers.Answer.the-variants.{Accepted}
 use Rattle.rules.specs.declared.records.Kind.{Kind}
 use Rattle.rules.specs.declared.records.Kind.the-variants.{Put, Delete, Rollback}
 use Rattle.rules.specs.declared.records.Record.{Record}
-use Rattle.rules.specs.Answers.{Reply, answerOf}
+use Rattle.rules.specs.Answers.{answerOf}
 use Rattle.rules.specs.Box.{Lock, Line, Standing, Finished, KeyLine, Default, recordsOf, rowOf, before, ordered}
 use Rattle.rules.specs.Sound.{soundRecord}
 use Rattle.rules.specs.Calls.{decodes}
-use Rattle.rules.specs.Read.{keepIf, atOrBelow, newestFirst, showIf, showRow, oneRecord, walk}
+use Rattle.rules.specs.Read.{keepIf, atOrBelow, newestFirst, showIf, showRow, Examined, oneRecord, walk}
 use Rattle.rules.specs.Page.{Bounds, inBounds, KeyLock, addStanding, locksOf, locksWithin}
 use Rattle.rules.specs.Restore.{allGood}
 use Rattle.laws.specs.Places.{howMany, those}
@@ -55,8 +55,8 @@ newest-is k es m o = ap reverse (up-to-first m (recordsOf k es) (records-ordered
 -- ---- where nothing refuses
 
 -- one record that is sound, and if a Put has a row that decodes
-one-record : (t : Bool) (kind : Kind) (stored : Option Row) (older : Reply Row) → t ≡ true → (kind ≡ Put → decodes stored ≡ true) → answerOf older ≡ Accepted
-    → answerOf (oneRecord t kind (showRow stored) older) ≡ Accepted
+one-record : (t : Bool) (kind : Kind) (stored : Option Row) (older : Examined) → t ≡ true → (kind ≡ Put → decodes stored ≡ true) → answerOf (older .reply) ≡ Accepted
+    → answerOf (oneRecord t kind (showRow stored) older .reply) ≡ Accepted
 unfolding oneRecord showRow showIf
 one-record true Put none older s f a = absurd (false≢true (f refl))
 one-record true Put (some r) older s f a = rw (f refl)
@@ -66,16 +66,16 @@ one-record false kind stored older s f a = absurd (false≢true s)
 
 -- so a walk over such records refuses nothing; `later` are those above
 walk-on : (k : Key) (ds : List Default) (m : ℕ) (ws later : List Record) → ((w : Record) → In w ws → (soundRecord w ≡ true) × (w .kind ≡ Put → decodes (rowOf k (w .start) ds) ≡ true))
-    → answerOf (walk k ds later) ≡ Accepted → answerOf (walk k ds (reverseAux (atOrBelow m ws) later)) ≡ Accepted
+    → answerOf (walk k ds later .reply) ≡ Accepted → answerOf (walk k ds (reverseAux (atOrBelow m ws) later) .reply) ≡ Accepted
 unfolding walk atOrBelow keepIf
 walk-on k ds m [] later h a = a
 walk-on k ds m (w ∷ ws) later h a =
-    by-test (λ t. answerOf (walk k ds (reverseAux (keepIf t w (atOrBelow m ws)) later)) ≡ Accepted) (leb (w .stamp) m)
+    by-test (λ t. answerOf (walk k ds (reverseAux (keepIf t w (atOrBelow m ws)) later) .reply) ≡ Accepted) (leb (w .stamp) m)
     (λ e. walk-on k ds m ws (w ∷ later) (λ v n. h v (inr n)) (one-record (soundRecord w) (w .kind) _ _ (h w (inl refl) .0) (h w (inl refl) .1) a))
     (λ e. walk-on k ds m ws later (λ v n. h v (inr n)) a)
 
 pub walk-accepts : (k : Key) (ds : List Default) (m : ℕ) (ws : List Record) → ((w : Record) → In w ws → (soundRecord w ≡ true) × (w .kind ≡ Put → decodes (rowOf k (w .start) ds) ≡ true))
-    → answerOf (walk k ds (newestFirst m ws)) ≡ Accepted
+    → answerOf (walk k ds (newestFirst m ws) .reply) ≡ Accepted
 unfolding newestFirst walk
 walk-accepts k ds m ws h = walk-on k ds m ws [] h refl
 

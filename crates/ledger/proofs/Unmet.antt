@@ -13,15 +13,16 @@ use borrow.Author.Tests.{eqb-true}
 use Rattle.forms.specs.Key.{Key, keyForm}
 use Rattle.forms.specs.Row.{Row, rowForm}
 use Rattle.forms.specs.Readers.{isSome}
-use Rattle.rules.specs.declared.answers.Answer.the-variants.{Accepted}
+use Rattle.rules.specs.declared.answers.Answer.{Answer}
+use Rattle.rules.specs.declared.answers.Answer.the-variants.{Accepted, No, Held}
 use Rattle.rules.specs.declared.records.Kind.{Kind}
 use Rattle.rules.specs.declared.records.Kind.the-variants.{Put, Delete, Rollback}
 use Rattle.rules.specs.declared.records.Record.{Record}
 use Rattle.rules.specs.Box.{Box, Lock, Line, Standing, Finished, KeyLine, Default, kindIn, lineIs, atPair, eqKind, recordsOf, lockOf, rowOf}
 use Rattle.rules.specs.Sound.{soundRecord, soundLock, allSound}
-use Rattle.rules.specs.Answers.{answerOf}
+use Rattle.rules.specs.Answers.{answerOf, ifPassed, countIf}
 use Rattle.rules.specs.Calls.{owns, allBelow, kindReady, decodes, lockAt, stampedAt}
-use Rattle.rules.specs.Read.{newestFirst, walk}
+use Rattle.rules.specs.Read.{Examined, newestFirst, walk, readSteps, examine}
 use Rattle.rules.specs.Page.{Bounds, KeyLock, locksOf, locksWithin}
 use Rattle.rules.specs.Commit.{withStart, putHasRow}
 use Rattle.rules.specs.Rollback.{rollbackRecords}
@@ -62,6 +63,13 @@ has-row Put none f = f
 has-row Put (some r) f = refl
 has-row Delete stored f = refl
 has-row Rollback stored f = refl
+
+-- steps before a walk that accepts: if the whole refuses, they do
+refusal-counts : (a : Answer) (x : Examined) → answerOf (x .reply) ≡ Accepted → (answerOf (ifPassed a (x .reply)) ≡ Accepted → ⊥) → countIf a (x .count) ≡ 0
+unfolding ifPassed countIf
+refusal-counts Accepted x e n = absurd (n e)
+refusal-counts (No m) x e n = refl
+refusal-counts (Held h) x e n = refl
 
 module _ (b : Box) (v : Tidy b) where
   -- ---- a pair's lines and rows
@@ -133,8 +141,13 @@ module _ (b : Box) (v : Tidy b) where
   -- ---- the steps
 
   -- Read and row page, "each checked (9)" and "Put, its default must exist and decode (9)": records are sound, and a Put's row decodes
-  pub read-walk : (k : Key) (m : ℕ) → answerOf (walk k (b .defaults) (newestFirst m (recordsOf k (b .lines)))) ≡ Accepted
+  pub read-walk : (k : Key) (m : ℕ) → answerOf (walk k (b .defaults) (newestFirst m (recordsOf k (b .lines))) .reply) ≡ Accepted
   read-walk k m = walk-accepts k (b .defaults) m (recordsOf k (b .lines)) (λ w n. (record-sound k w n, λ put. rw put at (record-row k w n)))
+
+  -- so a read that refuses does so before its first record, and counts 0 (02, CR 6)
+  pub read-count : (k : Key) (m : ℕ) → (answerOf (examine k m b .reply) ≡ Accepted → ⊥) → examine k m b .count ≡ 0
+  unfolding examine
+  read-count k m n = refusal-counts (readSteps k m b) (walk k (b .defaults) (newestFirst m (recordsOf k (b .lines)))) (read-walk k m) n
 
   -- Intent page and conflicting intents, "sound (9)": locks are sound; so for one intent at a point, "unsound, 9" (`lock-sound`)
   pub page-sound : (a : Bounds) → allGood (λ (x : KeyLock). soundLock (x .lock)) (locksWithin a (locksOf (b .lines))) ≡ true

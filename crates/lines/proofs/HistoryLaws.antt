@@ -1,6 +1,7 @@
 -- One record more: what a history says then, and what a key has in two lists of lines, one after the other.
 -- Assumes nothing.
-use Prim.Native.Nat.{ℕ, _≤_, _<_}
+use Prim.Native.Nat.{ℕ, _+_, _≤_, _<_}
+use native.Mathlib.Omega.{arith}
 use mathlib.Core.Path.{_≡_, refl, sym, ap, _∙_}
 use mathlib.Core.Bool.{Bool, true, false, _&&_, not, and-true, and-assoc}
 use mathlib.Core.List.{List, [], _∷_, _++_, reverse, reverse-append}
@@ -25,7 +26,7 @@ use Rattle.lines.specs.declared.keys.Looked.{Looked}
 use Rattle.lines.specs.declared.views.Intent.{Intent}
 use Rattle.lines.specs.declared.views.Told.{Told}
 use Rattle.lines.specs.declared.views.Told.the-variants as told
-use Rattle.lines.specs.Looks.{recordIn, said, isIf, orFound, newerBy, noHistory, moreHistory, either, seeLine, notRolled, RowThere, FoundThere, HistoryAt}
+use Rattle.lines.specs.Looks.{recordIn, said, isIf, orFound, newerBy, examinedIf, examinedBy, noHistory, moreHistory, either, seeLine, notRolled, examinedIn, RowThere, FoundThere, HistoryAt}
 
 -- a test of each
 module _ (t : Record → Bool) (all : List Record → Bool) (nil : all [] ≡ true) (cons : (w : Record) (ws : List Record) → all (w ∷ ws) ≡ t w && all ws) where
@@ -49,7 +50,7 @@ module _ (t : Record → Bool) (first : List Record → Option Record) (nil : fi
       go true h = refl
       go false h = h
 
-pub kept-snoc : (m : ℕ) (ws : List Record) (w : Record) → atOrBelow m (ws ++ w ∷ []) ≡ atOrBelow m ws ++ keepIf (leb (w .stamp) m) w []
+kept-snoc : (m : ℕ) (ws : List Record) (w : Record) → atOrBelow m (ws ++ w ∷ []) ≡ atOrBelow m ws ++ keepIf (leb (w .stamp) m) w []
 unfolding atOrBelow keepIf
 kept-snoc m [] w = refl
 kept-snoc m (v ∷ ws) w = go (leb (v .stamp) m) (kept-snoc m ws w)
@@ -58,11 +59,28 @@ kept-snoc m (v ∷ ws) w = go (leb (v .stamp) m) (kept-snoc m ws w)
     go true h = ap (λ (l : List Record). v ∷ l) h
     go false h = h
 
-newest-snoc : (m : ℕ) (ws : List Record) (w : Record) → notRolled (newestFirst m (ws ++ w ∷ [])) ≡ foundIf (leb (w .stamp) m && not (box.eqKind (w .kind) Rollback)) w (notRolled (newestFirst m ws))
-unfolding newestFirst keepIf notRolled foundIf
-newest-snoc m ws w = ap (λ (l : List Record). notRolled (reverse l)) (kept-snoc m ws w) ∙ ap notRolled (reverse-append (atOrBelow m ws) (keepIf (leb (w .stamp) m) w [])) ∙ go (leb (w .stamp) m)
+-- one record more stands in front of the others, where it is at or below the moment
+pub first-more : (m : ℕ) (ws : List Record) (w : Record) → newestFirst m (ws ++ w ∷ []) ≡ keepIf (leb (w .stamp) m) w (newestFirst m ws)
+unfolding newestFirst keepIf
+first-more m ws w = ap reverse (kept-snoc m ws w) ∙ reverse-append (atOrBelow m ws) (keepIf (leb (w .stamp) m) w []) ∙ go (leb (w .stamp) m)
   where
-    go : (b : Bool) → notRolled (reverse (keepIf b w []) ++ reverse (atOrBelow m ws)) ≡ foundIf (b && not (box.eqKind (w .kind) Rollback)) w (notRolled (reverse (atOrBelow m ws)))
+    go : (b : Bool) → reverse (keepIf b w []) ++ reverse (atOrBelow m ws) ≡ keepIf b w (reverse (atOrBelow m ws))
+    go true = refl
+    go false = refl
+
+newest-snoc : (m : ℕ) (ws : List Record) (w : Record) → notRolled (newestFirst m (ws ++ w ∷ [])) ≡ foundIf (leb (w .stamp) m && not (box.eqKind (w .kind) Rollback)) w (notRolled (newestFirst m ws))
+unfolding keepIf notRolled foundIf
+newest-snoc m ws w = ap notRolled (first-more m ws w) ∙ go (leb (w .stamp) m)
+  where
+    go : (b : Bool) → notRolled (keepIf b w (newestFirst m ws)) ≡ foundIf (b && not (box.eqKind (w .kind) Rollback)) w (notRolled (newestFirst m ws))
+    go true = refl
+    go false = refl
+
+examined-snoc : (m : ℕ) (ws : List Record) (w : Record) → examinedIn (newestFirst m (ws ++ w ∷ [])) ≡ examinedIf (leb (w .stamp) m) (box.eqKind (w .kind) Rollback) (examinedIn (newestFirst m ws))
+unfolding keepIf examinedIn
+examined-snoc m ws w = ap examinedIn (first-more m ws w) ∙ go (leb (w .stamp) m)
+  where
+    go : (b : Bool) → examinedIn (keepIf b w (newestFirst m ws)) ≡ examinedIf b (box.eqKind (w .kind) Rollback) (examinedIn (newestFirst m ws))
     go true = refl
     go false = refl
 
@@ -79,8 +97,8 @@ said-if false w old = refl
 
 module _ {top : ℕ} {area : Bytes} {ds : List box.Default} {key : Key} where
   pub history-none : {start stamp : ℕ} → HistoryAt top area ds key start stamp [] noHistory
-  unfolding allBelow withStart stampedAt newestFirst atOrBelow notRolled
-  history-none = record { below = refl; newer = refl; with = refl; at = refl; newest = refl; with-row = tt; at-row = tt; newest-row = tt }
+  unfolding allBelow withStart stampedAt newestFirst atOrBelow notRolled examinedIn
+  history-none = record { below = refl; newer = refl; with = refl; at = refl; newest = refl; examined = refl; with-row = tt; at-row = tt; newest-row = tt }
 
   module _ (w : Written) (r : RowThere top area ds key (w .start) (w .kind) (w .rowat) (w .rowlen)) where
     if-there : (hit : Bool) (old : Found) → FoundThere top area ds key old → FoundThere top area ds key (isIf hit w old)
@@ -104,6 +122,7 @@ module _ {top : ℕ} {area : Bytes} {ds : List box.Default} {key : Key} where
       newest =
           said-if (leb (w .stamp) stamp && not (box.eqKind (w .kind) Rollback)) w (h .newest) ∙ ap (foundIf (leb (w .stamp) stamp && not (box.eqKind (w .kind) Rollback)) (recordIn w)) (v .newest)
           ∙ sym (newest-snoc stamp ws (recordIn w));
+      examined = ap (examinedIf (leb (w .stamp) stamp) (box.eqKind (w .kind) Rollback)) (v .examined) ∙ sym (examined-snoc stamp ws (recordIn w));
       with-row = or-there (h .with) (eqb start (w .start)) (v .with-row);
       at-row = or-there (h .at) (eqb stamp (w .stamp)) (v .at-row);
       newest-row = if-there (leb (w .stamp) stamp && not (box.eqKind (w .kind) Rollback)) (h .newest) (v .newest-row);
@@ -117,6 +136,21 @@ module _ (old : Found) (moment : ℕ) (w : Written) where
 
   pub newer-kind : {k : Kind} → w .stamp ≤ moment → w .kind ≡ k → isIf (not (box.eqKind k Rollback)) w old ≡ newerBy old moment w
   newer-kind {k} h q = rw (le-leb (w .stamp) moment h, q)
+
+-- ---- `examined_by`
+
+module _ (old moment : ℕ) (w : Written) where
+  pub examined-late : moment < w .stamp → old ≡ examinedBy old moment w
+  examined-late h = rw (lt-leb (w .stamp) moment h)
+
+  pub examined-kind : {k : Kind} → w .stamp ≤ moment → w .kind ≡ k → examinedIf true (box.eqKind k Rollback) old ≡ examinedBy old moment w
+  examined-kind {k} h q = rw (le-leb (w .stamp) moment h, q)
+
+-- one more at most
+pub examined-few : (t r : Bool) (old : ℕ) → examinedIf t r old ≤ old + 1
+examined-few true true old = omega arith
+examined-few true false old = omega arith
+examined-few false r old = omega arith
 
 -- ---- `see`
 

@@ -9,7 +9,7 @@ use mathlib.Core.Logic.{inl, inr}
 use mathlib.Core.Bool.{Bool, true, false}
 use mathlib.Core.List.{List, [], _∷_, _++_, append-nil}
 use mathlib.Core.Option.{Option, none, some}
-use lib.Dec.{ltb}
+use lib.Dec.{ltb, leb}
 use lib.ListN.{length, getD, take, drop, take-append-drop}
 use lib.Seq.{take-suc, getD-take, length-take-le}
 use borrow.Author.Tests.{ltb-true, ltb-false, le-ltb}
@@ -23,7 +23,7 @@ use Rattle.forms.proofs.Orders.{eqBytes-sym, eqBytes-true, ltBytes-else, ltByte
 use Rattle.rules.specs.declared.records.Record.{Record}
 use Rattle.rules.specs.Box as box
 use Rattle.rules.specs.Box.{startOf, kindIn}
-use Rattle.rules.specs.declared.records.Kind.the-variants.{Put}
+use Rattle.rules.specs.declared.records.Kind.the-variants.{Put, Rollback}
 use Rattle.rules.specs.Calls.{recordFor}
 use Rattle.rules.specs.Read.{keepIf}
 use Rattle.laws.specs.Places.{those, linesBefore}
@@ -42,12 +42,12 @@ use Rattle.lines.specs.declared.views.Told.{Told}
 use Rattle.lines.specs.declared.keys.Locked.the-variants.{Nobody}
 use Rattle.lines.specs.declared.keys.History.{History}
 use Rattle.lines.specs.declared.keys.Looked.{Looked}
-use Rattle.lines.specs.View.{lineIn, past, rowLen, rowIf, keyOf, lineOf, rowIn, defaultIn, stored, boxOf, noSlot}
+use Rattle.lines.specs.View.{eightAt, lineIn, past, rowLen, rowIf, keyOf, lineOf, rowIn, defaultIn, stored, boxOf, noSlot}
 use Rattle.lines.specs.Made.{SlotBelow, Built}
 use Rattle.lines.specs.Looks.{toldIn, toldOf, lockedBy, noHistory, either, seeLine, RowThere, LockThere, HistoryAt, stampLine, recordPlace, LookedAt}
 use Rattle.lines.proofs.ViewLaws.{past-row, lean-row}
 use Rattle.lines.proofs.StoredLaws.{row-held}
-use Rattle.lines.proofs.HistoryLaws.{history-none, history-more, records-append, orLock, lock-append}
+use Rattle.lines.proofs.HistoryLaws.{history-none, history-more, examined-few, records-append, orLock, lock-append}
 
 -- p is the lesser of i and n
 pub record Lesser (i n p : ℕ) : Type 0 where
@@ -76,6 +76,7 @@ pub record Looking (area key : Bytes) (start stamp : ℕ) (slots : List Slot) (n
   pub from : linesBefore key (shown (lineOf area) n slots) ≤ i
   pub first-is : seen .first ≡ linesBefore key (shown (lineOf area) n slots)
   pub place-is : Lesser i (recordPlace key stamp (shown (lineOf area) n slots)) (seen .place)
+  pub few : seen .history .examined ≤ i
   pub lock-is : lockedBy area (seen .lock) ≡ box.lockOf key (take i (shown (lineOf area) n slots))
   pub lock-there : (t : ℕ) → All (SlotBelow t) (take n slots) → LockThere t area (stored (shown (defaultIn area) n slots)) key (seen .lock)
   pub history : (t : ℕ) → All (SlotBelow t) (take n slots) → HistoryAt t area (stored (shown (defaultIn area) n slots)) key start stamp (box.recordsOf key (take i (shown (lineOf area) n slots))) (seen .history)
@@ -185,6 +186,7 @@ module _ {st : Store} {area : Bytes} (b : Built st area) (k : Key) (start stamp 
         from = omega (arith, v .to);
         first-is = f;
         place-is = record { before = λ _. refl; after = λ g. omega (arith, p, f) };
+        few = omega (arith, ap (λ (x : History). x .examined) q);
         lock-is = sym (ap (box.lockOf k) t ∙ none-below k (es b) .0);
         lock-there = λ t a. tt;
         history = λ top a.
@@ -214,6 +216,9 @@ module _ {st : Store} {area : Bytes} (b : Built st area) (k : Key) (start stamp 
         (ap (box.lockOf k) (shown-past (b .lines) (lineOf area) i h), ap (box.recordsOf k) (shown-past (b .lines) (lineOf area) i h))
 
     module _ (l : i < st .load .lines) where
+      pub looking-few : seen .history .examined < 1024
+      looking-few = omega (arith, w .few, b .lines .few)
+
       abbrev here : Slot
       here = slot b i
 
@@ -281,6 +286,7 @@ module _ {st : Store} {area : Bytes} (b : Built st area) (k : Key) (start stamp 
               from = omega (arith, w .from);
               first-is = w .first-is;
               place-is = lesser-more (ltb-true _ _ (sym (stands y q′)));
+              few = omega (arith, w .few);
               lock-is = sym (lock-shown k (take (i + 1) (es b)) _ (ordered-fewer box.before (fewer-take (i + 1) (es b)) (lines-order b)) (rw one-more (subst (λ (x : box.KeyLine). In x (take i (es b) ++ e ∷ [])) (λ j. record { key = eqBytes-true (e .key) k own j; line = q′ j }) (in-last e (take i (es b))))));
               lock-there = λ t a. record { primary-in = primary-here t a h q; row = row-here t a (Standing h) q };
               history = λ t a.
@@ -294,6 +300,7 @@ module _ {st : Store} {area : Bytes} (b : Built st area) (k : Key) (start stamp 
               from = omega (arith, w .from);
               first-is = w .first-is;
               place-is = lesser-either _ (stands y q′) (w .place-is);
+              few = omega (arith, w .few, examined-few (leb (eightAt area (here .at + here .len)) stamp) (box.eqKind (v .kind) Rollback) (seen .history .examined));
               lock-is = w .lock-is ∙ sym (lock-more y q′ ∙ or-none (box.lockOf k (take i (es b))));
               lock-there = w .lock-there;
               history = λ t a.

@@ -80,8 +80,17 @@ orFound Nothing hit w = isIf hit w Nothing
 abbrev pub newerBy : Found → ℕ → Written → Found
 newerBy old moment w = isIf (leb (w .stamp) moment && not (box.eqKind (w .kind) Rollback)) w old
 
+-- "Rollback, go on": of records in the way of a read, a Rollback is one more, and any other begins the count anew
+abbrev pub examinedIf : Bool → Bool → ℕ → ℕ
+examinedIf true true n = n + 1
+examinedIf true false n = 1
+examinedIf false rolled n = n
+
+abbrev pub examinedBy : ℕ → ℕ → Written → ℕ
+examinedBy old moment w = examinedIf (leb (w .stamp) moment) (box.eqKind (w .kind) Rollback) old
+
 abbrev pub noHistory : History
-noHistory = record { below = true; newer = true; with = Nothing; at = Nothing; newest = Nothing }
+noHistory = record { below = true; newer = true; with = Nothing; at = Nothing; newest = Nothing; examined = 0 }
 
 abbrev pub moreHistory : ℕ → ℕ → History → Written → History
 moreHistory start stamp h w = record {
@@ -90,6 +99,7 @@ moreHistory start stamp h w = record {
   with = orFound (h .with) (eqb start (w .start)) w;
   at = orFound (h .at) (eqb stamp (w .stamp)) w;
   newest = newerBy (h .newest) stamp w;
+  examined = examinedBy (h .examined) stamp w;
 }
 
 abbrev pub either : Bool → ℕ → ℕ → ℕ
@@ -108,6 +118,11 @@ seeLine start stamp next seen (told.Finished w) =
 unfoldable pub notRolled : List Record → Option Record
 notRolled [] = none
 notRolled (w ∷ ws) = foundIf (not (box.eqKind (w .kind) Rollback)) w (notRolled ws)
+
+-- how many of them a walk examines: those up to the first that is no Rollback
+unfoldable pub examinedIn : List Record → ℕ
+examinedIn [] = 0
+examinedIn (w ∷ ws) = examinedIf true (box.eqKind (w .kind) Rollback) (examinedIn ws)
 
 -- the row that is stored for the key and the start is that of a Put, and lies below `top` where the lookup says
 pub record RowThere (top : ℕ) (area : Bytes) (ds : List box.Default) (key : Key) (start : ℕ) (kind : Kind) (at len : ℕ) : Type 0 where
@@ -133,6 +148,7 @@ pub record HistoryAt (top : ℕ) (area : Bytes) (ds : List box.Default) (key : K
   pub with : said (h .with) ≡ withStart start ws
   pub at : said (h .at) ≡ stampedAt stamp ws
   pub newest : said (h .newest) ≡ notRolled (newestFirst stamp ws)
+  pub examined : h .examined ≡ examinedIn (newestFirst stamp ws)
   pub with-row : FoundThere top area ds key (h .with)
   pub at-row : FoundThere top area ds key (h .at)
   pub newest-row : FoundThere top area ds key (h .newest)

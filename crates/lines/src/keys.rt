@@ -2,8 +2,9 @@
 // its first line, then a walk over its lines.
 ghost use mathlib.Core.Path.{_≡_};
 ghost use mathlib.Core.Bool.{_&&_};
+ghost use Prim.Native.Nat.{_<_};
 ghost use Rattle.lines.specs.Made.{Built, storeOf};
-ghost use Rattle.lines.specs.Looks.{orFound, newerBy, moreHistory, noHistory, seeLine, LookedAt};
+ghost use Rattle.lines.specs.Looks.{orFound, newerBy, examinedBy, moreHistory, noHistory, seeLine, LookedAt};
 use crate::store::Slot;
 use crate::views::Intent;
 use crate::views::Told;
@@ -32,6 +33,8 @@ pub struct History {
     pub at: Found,
     // the newest at or below the stamp that is no Rollback: what a read sees
     pub newest: Found,
+    // that one, and the Rollbacks above it at or below the stamp: how many a read examines
+    pub examined: usize,
 }
 
 // The lock of a key, if it has one.
@@ -87,8 +90,25 @@ fn newer_by(old: Found, moment: u64, w: Written) -> Found
     }
 }
 
+// "one more than the Rollbacks passed over": the walk goes upward, so each record that is none counts anew.
+fn examined_by(old: usize, moment: u64, w: Written) -> usize
+    requires { ⌜ old < 1024 ⌝ }
+    ensures { λ r. ⌜ r ≡ examinedBy old moment w ⌝ }
+{
+    if moment < w.stamp {
+        return old;
+    }
+    let kind = w.kind;
+    match kind {
+        Kind::Put => 1,
+        Kind::Delete => 1,
+        Kind::Rollback => old + 1,
+    }
+}
+
 // One record more.
 fn see_record(h: History, w: Written, start: u64, stamp: u64) -> History
+    requires { ⌜ h .examined < 1024 ⌝ }
     ensures { λ r. ⌜ r ≡ moreHistory start stamp h w ⌝ }
 {
     let below = both(h.below, w.stamp < start);
@@ -99,12 +119,14 @@ fn see_record(h: History, w: Written, start: u64, stamp: u64) -> History
     let at = or_found(old_at, stamp == w.stamp, w);
     let old_newest = h.newest;
     let newest = newer_by(old_newest, stamp, w);
+    let examined = examined_by(h.examined, stamp, w);
     History {
         below: below,
         newer: newer,
         with: with,
         at: at,
         newest: newest,
+        examined: examined,
     }
 }
 
@@ -117,11 +139,13 @@ fn no_history() -> History
         with: Found::Nothing,
         at: Found::Nothing,
         newest: Found::Nothing,
+        examined: 0,
     }
 }
 
 // One line more of the key, before the place `next`.
 fn see(seen: Looked, line: Told, start: u64, stamp: u64, next: usize) -> Looked
+    requires { ⌜ seen .history .examined < 1024 ⌝ }
     ensures { λ r. ⌜ r ≡ seeLine start stamp next seen line ⌝ }
 {
     match line {

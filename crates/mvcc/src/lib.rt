@@ -25,6 +25,7 @@ pub use pages::scan_page;
 pub use prewrites::prewrite;
 pub use prewrites::prewrite_batch;
 pub use reads::Pointed;
+pub use reads::Reading;
 pub use reads::Seen;
 pub use reads::intent_for_read;
 pub use reads::primary_of;

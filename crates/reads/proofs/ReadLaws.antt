@@ -1,7 +1,9 @@
--- A read of a store whose records are sound and whose rows are in form: the newest record that is no Rollback tells all.
+-- A read of a store whose records are sound and whose rows are in form: the newest record that is no Rollback tells all, and the count is one
+-- more than the Rollbacks passed over.
 -- Assumes nothing.
-use Prim.Native.Nat.{ℕ, _≤_, _<_}
+use Prim.Native.Nat.{ℕ, suc, _≤_, _<_}
 use native.Mathlib.Omega.{arith}
+use native.Mathlib.Numerals.{add-one}
 use mathlib.Core.Path.{_≡_, refl, sym, ap, _∙_, subst}
 use mathlib.Core.Bool.{Bool, true, false, not}
 use mathlib.Core.List.{List, [], _∷_, reverseAux}
@@ -18,11 +20,11 @@ use Rattle.rules.specs.declared.answers.Holder.{Holder}
 use Rattle.rules.specs.declared.records.Kind.{Kind}
 use Rattle.rules.specs.declared.records.Kind.the-variants.{Put, Delete, Rollback}
 use Rattle.rules.specs.declared.records.Record.{Record}
-use Rattle.rules.specs.Answers.{_▸_, need, needOwn, Reply, nothing, answerOf, ifPassed}
+use Rattle.rules.specs.Answers.{_▸_, need, needOwn, Reply, nothing, answerOf, ifPassed, countIf}
 use Rattle.rules.specs.Box as box
 use Rattle.rules.specs.Calls.{foundIf}
 use Rattle.rules.specs.Sound.{soundRecord, allSound}
-use Rattle.rules.specs.Read.{lockLets, keepIf, atOrBelow, newestFirst, showRow, oneRecord, walk, read}
+use Rattle.rules.specs.Read.{lockLets, keepIf, atOrBelow, newestFirst, showRow, Examined, oneRecord, walk, readSteps, examine, read}
 use Rattle.laws.proofs.StepLaws.{answered, and-left, and-right, and-both}
 use Rattle.lines.specs.declared.store.Store.{Store}
 use Rattle.lines.specs.declared.views.Intent.{Intent}
@@ -33,10 +35,11 @@ use Rattle.lines.specs.declared.keys.Locked.the-variants.{Nobody, By}
 use Rattle.lines.specs.declared.keys.Looked.{Looked}
 use Rattle.lines.specs.View.{rowIf, boxOf}
 use Rattle.lines.specs.Made.{Built}
-use Rattle.lines.specs.Looks.{lockIn, said, lockedBy, notRolled, FoundThere, LookedAt}
+use Rattle.lines.specs.Looks.{lockIn, said, lockedBy, notRolled, examinedIf, examinedIn, FoundThere, LookedAt}
 use Rattle.reads.specs.declared.seen.Seen.{Seen}
 use Rattle.reads.specs.declared.seen.Seen.the-variants as seen
-use Rattle.reads.specs.Seen.{seenIn, SeenBelow, SeenAs, newestSeen}
+use Rattle.reads.specs.declared.seen.Reading.{Reading}
+use Rattle.reads.specs.Seen.{seenIn, SeenBelow, ReadAs, unread, newestSeen}
 use Rattle.lines.proofs.SoundLaws.{sound-records, row-shown}
 
 -- ---- "lock with start at or below the moment, 7"
@@ -81,21 +84,31 @@ abbrev showNewest : Key → List box.Default → Option Record → Reply Row
 showNewest k ds none = nothing
 showNewest k ds (some w) = byKind (w .kind) (showRow (box.rowOf k (w .start) ds))
 
-walk-newest : (k : Key) (ds : List box.Default) (ws : List Record) → allSound ws ≡ true → showNewest k ds (notRolled ws) ≡ walk k ds ws
+walk-newest : (k : Key) (ds : List box.Default) (ws : List Record) → allSound ws ≡ true → showNewest k ds (notRolled ws) ≡ walk k ds ws .reply
 unfolding allSound notRolled foundIf walk oneRecord
 walk-newest k ds [] s = refl
 walk-newest k ds (w ∷ ws) s = go (soundRecord w) (w .kind) refl (and-left _ _ s) (walk-newest k ds ws (and-right (soundRecord w) _ s))
   where
-    go : (t : Bool) (n : Kind) → w .kind ≡ n → t ≡ true → showNewest k ds (notRolled ws) ≡ walk k ds ws
-        → showNewest k ds (foundIf (not (box.eqKind n Rollback)) w (notRolled ws)) ≡ oneRecord t n (showRow (box.rowOf k (w .start) ds)) (walk k ds ws)
+    go : (t : Bool) (n : Kind) → w .kind ≡ n → t ≡ true → showNewest k ds (notRolled ws) ≡ walk k ds ws .reply
+        → showNewest k ds (foundIf (not (box.eqKind n Rollback)) w (notRolled ws)) ≡ oneRecord t n (showRow (box.rowOf k (w .start) ds)) (walk k ds ws) .reply
     go t Put e h ih = rw (e, h)
     go t Delete e h ih = rw (e, h)
     go t Rollback e h ih = rw h ih
 
+walk-examined : (k : Key) (ds : List box.Default) (ws : List Record) → allSound ws ≡ true → examinedIn ws ≡ walk k ds ws .count
+unfolding allSound examinedIn walk oneRecord
+walk-examined k ds [] s = refl
+walk-examined k ds (w ∷ ws) s = go (soundRecord w) (w .kind) (and-left _ _ s) (walk-examined k ds ws (and-right (soundRecord w) _ s))
+  where
+    go : (t : Bool) (n : Kind) → t ≡ true → examinedIn ws ≡ walk k ds ws .count → examinedIf true (box.eqKind n Rollback) (examinedIn ws) ≡ oneRecord t n (showRow (box.rowOf k (w .start) ds)) (walk k ds ws) .count
+    go t Put h ih = rw h
+    go t Delete h ih = rw h
+    go t Rollback h ih = rw h (add-one (examinedIn ws) ∙ ap suc ih)
+
 -- ---- the answers
 
-seen-as : {want : Reply Row} {area : Bytes} {r : Seen} → seenIn area r ≡ want → SeenBelow (length area) r → SeenAs want area r
-seen-as e h = record { answer-is = answered (ap (λ (x : Reply Row). answerOf x) e); is = e; within = h }
+read-as : {want : Examined} {area : Bytes} {r : Reading} → seenIn area (r .seen) ≡ want .reply → SeenBelow (length area) (r .seen) → r .count ≡ want .count → ReadAs want area r
+read-as e h n = record { seen-as = record { answer-is = answered (ap (λ (x : Reply Row). answerOf x) e); is = e; within = h }; count-is = n }
 
 if-then : {A : Type 0} (a b : Answer) (r : Reply A) → ifPassed (a ▸ b) r ≡ ifPassed a (ifPassed b r)
 unfolding ifPassed _▸_
@@ -104,13 +117,30 @@ if-then (No n) b r = refl
 if-then (Held h) b r = refl
 
 module _ (k : Key) (m : ℕ) (b : box.Box) where
-  pub read-steps : (t : Bool) → keyForm k ≡ t → read k m b ≡ ifPassed (need t 1) (ifPassed (lockLets m (box.lockOf k (b .lines))) (walk k (b .defaults) (newestFirst m (box.recordsOf k (b .lines)))))
-  unfolding read
+  pub read-steps : (t : Bool) → keyForm k ≡ t → read k m b ≡ ifPassed (need t 1) (ifPassed (lockLets m (box.lockOf k (b .lines))) (walk k (b .defaults) (newestFirst m (box.recordsOf k (b .lines))) .reply))
+  unfolding read examine readSteps
   read-steps t e = if-then (need (keyForm k) 1) (lockLets m (box.lockOf k (b .lines))) _ ∙ rw e
 
-  pub read-invalid : (area : Bytes) → keyForm k ≡ false → SeenAs (read k m b) area (seen.Refused (No 1))
-  unfolding ifPassed need
-  read-invalid area h = seen-as (sym (read-steps false h)) tt
+  -- by what the steps before the walk answer
+  reply-is : {a : Answer} → readSteps k m b ≡ a → ifPassed a (walk k (b .defaults) (newestFirst m (box.recordsOf k (b .lines))) .reply) ≡ examine k m b .reply
+  unfolding examine
+  reply-is e = ap (λ (a : Answer). ifPassed a (walk k (b .defaults) (newestFirst m (box.recordsOf k (b .lines))) .reply)) (sym e)
+
+  count-is : {a : Answer} → readSteps k m b ≡ a → countIf a (walk k (b .defaults) (newestFirst m (box.recordsOf k (b .lines))) .count) ≡ examine k m b .count
+  unfolding examine
+  count-is e = ap (λ (a : Answer). countIf a (walk k (b .defaults) (newestFirst m (box.recordsOf k (b .lines))) .count)) (sym e)
+
+  refused-no : (area : Bytes) {n : ℕ} {r : Reading} → readSteps k m b ≡ No n → r ≡ unread (No n) → ReadAs (examine k m b) area r
+  unfolding ifPassed countIf
+  refused-no area e q = subst (ReadAs (examine k m b) area) (sym q) (read-as (reply-is e) tt (count-is e))
+
+  refused-held : (area : Bytes) {h : Holder} {r : Reading} → readSteps k m b ≡ Held h → r ≡ unread (Held h) → ReadAs (examine k m b) area r
+  unfolding ifPassed countIf
+  refused-held area e q = subst (ReadAs (examine k m b) area) (sym q) (read-as (reply-is e) tt (count-is e))
+
+  pub read-invalid : (area : Bytes) {r : Reading} → keyForm k ≡ false → r ≡ unread (No 1) → ReadAs (examine k m b) area r
+  unfolding readSteps need _▸_
+  read-invalid area h q = refused-no area (rw h) q
 
 module _ {st : Store} {area k : Bytes} {start m : ℕ} {found : Looked} (b : Built st area) (form : keyForm k ≡ true) (f : LookedAt st area k start m found) {lets : Answer} (l : (area : Bytes) → lets ≡ lockLets m (lockedBy area (found .lock))) where
   abbrev ds : List box.Default
@@ -119,17 +149,15 @@ module _ {st : Store} {area k : Bytes} {start m : ℕ} {found : Looked} (b : Bui
   abbrev ws : List Record
   ws = box.recordsOf k (boxOf st area .lines)
 
-  steps : {a : Answer} {r : Reply Row} → lets ≡ a → r ≡ walk k ds (newestFirst m ws) → ifPassed a r ≡ read k m (boxOf st area)
-  unfolding ifPassed need
-  steps {a} e q = sym (read-steps k m (boxOf st area) true form ∙ rw (← f .lock-is, ← l area, e, q))
+  steps : {a : Answer} → lets ≡ a → readSteps k m (boxOf st area) ≡ a
+  unfolding readSteps need _▸_
+  steps {a} e = rw (form, ← f .lock-is, ← l area, e)
 
-  pub read-no : {n : ℕ} → lets ≡ No n → SeenAs (read k m (boxOf st area)) area (seen.Refused (No n))
-  unfolding ifPassed
-  read-no e = seen-as (steps e refl) tt
+  pub read-no : {n : ℕ} {r : Reading} → lets ≡ No n → r ≡ unread (No n) → ReadAs (examine k m (boxOf st area)) area r
+  read-no e q = refused-no k m (boxOf st area) area (steps e) q
 
-  pub read-held : {h : Holder} → lets ≡ Held h → SeenAs (read k m (boxOf st area)) area (seen.Refused (Held h))
-  unfolding ifPassed
-  read-held e = seen-as (steps e refl) tt
+  pub read-held : {h : Holder} {r : Reading} → lets ≡ Held h → r ≡ unread (Held h) → ReadAs (examine k m (boxOf st area)) area r
+  read-held e q = refused-held k m (boxOf st area) area (steps e) q
 
   -- what the newest record that counts shows, with its row
   newest-is : (n : Found) → FoundThere (st .top) area ds k n → seenIn area (newestSeen n) ≡ showNewest k ds (said n)
@@ -150,12 +178,14 @@ module _ {st : Store} {area k : Bytes} {start m : ℕ} {found : Looked} (b : Bui
       go Delete e = rw e tt
       go Rollback e = rw e tt
 
-  pub read-newest : {s : Seen} → lets ≡ Accepted → s ≡ newestSeen (found .history .newest) → SeenAs (read k m (boxOf st area)) area s
-  unfolding ifPassed
+  sound-by : allSound (newestFirst m ws) ≡ true
+  sound-by = sound-newest m ws (sound-records k (boxOf st area .lines) (b .kept .good))
+
+  pub read-newest : {s : Seen} → lets ≡ Accepted → s ≡ newestSeen (found .history .newest) → ReadAs (examine k m (boxOf st area)) area (record { seen = s; count = found .history .examined })
+  unfolding ifPassed countIf
   read-newest e q =
-      subst (SeenAs (read k m (boxOf st area)) area) (sym q)
-      (seen-as
-      (steps e
-      (newest-is (found .history .newest) (f .history .newest-row) ∙ ap (showNewest k ds) (f .history .newest)
-      ∙ walk-newest k ds (newestFirst m ws) (sound-newest m ws (sound-records k (boxOf st area .lines) (b .kept .good)))))
-      (newest-in (found .history .newest) (f .history .newest-row)))
+      subst (λ (s : Seen). ReadAs (examine k m (boxOf st area)) area (record { seen = s; count = found .history .examined })) (sym q)
+      (read-as
+      (newest-is (found .history .newest) (f .history .newest-row) ∙ ap (showNewest k ds) (f .history .newest) ∙ walk-newest k ds (newestFirst m ws) sound-by ∙ reply-is k m (boxOf st area) (steps e))
+      (newest-in (found .history .newest) (f .history .newest-row))
+      (f .history .examined ∙ walk-examined k ds (newestFirst m ws) sound-by ∙ count-is k m (boxOf st area) (steps e)))

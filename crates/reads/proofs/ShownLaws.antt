@@ -7,7 +7,6 @@ use mathlib.Core.Logic.{_↔_}
 use Rattle.forms.specs.Bytes.{Bytes, bytesAt}
 use Rattle.forms.specs.Row.{Row}
 use Rattle.rules.specs.Answers.{shown}
-use Rattle.rules.specs.Box.{Box}
 use Rattle.rules.specs.Read.{read}
 use Rattle.rules.specs.Shown.{Asked, Shows, NewestPut}
 use Rattle.rules.proofs.ShownRows.{shown-rows}
@@ -30,21 +29,19 @@ is-row area (seen.Row at len) part row e p = record { at = at; len = len; answer
 is-row area (seen.Refused a) part row e p = absurd (true≢false (cc))
 
 pub rows-seen : RowsSeen
-rows-seen store area key m s part row made a r p = (out, into)
+unfolding read
+rows-seen store area key m g part row made a r p = (out, into)
   where
-    b : Box
-    b = boxOf store area
-
     theorem : Shows key m (boxOf store area) row ↔ NewestPut key m (boxOf store area) row
     theorem = shown-rows key m (boxOf store area) row (asked store area key m made a)
 
-    shows : RowSeen s part row → Shows key m (boxOf store area) row
+    shows : RowSeen (g .seen) part row → Shows key m (boxOf store area) row
     shows q =
-        let e : read key m (boxOf store area) ≡ shown (bytesAt area (q .at) (q .len)) = sym (r .is) ∙ ap (seenIn area) (q .answers) in
-        e ∙ ap shown (sym (shows-part r p e) ∙ q .hands)
+        let e : read key m (boxOf store area) ≡ shown (bytesAt area (q .at) (q .len)) = sym (r .seen-as .is) ∙ ap (seenIn area) (q .answers) in
+        e ∙ ap shown (sym (shows-part (r .seen-as) p e) ∙ q .hands)
 
-    out : RowSeen s part row → NewestPut key m (boxOf store area) row
+    out : RowSeen (g .seen) part row → NewestPut key m (boxOf store area) row
     out q = theorem .0 (shows q)
 
-    into : NewestPut key m (boxOf store area) row → RowSeen s part row
-    into n = let e = theorem .1 n in is-row area s part row (r .is ∙ e) (shows-part r p e)
+    into : NewestPut key m (boxOf store area) row → RowSeen (g .seen) part row
+    into n = let e = theorem .1 n in is-row area (g .seen) part row (r .seen-as .is ∙ e) (shows-part (r .seen-as) p e)

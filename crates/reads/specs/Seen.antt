@@ -5,15 +5,18 @@ use mathlib.Core.Path.{_≡_}
 use lib.ListN.{length}
 use Rattle.forms.specs.Bytes.{Bytes, bytesAt}
 use Rattle.forms.specs.Row.{Row}
+use Rattle.rules.specs.declared.answers.Answer.{Answer}
 use Rattle.rules.specs.declared.records.Kind.{Kind}
 use Rattle.rules.specs.declared.records.Kind.the-variants.{Put, Delete, Rollback}
 use Rattle.rules.specs.Answers.{Answered, Reply, nothing, shown, refused, answerOf}
 use Rattle.rules.specs.Box.{Lock}
+use Rattle.rules.specs.Read.{Examined}
 use Rattle.lines.specs.Looks.{lockIn}
 use Rattle.lines.specs.declared.keys.Found.{Found}
 use Rattle.lines.specs.declared.keys.Found.the-variants.{Nothing, Is}
 use Rattle.reads.specs.declared.seen.Seen.{Seen}
 use Rattle.reads.specs.declared.seen.Seen.the-variants as seen
+use Rattle.reads.specs.declared.seen.Reading.{Reading}
 use Rattle.reads.specs.declared.seen.Pointed.{Pointed}
 use Rattle.reads.specs.declared.seen.Pointed.the-variants as pointed
 
@@ -35,6 +38,15 @@ pub record SeenAs (want : Reply Row) (area : Bytes) (r : Seen) : Type 0 where
   pub answer-is : Answered (answerOf want) (answerOf (seenIn area r))
   pub is : seenIn area r ≡ want
   pub within : SeenBelow (length area) r
+
+-- a read is this reply, and its count is the definition's: "the number of write records it examined"
+pub record ReadAs (want : Examined) (area : Bytes) (r : Reading) : Type 0 where
+  pub seen-as : SeenAs (want .reply) area (r .seen)
+  pub count-is : r .count ≡ want .count
+
+-- a refusal before the first record: "Other refusals still count 0"
+abbrev pub unread : Answer → Reading
+unread a = record { seen = seen.Refused a; count = 0 }
 
 -- what the newest record that counts shows
 abbrev pub ifPut : Kind → Seen → Seen

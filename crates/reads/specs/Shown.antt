@@ -12,14 +12,15 @@ use Rattle.forms.specs.Key.{Key, keyForm}
 use Rattle.forms.specs.Row.{Row}
 use Rattle.rules.specs.Box.{Box, Lock, recordsOf, lockOf}
 use Rattle.rules.specs.Sound.{allSound}
-use Rattle.rules.specs.Read.{read}
+use Rattle.rules.specs.Read.{examine}
 use Rattle.rules.specs.Shown.{NewestPut}
 use Rattle.lines.specs.View.{boxOf}
 use Rattle.lines.specs.Made.{Made}
 use Rattle.lines.specs.declared.store.Store.{Store}
 use Rattle.reads.specs.declared.seen.Seen.{Seen}
 use Rattle.reads.specs.declared.seen.Seen.the-variants as seen
-use Rattle.reads.specs.Seen.{SeenAs}
+use Rattle.reads.specs.declared.seen.Reading.{Reading}
+use Rattle.reads.specs.Seen.{ReadAs}
 use Rattle.reads.specs.Parts.{RowPart}
 
 -- "with sound records and no lock on the key starting at or before the moment asked, a valid key"
@@ -35,12 +36,12 @@ pub record RowSeen (s : Seen) (part : Bytes) (row : Row) : Type 0 where
   pub answers : s ≡ seen.Row at len
   pub hands : part ≡ row
 
--- the sentence: `s` is what `read` answers, `part` what `row_of` hands back of it
+-- the sentence: `r` is what `read` gives, `part` what `row_of` hands back of it
 abbrev pub RowsSeen : Type 0
 RowsSeen =
-    (store : Store) (area key : Bytes) (moment : ℕ) (s : Seen) (part : Bytes) (row : Row)
+    (store : Store) (area key : Bytes) (moment : ℕ) (r : Reading) (part : Bytes) (row : Row)
     → Made store area
     → AskedOf key moment (boxOf store area)
-    → SeenAs (read key moment (boxOf store area)) area s
-    → RowPart area s part
-    → RowSeen s part row ↔ NewestPut key moment (boxOf store area) row
+    → ReadAs (examine key moment (boxOf store area)) area r
+    → RowPart area (r .seen) part
+    → RowSeen (r .seen) part row ↔ NewestPut key moment (boxOf store area) row

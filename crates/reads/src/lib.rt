@@ -11,4 +11,5 @@ pub use parts::row_of;
 pub use rows::lock_lets;
 pub use rows::read;
 pub use seen::Pointed;
+pub use seen::Reading;
 pub use seen::Seen;

@@ -1,13 +1,14 @@
 // "Read: 1; lock with start at or below the moment, 7; then records from the newest at or below the moment downward, each checked (9):
 // Rollback, go on; Delete, nothing; Put, its default must exist and decode (9), shown." A store's records are sound and its rows in form:
-// no step tests it.
+// no step tests it. The lookup counts the records that a read examines.
 ghost use mathlib.Core.Path.{_≡_};
 ghost use Rattle.forms.specs.Bytes.{Bytes};
-ghost use Rattle.rules.specs.Read.{lockLets, read};
+ghost use Rattle.rules.specs.Read.{lockLets, examine};
 ghost use Rattle.lines.specs.View.{boxOf};
 ghost use Rattle.lines.specs.Made.{Made};
 ghost use Rattle.lines.specs.Looks.{lockedBy};
-ghost use Rattle.reads.specs.Seen.{newestSeen, SeenAs};
+ghost use Rattle.reads.specs.Seen.{newestSeen, unread, ReadAs};
+use crate::seen::Reading;
 use crate::seen::Seen;
 use lines::AREA;
 use lines::Found;
@@ -51,12 +52,22 @@ fn newest_row(newest: Found) -> Seen
     }
 }
 
-pub fn read(store: Store, area: &[u8; AREA], key: &[u8], moment: u64) -> Seen
+// "Other refusals still count 0"
+fn refusal(answer: Answer) -> Reading
+    ensures { λ r. ⌜ r ≡ unread answer ⌝ }
+{
+    Reading {
+        seen: Seen::Refused(answer),
+        count: 0,
+    }
+}
+
+pub fn read(store: Store, area: &[u8; AREA], key: &[u8], moment: u64) -> Reading
     requires { ⌜ Made store (now area) ⌝ }
-    ensures { λ r. ⌜ SeenAs (read (now (key .entry)) moment (boxOf store (now (area .entry)))) (now (area .entry)) r ⌝ }
+    ensures { λ r. ⌜ ReadAs (examine (now (key .entry)) moment (boxOf store (now (area .entry)))) (now (area .entry)) r ⌝ }
 {
     if !forms::key_in_form(key) {
-        return Seen::Refused(Answer::No(1));
+        return refusal(Answer::No(1));
     }
     let lines = store.lines;
     let load = store.load;
@@ -67,9 +78,13 @@ pub fn read(store: Store, area: &[u8; AREA], key: &[u8], moment: u64) -> Seen
         Answer::Accepted => {
             let history = found.history;
             let newest = history.newest;
-            newest_row(newest)
+            let seen = newest_row(newest);
+            Reading {
+                seen: seen,
+                count: history.examined,
+            }
         }
-        Answer::No(n) => Seen::Refused(Answer::No(n)),
-        Answer::Held(h) => Seen::Refused(Answer::Held(h)),
+        Answer::No(n) => refusal(Answer::No(n)),
+        Answer::Held(h) => refusal(Answer::Held(h)),
     }
 }

@@ -9,6 +9,12 @@ pub enum Seen {
     Refused(Answer),
 }
 
+// What a read gives: what is seen, and "the number of write records it examined" (document 02, CR 6).
+pub struct Reading {
+    pub seen: Seen,
+    pub count: usize,
+}
+
 // Of an intent at a point: nothing is shown, or the lock, its primary a stretch of the area, or a refusal.
 pub enum Pointed {
     Nothing,

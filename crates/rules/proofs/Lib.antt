@@ -3,4 +3,5 @@ pub mod SoundLaws
 pub mod RoomLaws
 pub mod Worked
 pub mod ShownRows
+pub mod ExaminedLaws
 pub mod SickImages

@@ -9,6 +9,7 @@ use mathlib.Core.Logic.{_⊎_, inl, inr, _↔_}
 use mathlib.Core.Option.{Option, none, some}
 use lib.Dec.{leb, ltb}
 use borrow.Author.Tests.{ltb-true, leb-true, leb-false, lt-ltb, le-leb}
+use Rattle.seqs.proofs.Tests.{and-left, and-right}
 use Rattle.forms.specs.Bytes.{Bytes, cmp, eqBytes, isEqual}
 use Rattle.forms.specs.Key.{Key, keyForm}
 use Rattle.forms.specs.Row.{Row, rowForm}
@@ -23,16 +24,8 @@ use Rattle.rules.specs.declared.records.Record.{Record}
 use Rattle.rules.specs.Answers.{_▸_, need, needOwn, Reply, nothing, shown, refused, ifPassed}
 use Rattle.rules.specs.Box.{Box, Lock, Line, Standing, Finished, KeyLine, Default, eqKind, holderOf, recordsOf, addRecord, lockOf, rowOf, byOrder, lineBefore, before, allAfter, ordered, inOrder}
 use Rattle.rules.specs.Sound.{soundRecord, allSound}
-use Rattle.rules.specs.Read.{lockLets, keepIf, atOrBelow, newestFirst, showIf, showRow, oneRecord, walk, read}
+use Rattle.rules.specs.Read.{lockLets, keepIf, atOrBelow, newestFirst, showIf, showRow, oneRecord, walk, Examined, readSteps, examine, read}
 use Rattle.rules.specs.Shown.{Asked, Counts, Newest, PutRow, Shows, NewestPut, ShownRows}
-
-and-left : (a b : Bool) → a && b ≡ true → a ≡ true
-and-left true b h = refl
-and-left false b h = h
-
-and-right : (a b : Bool) → a && b ≡ true → b ≡ true
-and-right true b h = h
-and-right false b h = absurd (false≢true h)
 
 -- ---- each of a list, and a list whose stamps fall
 
@@ -178,12 +171,12 @@ show-out (some q) r e = go (rowForm q) refl e
     go true h e = let s : q ≡ r = cc in (ap some s, ap rowForm (sym s) ∙ h)
     go false h e = absurd (true≢false (cc))
 
-walk-out : (k : Key) (ds : List Default) (ws : List Record) (r : Row) → allSound ws ≡ true → Falling ws → walk k ds ws ≡ shown r → (w : Record) × Top ws w × PutRow k ds w r
+walk-out : (k : Key) (ds : List Default) (ws : List Record) (r : Row) → allSound ws ≡ true → Falling ws → walk k ds ws .reply ≡ shown r → (w : Record) × Top ws w × PutRow k ds w r
 unfolding allSound Falling Each walk oneRecord
 walk-out k ds [] r s f e = absurd (true≢false (cc))
 walk-out k ds (w ∷ ws) r s f e = go (w .kind) refl (soundRecord w) (and-left _ _ s) (walk-out k ds ws r (and-right (soundRecord w) _ s) (f .1)) e
   where
-    go : (n : Kind) → w .kind ≡ n → (t : Bool) → t ≡ true → (walk k ds ws ≡ shown r → (v : Record) × Top ws v × PutRow k ds v r) → oneRecord t n (showRow (rowOf k (w .start) ds)) (walk k ds ws) ≡ shown r → (v : Record) × Top (w ∷ ws) v × PutRow k ds v r
+    go : (n : Kind) → w .kind ≡ n → (t : Bool) → t ≡ true → (walk k ds ws .reply ≡ shown r → (v : Record) × Top ws v × PutRow k ds v r) → oneRecord t n (showRow (rowOf k (w .start) ds)) (walk k ds ws) .reply ≡ shown r → (v : Record) × Top (w ∷ ws) v × PutRow k ds v r
     go n q false h rest e = absurd (false≢true h)
     go Put q true h rest e =
         let p = show-out (rowOf k (w .start) ds) r e in
@@ -205,11 +198,11 @@ show-in : (o : Option Row) (r : Row) → o ≡ some r → rowForm r ≡ true →
 unfolding showRow showIf
 show-in o r e h = ap showRow e ∙ ap (λ (t : Bool). showIf t r) h
 
-walk-in : (k : Key) (ds : List Default) (ws : List Record) (w : Record) (r : Row) → allSound ws ≡ true → Falling ws → Top ws w → PutRow k ds w r → walk k ds ws ≡ shown r
+walk-in : (k : Key) (ds : List Default) (ws : List Record) (w : Record) (r : Row) → allSound ws ≡ true → Falling ws → Top ws w → PutRow k ds w r → walk k ds ws .reply ≡ shown r
 unfolding allSound Falling Each walk oneRecord
 walk-in k ds [] w r s f t p = absurd (List·Memᴰ·not-nil (t .among))
 walk-in k ds (x ∷ ws) w r s f t p =
-    ap (λ (b : Bool). oneRecord b (x .kind) (showRow (rowOf k (x .start) ds)) (walk k ds ws)) (and-left (soundRecord x) _ s)
+    ap (λ (b : Bool). oneRecord b (x .kind) (showRow (rowOf k (x .start) ds)) (walk k ds ws) .reply) (and-left (soundRecord x) _ s)
     ∙ go (x .kind) refl (List·Memᴰ·cases-cons (t .among)) (λ j. walk-in k ds ws w r (and-right (soundRecord x) _ s) (f .1) (lower j) p)
   where
     lower : List·Memᴰ w ws → Top ws w
@@ -222,7 +215,7 @@ walk-in k ds (x ∷ ws) w r s f t p =
     at : w ≡ x → showRow (rowOf k (x .start) ds) ≡ shown r
     at q = show-in (rowOf k (x .start) ds) r (ap (λ (z : Record). rowOf k (z .start) ds) (sym q) ∙ p .stored) (p .decodes)
 
-    go : (n : Kind) → x .kind ≡ n → (w ≡ x) ⊎ List·Memᴰ w ws → (List·Memᴰ w ws → walk k ds ws ≡ shown r) → oneRecord true n (showRow (rowOf k (x .start) ds)) (walk k ds ws) ≡ shown r
+    go : (n : Kind) → x .kind ≡ n → (w ≡ x) ⊎ List·Memᴰ w ws → (List·Memᴰ w ws → walk k ds ws .reply ≡ shown r) → oneRecord true n (showRow (rowOf k (x .start) ds)) (walk k ds ws) .reply ≡ shown r
     go Put q i rest = at (first (put-counts x q) i)
     go Delete q i rest =
         let e : w ≡ x = first (ap (λ (n : Kind). eqKind n Rollback) q) i in
@@ -281,11 +274,13 @@ module _ (k : Key) (m : ℕ) (b : Box) (a : Asked k m b) where
   lets none e = refl
   lets (some l) e = ap (λ (t : Bool). needOwn t (holderOf l)) (lt-ltb m (l .start) (a .free l e))
 
-  read-is : read k m b ≡ walk k (b .defaults) (newestFirst m ws)
-  unfolding read ws ifPassed need _▸_
-  read-is =
-      ap (λ (t : Bool). ifPassed (need t 1 ▸ lockLets m (lockOf k (b .lines))) (walk k (b .defaults) (newestFirst m (recordsOf k (b .lines))))) (a .valid)
-      ∙ ap (λ (v : Answer). ifPassed v (walk k (b .defaults) (newestFirst m (recordsOf k (b .lines))))) (lets (lockOf k (b .lines)) refl)
+  steps-pass : readSteps k m b ≡ Accepted
+  unfolding readSteps need _▸_
+  steps-pass = ap (λ (t : Bool). need t 1 ▸ lockLets m (lockOf k (b .lines))) (a .valid) ∙ lets (lockOf k (b .lines)) refl
+
+  read-is : read k m b ≡ walk k (b .defaults) (newestFirst m ws) .reply
+  unfolding read examine ws ifPassed
+  read-is = ap (λ (v : Answer). ifPassed v (walk k (b .defaults) (newestFirst m (recordsOf k (b .lines))) .reply)) steps-pass
 
   top-newest : (w : Record) → Top (newestFirst m ws) w → Newest m ws w
   top-newest w t = record {

@@ -23,7 +23,7 @@ use Rattle.rules.specs.Answers.{number, holder, _▸_, need, needOwn, Re
 use Rattle.rules.specs.Box.{Box, fresh, Lock, Line, Standing, Finished, KeyLine, Default, kindByte, recordsOf, addRecord, lockOf, addLock, rowOf, addRow, before, rowBefore, putIn, insertBy, dropLock, unlessLock, dropRow, unlessRow}
 use Rattle.rules.specs.Sound.{allSound, soundLock}
 use Rattle.rules.specs.Room.{sumOf, loadOf, fits, roomFor}
-use Rattle.rules.specs.Read.{lockLets, keepIf, atOrBelow, newestFirst, showIf, showRow, oneRecord, walk, read}
+use Rattle.rules.specs.Read.{lockLets, keepIf, atOrBelow, newestFirst, showIf, showRow, oneRecord, walk, Examined, readSteps, examine, read}
 use Rattle.rules.specs.Page.{Bounds, Limits, boundsStep, pageArguments, keysOf, keysWithin, onPage, tooLarge, costStep, limitStep, onJudged, pageWalk, unlessPast, readKey, page}
 use Rattle.rules.specs.Written.{keyRowBytes, allBytes, pageBytes, Written, writeIf, written, scanPage}
 use Rattle.rules.specs.Calls.{Done, settle, ofBatch, zeroStep, allBelow, foundIf, stampedAt, recordFor}
@@ -60,11 +60,14 @@ plain n more = n ∷ 0 ∷ 0 ∷ 0 ∷ 0 ∷ more
 sawDone : Done → List ℕ
 sawDone d = saw (d .answer) []
 
--- 0 where nothing is shown, 1 and the row
+-- the count, and 0 where nothing is shown, 1 and the row
 sawRow : Reply Row → List ℕ
-sawRow nothing = saw (answerOf {A = Row} nothing) (0 ∷ [])
-sawRow (shown r) = saw (answerOf (shown r)) (1 ∷ r)
-sawRow (refused a) = saw a (0 ∷ [])
+sawRow nothing = 0 ∷ []
+sawRow (shown r) = 1 ∷ r
+sawRow (refused a) = 0 ∷ []
+
+sawRead : Examined → List ℕ
+sawRead x = saw (answerOf (x .reply)) (x .count ∷ sawRow (x .reply))
 
 sawCount : Counted → List ℕ
 sawCount c = saw (c .done .answer) (c .count ∷ [])
@@ -150,17 +153,19 @@ box11 = prewrite (head 11) (put keyB) box2 .box
 pub table : List Case
 table =
     record { name = "W1 prewrite Put start 10"; got = sawDone (prewriteA 10 fresh); wanted = plain 0 [] } ∷
-    record { name = "W1 read at 9 nothing"; got = sawRow (read keyA 9 box1); wanted = plain 0 (0 ∷ []) } ∷
-    record { name = "W1 read at 10 answer 7 with 7, 10, time to live 1, Put"; got = sawRow (read keyA 10 box1); wanted = 7 ∷ 7 ∷ 10 ∷ 1 ∷ 1 ∷ 0 ∷ [] } ∷
+    record { name = "W1 read at 9 nothing"; got = sawRead (examine keyA 9 box1); wanted = plain 0 (0 ∷ 0 ∷ []) } ∷
+    record { name = "W1 read at 10 answer 7 with 7, 10, time to live 1, Put"; got = sawRead (examine keyA 10 box1); wanted = 7 ∷ 7 ∷ 10 ∷ 1 ∷ 1 ∷ 0 ∷ 0 ∷ [] } ∷
     record { name = "W2 then commit at 12"; got = sawDone (commitA 10 12 box1); wanted = plain 0 [] } ∷
-    record { name = "W2 read at 11 nothing"; got = sawRow (read keyA 11 box2); wanted = plain 0 (0 ∷ []) } ∷
-    record { name = "W2 read at 12 the row"; got = sawRow (read keyA 12 box2); wanted = plain 0 (1 ∷ 0 ∷ 0 ∷ []) } ∷
+    record { name = "W2 read at 11 nothing"; got = sawRead (examine keyA 11 box2); wanted = plain 0 (0 ∷ 0 ∷ []) } ∷
+    record { name = "W2 read at 12 the row"; got = sawRead (examine keyA 12 box2); wanted = plain 0 (1 ∷ 1 ∷ 0 ∷ 0 ∷ []) } ∷
     record { name = "W3 then rollback of start 12: 9"; got = sawDone (rollbackA 12 box2); wanted = plain 9 [] } ∷
     record { name = "W4 after W2, rollback of start 10: 8"; got = sawDone (rollbackA 10 box2); wanted = plain 8 [] } ∷
     record { name = "W5 after W2, prewrite start 12: 8"; got = sawDone (prewriteA 12 box2); wanted = plain 8 [] } ∷
     record { name = "W5 start 13: 0"; got = sawDone (prewriteA 13 box2); wanted = plain 0 [] } ∷
     record { name = "W6 fresh, rollback start 5: 0, one line"; got = saw (rollbackA 5 fresh .answer) (length (box6 .lines) ∷ []); wanted = plain 0 (1 ∷ []) } ∷
     record { name = "W6 again: 0, same state"; got = saw (rollbackA 5 box6 .answer) (flat (rollbackA 5 box6 .box)); wanted = plain 0 (flat box6) } ∷
+    record { name = "02, CR 6: then read at 5, a Rollback passed over"; got = sawRead (examine keyA 5 box6); wanted = plain 0 (1 ∷ 0 ∷ []) } ∷
+    record { name = "02, CR 6: after W2 and a rollback of start 14, read at 14"; got = sawRead (examine keyA 14 (rollbackA 14 box2 .box)); wanted = plain 0 (2 ∷ 1 ∷ 0 ∷ 0 ∷ []) } ∷
     record { name = "W7 then prewrite start 5: 8"; got = sawDone (prewriteA 5 box6); wanted = plain 8 [] } ∷
     record { name = "W8 after W2, one-step (10, 12) of a alone with that row: 0, count 1"; got = sawCount (oneStep (ending 10 12) batchA box2); wanted = plain 0 (1 ∷ []) } ∷
     record { name = "W8 of a and b: 9"; got = sawCount (oneStep (ending 10 12) batchAB box2); wanted = plain 9 (0 ∷ []) } ∷
@@ -198,7 +203,7 @@ roomTable =
 
 -- no row of either table differs
 both : (differing table ≡ []) × (differing roomTable ≡ [])
-unfolding sawLoad locks full roomTable nameUnless differing saw plain sawDone sawRow sawCount sawPage flatLine flatLines flatDefaults flat keyA keyB row put head ending prewriteA commitA rollbackA batchA batchAB noBounds buffer pageAt12 box1 box2 box6 box11 table cmp eqBytes ltBytes readOn _>>=_ just only byte stretch piece upTo times section ended whole numberFrom digits numberOf tableOf keyForm integers texts fields rowForm ofKind mutation above ascend ifAscend batchOf mutations keys fitted oneMutation oneKey _▸_ need needOwn ifPassed fresh recordsOf addRecord lockOf addLock rowOf addRow before rowBefore putIn insertBy dropLock unlessLock dropRow unlessRow allSound soundLock sumOf loadOf fits roomFor lockLets keepIf atOrBelow newestFirst showIf showRow oneRecord walk read boundsStep pageArguments keysOf keysWithin onPage tooLarge costStep limitStep onJudged pageWalk unlessPast readKey page keyRowBytes allBytes pageBytes writeIf written scanPage settle ofBatch zeroStep allBelow foundIf stampedAt headStep lockStep prewriteEntry prewriteEntries storeIf lockLine unlessLocked applyPrewrite applyPrewrites prewriteRoom prewriteSteps prewriteAll prewriteBatch prewrite endingStep withStart commitLock commitStep commitKey commitKeys commitTo applyCommit applyCommits commitSteps commitAll commitBatch commit rollbackRecords rollbackLock rollbackStep rollbackKey rollbackKeys rollbackTo applyRollback applyRollbacks rollbackRoom rollbackSteps rollbackAll rollbackBatch rollback argumentsStep appliedIf appliedBy appliedIn noneOther allApplied someApplied stepLock stepEntry stepEntries newestStep replaceIf applyStep applySteps stepNew stepApplied stepArguments thenApplied countIf stepDone stepAll ofCounted oneStep
+unfolding sawLoad locks full roomTable nameUnless differing saw plain sawDone sawRow sawRead sawCount sawPage flatLine flatLines flatDefaults flat keyA keyB row put head ending prewriteA commitA rollbackA batchA batchAB noBounds buffer pageAt12 box1 box2 box6 box11 table cmp eqBytes ltBytes readOn _>>=_ just only byte stretch piece upTo times section ended whole numberFrom digits numberOf tableOf keyForm integers texts fields rowForm ofKind mutation above ascend ifAscend batchOf mutations keys fitted oneMutation oneKey _▸_ need needOwn ifPassed fresh recordsOf addRecord lockOf addLock rowOf addRow before rowBefore putIn insertBy dropLock unlessLock dropRow unlessRow allSound soundLock sumOf loadOf fits roomFor lockLets keepIf atOrBelow newestFirst showIf showRow oneRecord walk readSteps examine read boundsStep pageArguments keysOf keysWithin onPage tooLarge costStep limitStep onJudged pageWalk unlessPast readKey page keyRowBytes allBytes pageBytes writeIf written scanPage settle ofBatch zeroStep allBelow foundIf stampedAt headStep lockStep prewriteEntry prewriteEntries storeIf lockLine unlessLocked applyPrewrite applyPrewrites prewriteRoom prewriteSteps prewriteAll prewriteBatch prewrite endingStep withStart commitLock commitStep commitKey commitKeys commitTo applyCommit applyCommits commitSteps commitAll commitBatch commit rollbackRecords rollbackLock rollbackStep rollbackKey rollbackKeys rollbackTo applyRollback applyRollbacks rollbackRoom rollbackSteps rollbackAll rollbackBatch rollback argumentsStep appliedIf appliedBy appliedIn noneOther allApplied someApplied stepLock stepEntry stepEntries newestStep replaceIf applyStep applySteps stepNew stepApplied stepArguments thenApplied countIf stepDone stepAll ofCounted oneStep
 both = (refl, refl)
 
 pub worked : differing table ≡ []

@@ -48,6 +48,12 @@ unfoldable pub needOwn : Bool → Holder → Answer
 needOwn true h = Accepted
 needOwn false h = Held h
 
+-- "a refusal's counts are 0"
+unfoldable pub countIf : Answer → ℕ → ℕ
+countIf Accepted n = n
+countIf (No m) n = 0
+countIf (Held h) n = 0
+
 -- what a call that shows something answers: nothing, what is shown, or a refusal
 pub data Reply (A : Type 0) : Type 0 where
   nothing : Reply A

@@ -3,6 +3,7 @@ pub mod Box
 pub mod Sound
 pub mod Room
 pub mod Read
+pub mod Examined
 pub mod Shown
 pub mod Intent
 pub mod Page

@@ -19,6 +19,7 @@ use Rattle.rules.specs.declared.answers.Answer.the-variants.{Accepted, N
 use Rattle.rules.specs.declared.records.Kind.{Kind}
 use Rattle.rules.specs.declared.records.Record.{Record}
 use Rattle.rules.specs.Answers.{_▸_, need, needOwn}
+unfoldable pub use Rattle.rules.specs.Answers.{countIf}
 use Rattle.rules.specs.Box.{Box, Lock, Finished, Default, holderOf, recordsOf, lockOf, rowOf, eqKind, insertLine, insertDefault, dropLock, dropRow}
 use Rattle.rules.specs.Sound.{allSound}
 use Rattle.rules.specs.Room.{roomFor}
@@ -146,12 +147,6 @@ thenApplied (Held o) b d = record { answer = Held o; box = b }
 pub record Counted : Type 0 where
   pub done : Done
   pub count : ℕ
-
--- "a refusal's counts are 0"
-unfoldable pub countIf : Answer → ℕ → ℕ
-countIf Accepted n = n
-countIf (No m) n = 0
-countIf (Held o) n = 0
 
 unfoldable pub stepDone : Ending → List Mutation → Box → Done
 stepDone h ms b = thenApplied (stepArguments h ms b) b (stepApplied (allApplied h b ms) h ms b)

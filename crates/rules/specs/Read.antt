@@ -1,7 +1,9 @@
 -- Document 01: "Read: 1; lock with start at or below the moment, 7; then records from the newest at or below the moment downward, each
 -- checked (9): Rollback, go on; Delete, nothing; Put, its default must exist and decode (9), shown."
+-- Document 02, CR 6: "Each read also reports the number of write records it examined, the refusing one included. Other refusals still count 0,
+-- as does a key .. with no record by the moment. .. The definition's own walk gives the number."
 -- Assumes nothing.
-use Prim.Native.Nat.{ℕ}
+use Prim.Native.Nat.{ℕ, suc}
 use mathlib.Core.Bool.{Bool, true, false}
 use mathlib.Core.List.{List, [], _∷_, reverse}
 use mathlib.Core.Option.{Option, none, some}
@@ -13,7 +15,7 @@ use Rattle.rules.specs.declared.answers.Answer.the-variants.{Accepted, N
 use Rattle.rules.specs.declared.records.Kind.{Kind}
 use Rattle.rules.specs.declared.records.Kind.the-variants.{Put, Delete, Rollback}
 use Rattle.rules.specs.declared.records.Record.{Record}
-use Rattle.rules.specs.Answers.{_▸_, need, needOwn, Reply, nothing, shown, refused, ifPassed}
+use Rattle.rules.specs.Answers.{_▸_, need, needOwn, Reply, nothing, shown, refused, ifPassed, countIf}
 use Rattle.rules.specs.Box.{Box, Lock, Default, holderOf, recordsOf, lockOf, rowOf}
 use Rattle.rules.specs.Sound.{soundRecord}
 
@@ -43,20 +45,33 @@ unfoldable pub showRow : Option Row → Reply Row
 showRow none = refused (No 9)
 showRow (some r) = showIf (rowForm r) r
 
--- "each checked (9): Rollback, go on; Delete, nothing; Put .."
-unfoldable pub oneRecord : Bool → Kind → Reply Row → Reply Row → Reply Row
-oneRecord true Put row older = row
-oneRecord true Delete row older = nothing
-oneRecord true Rollback row older = older
-oneRecord false kind row older = refused (No 9)
+-- what a read replies, and "the number of write records it examined"
+pub record Examined : Type 0 where
+  pub reply : Reply Row
+  pub count : ℕ
 
-unfoldable pub walk : Key → List Default → List Record → Reply Row
-walk k ds [] = nothing
+-- "each checked (9): Rollback, go on; Delete, nothing; Put .."; the record itself is counted, "the refusing one included"
+unfoldable pub oneRecord : Bool → Kind → Reply Row → Examined → Examined
+oneRecord true Put row older = record { reply = row; count = 1 }
+oneRecord true Delete row older = record { reply = nothing; count = 1 }
+oneRecord true Rollback row older = record { reply = older .reply; count = suc (older .count) }
+oneRecord false kind row older = record { reply = refused (No 9); count = 1 }
+
+unfoldable pub walk : Key → List Default → List Record → Examined
+walk k ds [] = record { reply = nothing; count = 0 }
 walk k ds (w ∷ ws) = oneRecord (soundRecord w) (w .kind) (showRow (rowOf k (w .start) ds)) (walk k ds ws)
 
+-- the steps before the walk; "Other refusals still count 0"
+unfoldable pub readSteps : Key → ℕ → Box → Answer
+readSteps k m b =
+    need (keyForm k) 1 ▸
+    lockLets m (lockOf k (b .lines))
+
+unfoldable pub examine : Key → ℕ → Box → Examined
+examine k m b =
+    let walked = walk k (b .defaults) (newestFirst m (recordsOf k (b .lines))) in
+    record { reply = ifPassed (readSteps k m b) (walked .reply); count = countIf (readSteps k m b) (walked .count) }
+
+-- the reply alone, as pages and demand 2 speak of it
 unfoldable pub read : Key → ℕ → Box → Reply Row
-read k m b =
-    ifPassed
-    (need (keyForm k) 1 ▸
-    lockLets m (lockOf k (b .lines)))
-    (walk k (b .defaults) (newestFirst m (recordsOf k (b .lines))))
+read k m b = examine k m b .reply

@@ -11,6 +11,7 @@ use curators::prewrites;
 use curators::withdraws;
 use mvcc::AREA;
 use mvcc::Store;
+use visitors::asks_effort;
 use visitors::asks_figures;
 use visitors::asks_key;
 use visitors::asks_page;
@@ -34,7 +35,7 @@ fn two_labels(store: Store, area: &mut [u8; AREA], jaw: &[u8]) -> Store
     committed
 }
 
-// The jaw is to be removed, and that is withdrawn: its label is seen again, and the removal can no longer be committed.
+// The jaw is to be removed, and that is withdrawn: its label is seen again, behind the Rollback, and the removal can no longer be committed.
 fn withdrawn_removal(store: Store, area: &mut [u8; AREA], jaw: &[u8]) -> Store
     requires { ⌜ Made store (now area) ⌝ }
     ensures { λ r. ⌜ Made r (now (area .exit)) ⌝ }
@@ -46,6 +47,7 @@ fn withdrawn_removal(store: Store, area: &mut [u8; AREA], jaw: &[u8]) -> Store
     asks_key(written, area, jaw, 25);
     let withdrawn = withdraws(written, area, 8, 20, jaw, names);
     asks_key(withdrawn, area, jaw, 25);
+    asks_effort(withdrawn, area, jaw, 25);
     commits(withdrawn, area, 8, 20, 30, keys, names)
 }
 

@@ -1,4 +1,4 @@
-// What a visitor asks of the box, and what is shown. Nothing here changes the store.
+// What a visitor asks of the box, and the support desk, and what is shown. Nothing here changes the store.
 ghost use Rattle.lines.specs.Made.{Made};
 use crate::telling::say;
 use crate::telling::say_answer;
@@ -30,8 +30,20 @@ pub fn asks_key(store: Store, area: &[u8; AREA], key: &[u8], moment: u64)
     requires { ⌜ Made store (now area) ⌝ }
 {
     say_read(key, moment);
-    let seen = mvcc::read(store, area, key, moment);
+    let reading = mvcc::read(store, area, key, moment);
+    let seen = reading.seen;
     say_seen(area, seen);
+}
+
+// "The support desk wants to see which keys are slow."
+pub fn asks_effort(store: Store, area: &[u8; AREA], key: &[u8], moment: u64)
+    requires { ⌜ Made store (now area) ⌝ }
+{
+    say(b"the support desk asks how many records a read of the ");
+    say_name(key);
+    tell(b" at moment ", moment, b" looks at: ");
+    let reading = mvcc::read(store, area, key, moment);
+    tell(b"", reading.count as u64, b"\n");
 }
 
 // One row of a page, "key length byte, key, row length byte, row", and the place after it.

@@ -24,7 +24,7 @@ use Rattle.rules.specs.declared.records.Record.{Record}
 use Rattle.rules.specs.Answers.{Reply, refused, answerOf, ifPassed}
 use Rattle.rules.specs.Box.{Box, Lock, Default, eqKind, lockOf}
 use Rattle.rules.specs.Sound.{soundRecord, soundLock}
-use Rattle.rules.specs.Read.{showIf, showRow, oneRecord, walk, read}
+use Rattle.rules.specs.Read.{showIf, showRow, Examined, oneRecord, walk, examine}
 use Rattle.rules.specs.Intent.{lockIf, unlessAbove, judgeLock, intentAt}
 use Rattle.lines.specs.Looks.{lockIn}
 use Rattle.reads.specs.declared.seen.Seen.{Seen}
@@ -63,14 +63,14 @@ row-short (some r) = by-form (rowForm r) refl
     by-form true e = omega (arith, row-bounds r e .short)
     by-form false e = omega arith
 
-one-short : (s : Bool) (k : Kind) (row older : Reply Row) → RowShort row → RowShort older → RowShort (oneRecord s k row older)
+one-short : (s : Bool) (k : Kind) (row : Reply Row) (older : Examined) → RowShort row → RowShort (older .reply) → RowShort (oneRecord s k row older .reply)
 unfolding readPayload oneRecord
 one-short true Put row older h g = h
 one-short true Delete row older h g = omega arith
 one-short true Rollback row older h g = g
 one-short false k row older h g = omega arith
 
-walk-short : (k : Key) (ds : List Default) (ws : List Record) → RowShort (walk k ds ws)
+walk-short : (k : Key) (ds : List Default) (ws : List Record) → RowShort (walk k ds ws .reply)
 unfolding readPayload walk
 walk-short k ds [] = omega arith
 walk-short k ds (w ∷ ws) = one-short (soundRecord w) (w .kind) _ _ (row-short _) (walk-short k ds ws)
@@ -79,8 +79,8 @@ refused-row : (a : Answer) → RowShort (refused a)
 unfolding readPayload
 refused-row a = omega arith
 
-pub read-short : (k : Key) (m : ℕ) (b : Box) → RowShort (read k m b)
-unfolding read
+pub read-short : (k : Key) (m : ℕ) (b : Box) → RowShort (examine k m b .reply)
+unfolding examine
 read-short k m b = after-steps RowShort refused-row _ _ (walk-short k (b .defaults) _)
 
 abbrev pub LockShort : Reply Lock → Type 0
@@ -120,10 +120,11 @@ intent-short k m b = after-steps LockShort refused-lock _ _ (judge-short m (lock
 -- ---- a reply, told
 
 -- an answer and a payload that are the reply's, the payload, of at most k bytes, put into a buffer of its own
-pub reply-told : {A : Type 0} (payload : Reply A → Bytes) (want : Reply A) (k : ℕ) {a : Answer} {p pay pay′ : Bytes} {n : ℕ} {out out′ : Bytes} {r : ℕ} → a ≡ answerOf want → p ≡ payload want → length (payload want) ≤ k → k ≤ length pay → Writes p pay n pay′
-    → Writes (answerBytes a 0 (take n pay′)) out r out′ → Writes (replyBytes payload want) out r out′
-reply-told payload want k {a} {p} {pay} {pay′} {n} {out} {out′} {r} e f h g v w =
-    carried (answerOf want) 0 (omega arith) (subst (λ (x : Bytes). Writes x pay n pay′) f v) (subst (λ (x : Answer). Writes (answerBytes x 0 (take n pay′)) out r out′) e w)
+pub reply-told : {A : Type 0} (payload : Reply A → Bytes) (want : Reply A) (count k : ℕ) {a : Answer} {m : ℕ} {p pay pay′ : Bytes} {n : ℕ} {out out′ : Bytes} {r : ℕ} → a ≡ answerOf want → m ≡ count → p ≡ payload want → length (payload want) ≤ k → k ≤ length pay → Writes p pay n pay′
+    → Writes (answerBytes a m (take n pay′)) out r out′ → Writes (replyBytes payload count want) out r out′
+reply-told payload want count k {a} {m} {p} {pay} {pay′} {n} {out} {out′} {r} e c f h g v w =
+    carried (answerOf want) count (omega arith) (subst (λ (x : Bytes). Writes x pay n pay′) f v)
+    (subst (λ (x : ℕ). Writes (answerBytes (answerOf want) x (take n pay′)) out r out′) c (subst (λ (x : Answer). Writes (answerBytes x m (take n pay′)) out r out′) e w))
 
 -- what is put for one case of an answer is put for the answer
 pub as-seen : (row : Bytes) (s t : Seen) {pay pay′ : Bytes} {n : ℕ} → s ≡ t → Writes (seenPayload t row) pay n pay′ → Writes (seenPayload s row) pay n pay′

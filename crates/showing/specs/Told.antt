@@ -10,7 +10,7 @@ use Rattle.rules.specs.declared.answers.Answer.the-variants.{Accepted, No}
 use Rattle.rules.specs.Answers.{Reply, answerOf}
 use Rattle.rules.specs.Box.{Box, fresh}
 use Rattle.rules.specs.Calls.{Done}
-use Rattle.rules.specs.Read.{read}
+use Rattle.rules.specs.Read.{examine}
 use Rattle.rules.specs.Intent.{intentAt}
 use Rattle.rules.specs.Written.{Written, scanPage, scanIntentPage, scanConflictingIntents}
 use Rattle.rules.specs.Prewrite.{prewriteBatch}
@@ -39,12 +39,12 @@ toldBytes t = answerBytes (t .answer) (t .count) (t .payload)
 abbrev pub showing : Answer → Bytes → Box → Told
 showing a payload b = record { answer = a; count = 0; payload = payload; box = b }
 
--- what a reply tells: its answer, and what it shows
-abbrev pub replyBytes : {A : Type 0} → (Reply A → Bytes) → Reply A → Bytes
-replyBytes payload r = answerBytes (answerOf r) 0 (payload r)
+-- what a reply tells: its answer, a count, and what it shows
+abbrev pub replyBytes : {A : Type 0} → (Reply A → Bytes) → ℕ → Reply A → Bytes
+replyBytes payload count r = answerBytes (answerOf r) count (payload r)
 
-abbrev pub replying : {A : Type 0} → (Reply A → Bytes) → Reply A → Box → Told
-replying payload r b = showing (answerOf r) (payload r) b
+abbrev pub replying : {A : Type 0} → (Reply A → Bytes) → ℕ → Reply A → Box → Told
+replying payload count r b = record { answer = answerOf r; count = count; payload = payload r; box = b }
 
 -- a call that changes the box tells its answer alone
 abbrev pub changing : Done → Told
@@ -72,11 +72,11 @@ notRun b = showing (No 6) [] b
 
 -- what a call tells of a box
 unfoldable pub told : Call → Box → Told
-told (Call.Read m k) b = replying readPayload (read k m b) b
+told (Call.Read m k) b = replying readPayload (examine k m b .count) (examine k m b .reply) b
 told (Call.Page m l a n) b = paging (scanPage a m l b (lent n)) b
 told (Call.IntentPage l a n) b = paging (scanIntentPage a l b (lent n)) b
 told (Call.ConflictingIntents m l a n) b = paging (scanConflictingIntents a m l b (lent n)) b
-told (Call.OneIntent m k) b = replying intentPayload (intentAt k m b) b
+told (Call.OneIntent m k) b = replying intentPayload 0 (intentAt k m b) b
 told (Call.PrewriteBatch h s) b = changing (prewriteBatch h s b)
 told (Call.CommitBatch e s) b = changing (commitBatch e s b)
 told (Call.RollbackBatch t u s) b = changing (rollbackBatch t u s b)

@@ -5,7 +5,7 @@ ghost use Prim.Native.Nat.{_≤_};
 ghost use lib.ListN.{length};
 ghost use Rattle.forms.specs.Bytes.{Bytes};
 ghost use Rattle.rules.specs.Answers.{answerOf};
-ghost use Rattle.rules.specs.Read.{read};
+ghost use Rattle.rules.specs.Read.{examine};
 ghost use Rattle.rules.specs.Intent.{intentAt};
 ghost use Rattle.lines.specs.View.{boxOf};
 ghost use Rattle.lines.specs.Made.{Made};
@@ -41,7 +41,7 @@ fn put_seen(payload: &mut [u8], seen: Seen, row: &[u8]) -> usize
     }
 }
 
-// A row has at most 255 bytes.
+// The count is "the number of write records it examined". A row has at most 255 bytes.
 pub(crate) fn tell_read(
     store: Store,
     area: &[u8; AREA],
@@ -50,14 +50,15 @@ pub(crate) fn tell_read(
     out: &mut [u8],
 ) -> usize
     requires { ⌜ Made store (now area) ⌝ }
-    ensures { λ r. ⌜ Writes (replyBytes readPayload (read (now (key .entry)) moment (boxOf store (now (area .entry))))) (now (out .entry)) r (now (out .exit)) ⌝ }
+    ensures { λ r. ⌜ Writes (replyBytes readPayload (examine (now (key .entry)) moment (boxOf store (now (area .entry))) .count) (examine (now (key .entry)) moment (boxOf store (now (area .entry))) .reply)) (now (out .entry)) r (now (out .exit)) ⌝ }
 {
-    let seen = reads::read(store, area, key, moment);
+    let reading = reads::read(store, area, key, moment);
+    let seen = reading.seen;
     let answer = seen_answer(seen);
     let row = reads::row_of(area, seen);
     let mut payload = [0u8; 256];
     let n = put_seen(&mut payload, seen, row);
-    tell(out, answer, 0, &payload[..n])
+    tell(out, answer, reading.count as u64, &payload[..n])
 }
 
 fn pointed_answer(pointed: Pointed) -> Answer
@@ -94,7 +95,7 @@ pub(crate) fn tell_intent(
     out: &mut [u8],
 ) -> usize
     requires { ⌜ Made store (now area) ⌝ }
-    ensures { λ r. ⌜ Writes (replyBytes intentPayload (intentAt (now (key .entry)) moment (boxOf store (now (area .entry))))) (now (out .entry)) r (now (out .exit)) ⌝ }
+    ensures { λ r. ⌜ Writes (replyBytes intentPayload 0 (intentAt (now (key .entry)) moment (boxOf store (now (area .entry))))) (now (out .entry)) r (now (out .exit)) ⌝ }
 {
     let pointed = reads::intent_for_read(store, area, key, moment);
     let answer = pointed_answer(pointed);

@@ -5,7 +5,7 @@ use Prim.Native.Nat.{ℕ, _+_}
 use mathlib.Core.Path.{_≡_, refl, sym, ap, _∙_, ap₂}
 use mathlib.Core.Logic.{inl, inr}
 use mathlib.Core.Bool.{Bool, true, false, not, false≢true}
-use mathlib.Core.List.{List, [], _∷_, _++_, append-nil, reverse, reverse-append}
+use mathlib.Core.List.{List, [], _∷_, _++_, append-nil}
 use mathlib.Core.Option.{Option, none, some}
 use lib.Dec.{leb}
 use Rattle.forms.specs.Bytes.{Bytes, eqBytes, ltBytes}
@@ -30,7 +30,7 @@ use Rattle.lines.specs.declared.views.Told.the-variants as told
 use Rattle.lines.specs.View.{keyOf, rowIn}
 use Rattle.lines.specs.Looks.{lockIn, recordIn}
 use Rattle.lines.proofs.MemberLaws.{lock-shown}
-use Rattle.lines.proofs.HistoryLaws.{kept-snoc, records-append, orLock, lock-append}
+use Rattle.lines.proofs.HistoryLaws.{first-more, records-append, orLock, lock-append}
 use Rattle.walks.specs.declared.dues.Listed.{Listed}
 use Rattle.walks.specs.declared.dues.Listed.the-variants.{Nothing, Line}
 use Rattle.walks.specs.declared.dues.Due.{Due}
@@ -81,31 +81,23 @@ LineGood area k (Line s) = RowLine area k s
 -- of the lines `pre` of a key
 pub record DueRow (area : Bytes) (m : ℕ) (ds : List box.Default) (k : Key) (pre : List box.KeyLine) (d : Due) : Type 0 where
   pub lets : d .lets ≡ lockLets m (box.lockOf k pre)
-  pub row : lineRow area (d .line) ≡ walk k ds (newestFirst m (box.recordsOf k pre))
+  pub row : lineRow area (d .line) ≡ walk k ds (newestFirst m (box.recordsOf k pre)) .reply
   pub line : LineGood area k (d .line)
 
 or-none : (o : Option box.Lock) → orLock o none ≡ o
 or-none none = refl
 or-none (some l) = refl
 
-newest-snoc : (m : ℕ) (ws : List Record) (w : Record) → newestFirst m (ws ++ w ∷ []) ≡ keepIf (leb (w .stamp) m) w (newestFirst m ws)
-unfolding newestFirst keepIf
-newest-snoc m ws w = ap reverse (kept-snoc m ws w) ∙ reverse-append (atOrBelow m ws) (keepIf (leb (w .stamp) m) w []) ∙ go (leb (w .stamp) m)
-  where
-    go : (b : Bool) → reverse (keepIf b w []) ++ reverse (atOrBelow m ws) ≡ keepIf b w (reverse (atOrBelow m ws))
-    go true = refl
-    go false = refl
-
 module _ {area : Bytes} {m : ℕ} {ds : List box.Default} {k : Key} {pre : List box.KeyLine} where
   pub due-none : (box.lockOf k pre ≡ none) × (box.recordsOf k pre ≡ []) → DueRow area m ds k pre noDue
   unfolding lockLets newestFirst atOrBelow walk
-  due-none p = record { lets = sym (ap (lockLets m) (p .0)); row = sym (ap (λ (ws : List Record). walk k ds (newestFirst m ws)) (p .1)); line = tt }
+  due-none p = record { lets = sym (ap (lockLets m) (p .0)); row = sym (ap (λ (ws : List Record). walk k ds (newestFirst m ws) .reply) (p .1)); line = tt }
 
   -- what comes after says nothing of the key
   pub due-end : {d : Due} (post : List box.KeyLine) → DueRow area m ds k pre d → (box.lockOf k post ≡ none) × (box.recordsOf k post ≡ []) → DueRow area m ds k (pre ++ post) d
   due-end post v p = record {
     lets = v .lets ∙ ap (lockLets m) (sym (lock-append k pre post ∙ ap (orLock (box.lockOf k pre)) (p .0) ∙ or-none (box.lockOf k pre)));
-    row = v .row ∙ ap (λ (ws : List Record). walk k ds (newestFirst m ws)) (sym (records-append k pre post ∙ ap (λ (ws : List Record). box.recordsOf k pre ++ ws) (p .1) ∙ append-nil (box.recordsOf k pre)));
+    row = v .row ∙ ap (λ (ws : List Record). walk k ds (newestFirst m ws) .reply) (sym (records-append k pre post ∙ ap (λ (ws : List Record). box.recordsOf k pre ++ ws) (p .1) ∙ append-nil (box.recordsOf k pre)));
     line = v .line;
   }
 
@@ -116,7 +108,7 @@ module _ {area : Bytes} {m : ℕ} {ds : List box.Default} {k : Key} {pre : List 
     unfolding lockLets box.recordsOf box.addRecord
     due-lock i o = record {
       lets = ap (lockLets m) (sym (lock-shown k (pre ++ e ∷ []) (lockIn area i) o (in-last pre)));
-      row = v .row ∙ ap (λ (ws : List Record). walk k ds (newestFirst m ws)) (sym (records-append k pre (e ∷ []) ∙ rw (eqBytes-refl k) (append-nil (box.recordsOf k pre))));
+      row = v .row ∙ ap (λ (ws : List Record). walk k ds (newestFirst m ws) .reply) (sym (records-append k pre (e ∷ []) ∙ rw (eqBytes-refl k) (append-nil (box.recordsOf k pre))));
       line = v .line;
     }
       where
@@ -133,14 +125,14 @@ module _ {area : Bytes} {m : ℕ} {ds : List box.Default} {k : Key} {pre : List 
     unfolding box.lockOf box.addLock box.recordsOf box.addRecord walk oneRecord keepIf
     due-record w sound there good = record {
       lets = v .lets ∙ ap (lockLets m) (sym (lock-append k pre (e ∷ []) ∙ rw (eqBytes-refl k) (or-none (box.lockOf k pre))));
-      row = rows (leb (w .stamp) m) (w .kind) refl ∙ sym (ap (λ (ws : List Record). walk k ds (newestFirst m ws)) (records-append k pre (e ∷ []) ∙ rw (eqBytes-refl k)) ∙ ap (walk k ds) (newest-snoc m (box.recordsOf k pre) (recordIn w)));
+      row = rows (leb (w .stamp) m) (w .kind) refl ∙ sym (ap (λ (ws : List Record). walk k ds (newestFirst m ws) .reply) (records-append k pre (e ∷ []) ∙ rw (eqBytes-refl k)) ∙ ap (λ (ws : List Record). walk k ds ws .reply) (first-more m (box.recordsOf k pre) (recordIn w)));
       line = lines (leb (w .stamp) m) (w .kind) refl;
     }
       where
         e : box.KeyLine
         e = record { key = k; line = box.Finished (recordIn w) }
 
-        rows : (t : Bool) (n : Kind) → w .kind ≡ n → lineRow area (listIf t n s (d .line)) ≡ walk k ds (keepIf t (recordIn w) (newestFirst m (box.recordsOf k pre)))
+        rows : (t : Bool) (n : Kind) → w .kind ≡ n → lineRow area (listIf t n s (d .line)) ≡ walk k ds (keepIf t (recordIn w) (newestFirst m (box.recordsOf k pre))) .reply
         rows false n q = v .row
         rows true Put q = sym (rw (sound, q) (there q))
         rows true Delete q = sym (rw (sound, q))

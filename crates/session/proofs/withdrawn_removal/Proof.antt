@@ -15,6 +15,9 @@ withdraws-requires c κs = search needs
 asks-key-requires-2 : tie.Need-asks-key-requires-2
 asks-key-requires-2 c κs = search needs
 
+asks-effort-requires : tie.Need-asks-effort-requires
+asks-effort-requires c κs = search needs
+
 commits-requires : tie.Need-commits-requires
 commits-requires c κs = search needs
 
@@ -29,5 +32,6 @@ withdrawn-removal-spec =
     asks-key-requires
     withdraws-requires
     asks-key-requires-2
+    asks-effort-requires
     commits-requires
     returns)

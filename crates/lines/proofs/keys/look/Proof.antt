@@ -1,7 +1,7 @@
 -- `lines::keys::look` meets its contract. The first loop's invariant: the place of the key's first line is at least `low` and at most `high`
 -- (`Halving` of `LookLaws`). The second's: what was seen is what the lines before `i` say of the key (`Looking`).
 -- Assumes nothing.
-use Rattle.lines.proofs.LookLaws.{Halving, Looking, slot-in, mid-in, halving-start, halving-up, halving-down, looking-start, looking-equal, looking-other, looking-end}
+use Rattle.lines.proofs.LookLaws.{Halving, Looking, slot-in, mid-in, halving-start, halving-up, halving-down, looking-start, looking-few, looking-equal, looking-other, looking-end}
 use borrow.Author.Needs.{needs}
 use native.Mathlib.Omega.{arith}
 use Prim.Native.Nat.{_-_}
@@ -52,6 +52,9 @@ returns c = looking-other (c .before .before .before .before .before .before .be
 line-of-requires : tie.Need-line-of-requires Inv-loop μ-loop Inv-loop2 μ-loop2
 line-of-requires c κs = slot-in (c .before .before .before .before .before .before .before .before .before .before .before .pre) ((c .before .before .before .before .before .loop2) .i) ((c .before .before .before .before .loop2-test) .taken)
 
+see-requires : tie.Need-see-requires Inv-loop μ-loop Inv-loop2 μ-loop2
+see-requires c κs = looking-few (c .before .before .before .before .before .before .before .before .before .before .before .before .pre) _ _ _ ((c .before .before .before .before .before .before .loop2) .inv) ((c .before .before .before .before .before .loop2-test) .taken)
+
 loop2-again : tie.Need-loop2-again Inv-loop μ-loop Inv-loop2 μ-loop2
 loop2-again c = looking-equal (c .before .before .before .before .before .before .before .before .before .before .before .before .before .pre) _ _ _ ((c .before .before .before .before .before .before .before .loop2) .inv) ((c .before .before .before .before .before .before .loop2-test) .taken) (sym ((c .before .before .before .before .slot-order2) .ensures) ∙ (c .before .before .enum-told5) .given .1) ((c .before .line-of) .ensures) ((c .see) .ensures)
 
@@ -67,5 +70,5 @@ look-spec =
     (tie.spec Inv-loop μ-loop Inv-loop2 μ-loop2 loop-holds (λ c. search needs) (λ c. search needs) (λ c. search needs) array-copy-out-s
     slot-order-requires (λ c. search needs) (λ c. search needs) (λ c. search needs) loop-again (λ c. search needs) (λ c. search needs)
     loop-again-2 (λ c. search needs) (λ c. search needs) loop-again-3 (λ c κs. search needs) loop2-holds (λ c. search needs) (λ c. search needs)
-    (λ c. search needs) slot-order-requires-2 (λ c. search needs) returns (λ c. search needs) line-of-requires (λ c κs. search needs)
+    (λ c. search needs) slot-order-requires-2 (λ c. search needs) returns (λ c. search needs) line-of-requires see-requires
     (λ c. search needs) loop2-again (λ c. search needs) returns-2 returns-3)

@@ -5,7 +5,7 @@ use Rattle.showing.proofs.ReplyLaws.{reply-told, intent-short, pointed-
 use lib.Seq.{length-take-le}
 use borrow.Author.Needs.{needs}
 use native.Mathlib.Omega.{arith}
-use mathlib.Core.Path.{sym}
+use mathlib.Core.Path.{refl, sym}
 use Rattle.showing.proofs.replying.tell_intent.Statement.{statement}
 use Rattle.showing.proofs.replying.tell_intent.Tie as tie
 
@@ -19,7 +19,7 @@ slice-aggregate-tell : tie.Need-slice-aggregate-tell
 slice-aggregate-tell c = sym (length-take-le _ _ (omega (arith, at-most 75 (search needs) ((c .before .before .before .put-pointed) .ensures))))
 
 returns : tie.Need-returns
-returns c = reply-told intentPayload _ 75 (pointed-answer ((c .before .before .before .before .before .before .before .before .before .before .before .intent-for-read) .ensures) ((c .before .before .before .before .before .before .before .before .before .before .pointed-answer) .ensures)) (pointed-payload ((c .before .before .before .before .before .before .before .before .before .before .before .intent-for-read) .ensures) ((c .before .before .before .before .before .before .before .before .primary-of) .ensures)) (intent-short _ _ _) (search needs) ((c .before .before .before .before .before .before .put-pointed) .ensures) ((c .before .before .tell) .ensures)
+returns c = reply-told intentPayload _ 0 75 (pointed-answer ((c .before .before .before .before .before .before .before .before .before .before .before .intent-for-read) .ensures) ((c .before .before .before .before .before .before .before .before .before .before .pointed-answer) .ensures)) refl (pointed-payload ((c .before .before .before .before .before .before .before .before .before .before .before .intent-for-read) .ensures) ((c .before .before .before .before .before .before .before .before .primary-of) .ensures)) (intent-short _ _ _) (search needs) ((c .before .before .before .before .before .before .put-pointed) .ensures) ((c .before .before .tell) .ensures)
 
 pub tell-intent-spec : {M : Type 1} → statement M
 tell-intent-spec =

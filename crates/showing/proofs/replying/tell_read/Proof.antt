@@ -16,7 +16,7 @@ slice-aggregate-tell : tie.Need-slice-aggregate-tell
 slice-aggregate-tell c = sym (length-take-le _ _ (omega (arith, at-most 256 (search needs) ((c .before .before .before .put-seen) .ensures))))
 
 returns : tie.Need-returns
-returns c = reply-told readPayload _ 256 (seen-answer ((c .before .before .before .before .before .before .before .before .before .before .before .read) .ensures) ((c .before .before .before .before .before .before .before .before .before .before .seen-answer) .ensures)) (seen-payload ((c .before .before .before .before .before .before .before .before .before .before .before .read) .ensures) ((c .before .before .before .before .before .before .before .before .row-of) .ensures)) (read-short _ _ _) (search needs) ((c .before .before .before .before .before .before .put-seen) .ensures) ((c .before .before .tell) .ensures)
+returns c = reply-told readPayload _ _ 256 (seen-answer (((c .before .before .before .before .before .before .before .before .before .before .before .read) .ensures) .seen-as) ((c .before .before .before .before .before .before .before .before .before .before .seen-answer) .ensures)) (((c .before .before .before .before .before .before .before .before .before .before .before .read) .ensures) .count-is) (seen-payload (((c .before .before .before .before .before .before .before .before .before .before .before .read) .ensures) .seen-as) ((c .before .before .before .before .before .before .before .before .row-of) .ensures)) (read-short _ _ _) (search needs) ((c .before .before .before .before .before .before .put-seen) .ensures) ((c .before .before .tell) .ensures)
 
 pub tell-read-spec : {M : Type 1} → statement M
 tell-read-spec =
