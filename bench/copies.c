@@ -1,12 +1,12 @@
-// Loaded before the C library (LD_PRELOAD), this counts the copies of table size that a program makes, 12,000 bytes and up, and at the end
-// writes to standard error how many there were and how many bytes they had. The table of slots has 12,288 bytes and the whole store about 12,328;
-// what stands of the table in the boxes of bench/rust, 932 lines at most, has less than 12,000. bench/run --copies uses it; nothing is timed with it.
+// Loaded before the C library (LD_PRELOAD), this counts the copies of table size that a program makes, 8,000 bytes and up, and at the end
+// writes to standard error how many there were and how many bytes they had. The table of slots has 8,192 bytes and the whole store 8,232;
+// what stands of the table in the boxes of bench/rust, 932 lines at most, has less than 8,000. bench/run --copies uses it; nothing is timed with it.
 #define _GNU_SOURCE
 #include <dlfcn.h>
 #include <stdio.h>
 #include <string.h>
 
-enum { LEAST = 12000 };
+enum { LEAST = 8000 };
 
 static unsigned long long copies, bytes;
 

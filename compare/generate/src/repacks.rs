@@ -1,7 +1,7 @@
 //! Boxes that are filled by calls alone until the store packs its area anew (paper/src/area.rs), in each call that brings
 //! bytes, and then looked at from end to end: locks, rows, a page of all, replays, statistics and marks.
 
-use paper::area::{Area, LONGEST_LOCK, LONGEST_ROLLBACK, NUMBERS};
+use paper::area::{Area, BEFORE, LONGEST_LOCK, LONGEST_ROLLBACK, NUMBERS};
 use paper::form::Entry;
 use paper::page::Bounds;
 use paper::room::{LINES, LIVE_BYTES, LOCKS};
@@ -27,6 +27,8 @@ const KEYS: [usize; 5] = [6, 48, 7, 20, 33];
 /// The shortest key that is made here; a Rollback of it has so many bytes.
 const SHORT: usize = 6;
 const SHORT_ROLLBACK: usize = SHORT + NUMBERS;
+/// The place for which a rollback asks, as the fewest even bytes: a stretch begins at an even byte.
+const ROLLBACK_PLACE: usize = LONGEST_ROLLBACK + 2 * BEFORE;
 
 /// The box, its area, and the trace that made them.
 #[derive(Default)]
@@ -220,14 +222,14 @@ impl Filler {
     /// back, as many at a time as there is place and room for, and at last by rollbacks of new keys.
     fn close_gap(&mut self, row: usize) {
         loop {
-            let over = self.area.gap().saturating_sub(LONGEST_ROLLBACK);
+            let over = (self.area.gap() / 2 * 2).saturating_sub(ROLLBACK_PLACE);
             let used = self.store.room_used();
             let live = (LIVE_BYTES - used.live_bytes) / (2 * SHORT + 48 + row);
             let room = live.min(LINES - used.lines).min(LOCKS - used.locks).min(32);
             if over < SHORT_ROLLBACK || room == 0 {
                 return;
             }
-            let count = room.min((over - SHORT_ROLLBACK) / (LONGEST_LOCK + SHORT_ROLLBACK));
+            let count = room.min((over - SHORT_ROLLBACK) / (LONGEST_LOCK + SHORT_ROLLBACK + 2 * BEFORE));
             match over {
                 _ if count > 0 => {
                     let (start, keys) = self.lock(count, row);
@@ -271,7 +273,7 @@ impl Filler {
             }
             9 => self.commit_batch(start, commit, &keys),
             10 => {
-                // The first of them fills the area to its last byte.
+                // The first of them fills the area but for the last bytes.
                 self.rollback_new(LONGEST_ROLLBACK);
                 self.rollback(start, &keys[0]);
             }

@@ -2,17 +2,18 @@
 //! the model says when the store packs its area anew, so that traces can be made to force that in every call that can,
 //! and so that a repack which loses a row can be played.
 //!
-//! It follows docs/ARCHITECTURE.md, "The store": a line is one stretch of bytes. New stretches go at the top; nothing
-//! goes back. A call that changes something first asks place for all its entries, each as if it were the longest; where
-//! that would pass the end, the stretches of the standing lines are packed anew, after which the top is their sum.
+//! It follows docs/ARCHITECTURE.md, "The store": a line is one stretch of bytes, which begins at an even byte. New
+//! stretches go at the top; nothing goes back. A call that changes something first asks place for all its entries, each as
+//! if it were the longest; where that would pass the end, the stretches of the standing lines are packed anew.
 
+use std::collections::BTreeMap;
 use std::slice::from_ref;
 
 use crate::answer::Answer;
 use crate::bend::{Bend, bent};
 use crate::form::{Entry, key_batch, mutation_batch};
 use crate::run::run_call;
-use crate::store::{Bytes, Kind, Store};
+use crate::store::{Bytes, Kind, Lock, Record, Store};
 use crate::trace::{Call, read_trace};
 
 /// The area's bytes.
@@ -24,6 +25,22 @@ const LOCK_NUMBER: usize = 8;
 pub const LONGEST_ROLLBACK: usize = 48 + NUMBERS;
 pub const LONGEST_RECORD: usize = LONGEST_ROLLBACK + 255;
 pub const LONGEST_LOCK: usize = LONGEST_RECORD + LOCK_NUMBER + 48;
+/// The bytes that may stay free before a stretch.
+pub const BEFORE: usize = 1;
+
+fn even(at: usize) -> usize {
+    at + at % 2
+}
+
+/// The top after stretches of these lengths have come, one after the other.
+pub fn laid(top: usize, lengths: &[usize]) -> usize {
+    lengths.iter().filter(|length| **length > 0).fold(top, |top, length| even(top) + length)
+}
+
+/// The top after the area has been packed with stretches of these lengths.
+pub fn packed(lengths: &[usize]) -> usize {
+    even(laid(0, lengths))
+}
 
 /// The area of one store: its first byte past all that came since it was packed.
 #[derive(Clone, Copy, Debug, Default)]
@@ -40,21 +57,22 @@ impl Area {
     /// Runs a call on the store: its answer, and whether the area was packed anew. A refused call leaves the area.
     pub fn run(&mut self, store: &mut Store, call: &Call) -> (Answer, bool) {
         let (asked, brought) = place(store, call);
-        let packed = (asked > self.gap()).then(|| store.stretches());
+        let anew = (asked > self.gap()).then(|| packed(&store.stretches()));
         let answer = run_call(store, call);
         if answer.number != 0 {
             return (answer, false);
         }
         self.top = match call {
-            Call::Restore { .. } => store.stretches(),
-            _ => packed.unwrap_or(self.top) + brought,
+            Call::Restore { .. } => laid(0, &store.stretches()),
+            _ => laid(anew.unwrap_or(self.top), &brought),
         };
-        (answer, packed.is_some())
+        (answer, anew.is_some())
     }
 }
 
-/// The place for which a call asks if it is accepted, and the bytes that it brings; none of both if it changes nothing.
-fn place(store: &Store, call: &Call) -> (usize, usize) {
+/// The place for which a call asks if it is accepted, and the lengths of the stretches that it brings, 0 for an entry that
+/// brings none; no place if it changes nothing.
+fn place(store: &Store, call: &Call) -> (usize, Vec<usize>) {
     let (longest, brought) = match call {
         Call::Prewrite { primary, key, kind, row, .. } => {
             let entry = Entry { key: key.clone(), kind: *kind, row: row.clone() };
@@ -74,12 +92,10 @@ fn place(store: &Store, call: &Call) -> (usize, usize) {
         Call::OneStep { start, commit, batch, .. } => {
             (LONGEST_RECORD, stepped(store, *start, *commit, &mutation_batch(batch).unwrap_or_default()))
         }
-        _ => return (0, 0),
+        _ => return (0, Vec::new()),
     };
-    match brought.iter().sum() {
-        0 => (0, 0),
-        sum => (longest * brought.len(), sum),
-    }
+    let entries = if brought.iter().all(|length| *length == 0) { 0 } else { brought.len() };
+    ((longest + BEFORE) * entries, brought)
 }
 
 /// The bytes of an entry's record.
@@ -148,12 +164,22 @@ pub fn losing() -> Option<u8> {
 }
 
 impl Store {
-    /// The bytes of the stretches of all lines. A row stands for exactly the Put lines, so each is one line's.
-    fn stretches(&self) -> usize {
-        let locks = self.locks.iter().map(|(key, lock)| key.len() + NUMBERS + LOCK_NUMBER + lock.primary.len());
-        let records = self.records.iter().map(|(key, chain)| (key.len() + NUMBERS) * chain.len());
-        let rows = self.defaults.values().flat_map(|chain| chain.values()).map(Vec::len);
-        locks.chain(records).chain(rows).sum()
+    /// The lengths of the stretches of all lines, in the order of the table: by key, a lock before the records. A row stands
+    /// for exactly the Put lines, so each is one line's.
+    fn stretches(&self) -> Vec<usize> {
+        let row = |key: &Bytes, start| self.default_at(key, start).map_or(0, Vec::len);
+        let lock = |(key, lock): (&Bytes, &Lock)| {
+            let length = key.len() + NUMBERS + row(key, lock.start) + LOCK_NUMBER + lock.primary.len();
+            ((key.clone(), None), length)
+        };
+        let record = |key: &Bytes, stamp: u64, record: &Record| {
+            ((key.clone(), Some(stamp)), key.len() + NUMBERS + row(key, record.start))
+        };
+        let chain = |(key, chain): (&Bytes, &BTreeMap<u64, Record>)| {
+            chain.iter().map(|(stamp, one)| record(key, *stamp, one)).collect::<Vec<_>>()
+        };
+        let all = self.locks.iter().map(lock).chain(self.records.iter().flat_map(chain));
+        all.collect::<BTreeMap<(Bytes, Option<u64>), usize>>().into_values().collect()
     }
 
     /// The last row goes, and nothing says so.

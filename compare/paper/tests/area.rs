@@ -3,7 +3,7 @@
 mod common;
 
 use common::*;
-use paper::area::{AREA, Area};
+use paper::area::{AREA, Area, laid, packed};
 use paper::store::{Kind, Store};
 use paper::trace::Call;
 
@@ -25,7 +25,8 @@ impl Filled {
         (!packed).then(|| gap - self.area.gap())
     }
 
-    /// Rolls back a new key of this length, 7 to 48; it is locked with the longest row before, if asked.
+    /// Rolls back a new key of this length, 7 to 48; it is locked with the longest row before, if asked. The top is even
+    /// before, and stays so if the length is.
     fn rollback(&mut self, length: usize, locked: bool) {
         self.keys += 1;
         let mut new = key(&self.keys.to_be_bytes());
@@ -34,19 +35,19 @@ impl Filled {
             let (start, kind, primary, row) = (1, Kind::Put, a(), [vec![0, 1, 252], vec![0; 252]].concat());
             let key = new.clone();
             let call = Call::Prewrite { transaction: TRANSACTION, start, time_to_live: 1, kind, primary, key, row };
-            assert_eq!(self.run(&call), Some(length + 16 + 255 + 8 + 5));
+            assert_eq!(self.run(&call), Some(length + 16 + 255 + 8 + 5), "an even stretch");
         }
         assert_eq!(self.run(&rollback(new, 1)), Some(length + 16));
         self.rolled_back += length + 16;
     }
 
-    /// Uses the area up to just so many bytes before its end, 63 or more.
+    /// Uses the area up to just so many bytes before its end, 63 or more. Only the last stretch may be odd.
     fn close(&mut self, left: usize) {
         while self.area.gap() > left {
             match self.area.gap() - left {
                 over @ ..=64 => self.rollback(over - 16, false),
-                over @ ..=700 => self.rollback((over - 23).min(64) - 16, false),
-                _ => self.rollback(7, true),
+                over @ ..=700 => self.rollback(((over - 24).min(64) - 16) / 2 * 2, false),
+                _ => self.rollback(8, true),
             }
         }
         assert_eq!(self.area.gap(), left);
@@ -79,11 +80,11 @@ fn each_call_brings_its_stretches() {
     assert_eq!(all.run(&prewrite_batch(&[a(), b()], 10)), Some(LOCK), "one of two is new");
     assert_eq!(all.run(&commit(a(), 10, 12)), Some(PUT));
     assert_eq!(all.run(&commit(a(), 10, 12)), Some(0), "a replay");
-    assert_eq!(all.run(&commit_batch([a(), b()], 10, 12)), Some(PUT), "one of two is new");
-    assert_eq!(all.run(&rollback(a(), 13)), Some(ROLLBACK));
-    assert_eq!(all.run(&rollback_batch([a(), b()], 13)), Some(ROLLBACK), "one of two is new");
+    assert_eq!(all.run(&commit_batch([a(), b()], 10, 12)), Some(1 + PUT), "one of two is new, from an even byte on");
+    assert_eq!(all.run(&rollback(a(), 13)), Some(1 + ROLLBACK));
+    assert_eq!(all.run(&rollback_batch([a(), b()], 13)), Some(1 + ROLLBACK), "one of two is new");
     assert_eq!(all.run(&rollback_batch([a(), b()], 13)), Some(0), "a replay");
-    assert_eq!(all.run(&one_step(&[a(), b()], 14, 15)), Some(2 * PUT));
+    assert_eq!(all.run(&one_step(&[a(), b()], 14, 15)), Some(2 * (1 + PUT)));
     assert_eq!(all.run(&one_step(&[a(), b()], 14, 15)), Some(0), "a replay");
     assert_eq!(all.run(&read(a(), 20)), Some(0));
     let gap = all.area.gap();
@@ -100,22 +101,21 @@ fn each_call_brings_its_stretches() {
 fn each_call_asks_for_the_longest() {
     let (c, d) = (|| key(b"c"), || key(b"d"));
     for (asked, brought, call) in [
-        (375, LOCK, prewrite(b(), 10)),
-        (2 * 375, LOCK, prewrite_batch(&[a(), b()], 10)),
-        (319, PUT, commit(a(), 10, 12)),
-        (2 * 319, 2 * PUT, commit_batch([a(), c()], 10, 12)),
-        (64, ROLLBACK, rollback(a(), 10)),
-        (2 * 64, 2 * ROLLBACK, rollback_batch([b(), d()], 13)),
-        (2 * 319, 2 * PUT, one_step(&[a(), c()], 10, 12)),
+        (376, &[LOCK][..], prewrite(b(), 10)),
+        (2 * 376, &[LOCK], prewrite_batch(&[a(), b()], 10)),
+        (320, &[PUT], commit(a(), 10, 12)),
+        (2 * 320, &[PUT, PUT], commit_batch([a(), c()], 10, 12)),
+        (65, &[ROLLBACK], rollback(a(), 10)),
+        (2 * 65, &[ROLLBACK, ROLLBACK], rollback_batch([b(), d()], 13)),
+        (2 * 320, &[PUT, PUT], one_step(&[a(), c()], 10, 12)),
     ] {
         for (left, packs) in [(asked, false), (asked - 1, true)] {
             let mut filled = Filled::default();
             filled.run(&prewrite_batch(&[a(), c()], 10));
             filled.close(left);
-            assert_eq!(filled.run(&call), (!packs).then_some(brought), "{left} bytes left for {call:?}");
-            if packs {
-                assert_eq!(AREA - filled.area.gap(), 2 * LOCK + filled.rolled_back + brought, "{call:?}");
-            }
+            assert_eq!(filled.run(&call).is_none(), packs, "{left} bytes left for {call:?}");
+            let top = if packs { packed(&[2 * LOCK + filled.rolled_back]) } else { AREA - left };
+            assert_eq!(AREA - filled.area.gap(), laid(top, brought), "{call:?}");
         }
     }
 }

@@ -123,8 +123,8 @@ module _ {st : Store} {area : Bytes} {h : Head} {key : Key} {put : Bool} {row : 
       area-room = omega (arith, size, asks .area-room);
     }
 
-    pub prewrite-done : {r : Store} {area′ : Bytes} → Leaves (lockLine h (entryFor key put row) (boxOf st area)) (st .top + length key + 8 + 8 + length row + 8 + length (h .primary)) r area′
-        → Applied st area (applyPrewrite h (entryFor key put row) (boxOf st area)) (st .top + 375) r area′
+    pub prewrite-done : {r : Store} {area′ : Bytes} → Leaves (lockLine h (entryFor key put row) (boxOf st area)) (st .top + 1 + length key + 8 + 8 + length row + 8 + length (h .primary)) r area′
+        → Applied st area (applyPrewrite h (entryFor key put row) (boxOf st area)) (st .top + 376) r area′
     unfolding lockLine
     prewrite-done l = record {
       leaves = leaves-lower (sym new) (omega (arith, size)) l;
@@ -134,8 +134,8 @@ module _ {st : Store} {area : Bytes} {h : Head} {key : Key} {put : Bool} {row : 
         new : applyPrewrite h (entryFor key put row) (boxOf st area) ≡ lockLine h (entryFor key put row) (boxOf st area)
         new = prewrite-new h (entryFor key put row) (boxOf st area) free
 
-  pub prewrite-stays : {i : Intent} → seen .lock ≡ By i → Applied st area (applyPrewrite h (entryFor key put row) (boxOf st area)) (st .top + 375) st area
-  prewrite-stays e = stays 375 (asks .built) (prewrite-old h (entryFor key put row) (boxOf st area) _ (sym (f .lock-is) ∙ ap (lockedBy area) e))
+  pub prewrite-stays : {i : Intent} → seen .lock ≡ By i → Applied st area (applyPrewrite h (entryFor key put row) (boxOf st area)) (st .top + 376) st area
+  prewrite-stays e = stays 376 (asks .built) (prewrite-old h (entryFor key put row) (boxOf st area) _ (sym (f .lock-is) ∙ ap (lockedBy area) e))
 
 -- ---- what a head says
 
@@ -183,16 +183,16 @@ module _ {st : Store} {area : Bytes} {h : Ending} {key : Key} (asks : CommitAsks
       area-room = asks .area-room;
     }
 
-    pub commit-done : {r : Store} {area′ : Bytes} → Leaves (commitTo (h .commit) (boxOf st area) key none (box.lockOf key (boxOf st area .lines))) (st .top + 319) r area′
-        → Applied st area (applyCommit h key (boxOf st area)) (st .top + 319) r area′
+    pub commit-done : {r : Store} {area′ : Bytes} → Leaves (commitTo (h .commit) (boxOf st area) key none (box.lockOf key (boxOf st area .lines))) (st .top + 320) r area′
+        → Applied st area (applyCommit h key (boxOf st area)) (st .top + 320) r area′
     unfolding applyCommit
     commit-done l = record {
       leaves = leaves-lower (rw fresh) (omega arith) l;
       still = λ q. absurd (never (sym (committed-lock h key (c .l) (boxOf st area) (asks .built .kept .sorted)) ∙ ap (λ (x : box.Box). box.lockOf key (x .lines)) (sym (c .new) ∙ q) ∙ c .held));
     }
 
-  pub commit-stays : {w : Written} → seen .history .with ≡ Is w → Applied st area (applyCommit h key (boxOf st area)) (st .top + 319) st area
-  commit-stays e = stays 319 (asks .built) (commit-old h key (boxOf st area) _ (sym (f .history .with) ∙ ap said e))
+  pub commit-stays : {w : Written} → seen .history .with ≡ Is w → Applied st area (applyCommit h key (boxOf st area)) (st .top + 320) st area
+  commit-stays e = stays 320 (asks .built) (commit-old h key (boxOf st area) _ (sym (f .history .with) ∙ ap said e))
 
 -- ---- rollback
 
@@ -233,8 +233,8 @@ module _ {st : Store} {area : Bytes} {txn start : ℕ} {key : Key} (asks : Rollb
       area-room = let k = key-bounds key form in omega (arith, asks .area-room);
     }
 
-    pub rollback-done : {r : Store} {area′ : Bytes} → Leaves (recordOver key (recordFor start start Rollback) row (boxOf st area)) (st .top + length key + 8 + 8 + length row) r area′
-        → Applied st area (applyRollback start key (boxOf st area)) (st .top + 64) r area′
+    pub rollback-done : {r : Store} {area′ : Bytes} → Leaves (recordOver key (recordFor start start Rollback) row (boxOf st area)) (st .top + 1 + length key + 8 + 8 + length row) r area′
+        → Applied st area (applyRollback start key (boxOf st area)) (st .top + 65) r area′
     unfolding addIf
     rollback-done l =
         let k = key-bounds key form in
@@ -244,8 +244,8 @@ module _ {st : Store} {area : Bytes} {txn start : ℕ} {key : Key} (asks : Rollb
           still = λ q. absurd (never (sym none-at ∙ ap (λ (x : box.Box). stampedAt start (box.recordsOf key (x .lines))) (sym q ∙ new) ∙ rolledBack-stamped start key (boxOf st area) (asks .built .kept .sorted) none-at));
         }
 
-  pub rollback-stays : {w : Written} → seen .history .at ≡ Is w → Applied st area (applyRollback start key (boxOf st area)) (st .top + 64) st area
-  rollback-stays e = stays 64 (asks .built) (rollback-old start key (boxOf st area) _ (sym (f .history .at) ∙ ap said e))
+  pub rollback-stays : {w : Written} → seen .history .at ≡ Is w → Applied st area (applyRollback start key (boxOf st area)) (st .top + 65) st area
+  rollback-stays e = stays 65 (asks .built) (rollback-old start key (boxOf st area) _ (sym (f .history .at) ∙ ap said e))
 
 -- ---- one-step
 
@@ -304,8 +304,8 @@ module _ {st : Store} {area : Bytes} {h : Ending} {key : Key} {put : Bool} {row 
     pub step-asks : RecordAsks st area seen key (h .start) (h .commit) kind row
     step-asks = subst (λ (a : Kind). RecordAsks st area seen key (h .start) (h .commit) a row) (sym kd) asked
 
-    pub step-done : {r : Store} {area′ : Bytes} → Leaves (recordOver key (recordFor (h .start) (h .commit) kind) row (boxOf st area)) (st .top + length key + 8 + 8 + length row) r area′
-        → Applied st area (applyStep h (entryFor key put row) (boxOf st area)) (st .top + 319) r area′
+    pub step-done : {r : Store} {area′ : Bytes} → Leaves (recordOver key (recordFor (h .start) (h .commit) kind) row (boxOf st area)) (st .top + 1 + length key + 8 + 8 + length row) r area′
+        → Applied st area (applyStep h (entryFor key put row) (boxOf st area)) (st .top + 320) r area′
     unfolding applyStep
     step-done {r} {area′} l = record {
       leaves = leaves-lower (ap (λ (a : Kind). recordOver key (recordFor (h .start) (h .commit) a) row (boxOf st area)) kd ∙ step-is h key put row (boxOf st area) row-none) (omega (arith, few)) l;

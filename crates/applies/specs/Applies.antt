@@ -28,27 +28,27 @@ pub record Applied (st : Store) (area : Bytes) (b : box.Box) (top : ℕ) (r : St
 abbrev pub endingFor : ℕ → ℕ → ℕ → Ending
 endingFor txn start commit = record { txn = txn; start = start; commit = commit }
 
--- at most 375 bytes come: two keys of 48, a row of 255, three numbers
+-- at most 376 bytes come: two keys of 48, a row of 255, three numbers, and one where the stretch begins at a pair of bytes
 pub record PrewriteAsks (st : Store) (area : Bytes) (h : Head) (key : Key) (put : Bool) (row : Row) : Type 0 where
   pub built : Built st area
   pub head : headStep h ≡ Accepted
   pub passed : prewriteEntry h (boxOf st area) (entryFor key put row) ≡ Accepted
   pub row-fits : RowFits (kindOf (when put row)) row
   pub slot-free : box.lockOf key (boxOf st area .lines) ≡ none → st .load .lines < 1024
-  pub area-room : st .top + 375 ≤ 131072
+  pub area-room : st .top + 376 ≤ 131072
 
 pub record CommitAsks (st : Store) (area : Bytes) (h : Ending) (key : Key) : Type 0 where
   pub built : Built st area
   pub head : endingStep h ≡ Accepted
   pub passed : commitKey h (boxOf st area) key ≡ Accepted
-  pub area-room : st .top + 319 ≤ 131072
+  pub area-room : st .top + 320 ≤ 131072
 
 pub record RollbackAsks (st : Store) (area : Bytes) (txn start : ℕ) (key : Key) : Type 0 where
   pub built : Built st area
   pub head : start ≡ 0 → ⊥
   pub passed : rollbackKey txn start (boxOf st area) key ≡ Accepted
   pub slot-free : stampedAt start (box.recordsOf key (boxOf st area .lines)) ≡ none → box.lockOf key (boxOf st area .lines) ≡ none → st .load .lines < 1024
-  pub area-room : st .top + 64 ≤ 131072
+  pub area-room : st .top + 65 ≤ 131072
 
 pub record StepAsks (st : Store) (area : Bytes) (h : Ending) (key : Key) (put : Bool) (row : Row) : Type 0 where
   pub built : Built st area
@@ -58,4 +58,4 @@ pub record StepAsks (st : Store) (area : Bytes) (h : Ending) (key : Key) (put : 
   pub passed : stepEntry h (boxOf st area) (entryFor key put row) ≡ Accepted
   pub newest : allBelow (h .commit) (box.recordsOf key (boxOf st area .lines)) ≡ true
   pub slot-free : box.lockOf key (boxOf st area .lines) ≡ none → st .load .lines < 1024
-  pub area-room : st .top + 319 ≤ 131072
+  pub area-room : st .top + 320 ≤ 131072

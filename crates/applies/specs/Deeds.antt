@@ -26,10 +26,10 @@ pointOf (Rollback txn start) = record { start = start; stamp = start }
 pointOf (Step txn start commit) = record { start = start; stamp = commit }
 
 abbrev pub mostOf : Deed → ℕ
-mostOf (Prewrite txn start ttl) = 375
-mostOf (Commit txn start commit) = 319
-mostOf (Rollback txn start) = 64
-mostOf (Step txn start commit) = 319
+mostOf (Prewrite txn start ttl) = 376
+mostOf (Commit txn start commit) = 320
+mostOf (Rollback txn start) = 65
+mostOf (Step txn start commit) = 320
 
 -- the definition's change of one entry
 abbrev pub applyOf : Deed → Key → Mutation → Box → Box

@@ -39,14 +39,14 @@ pub fn point_of(deed: Deed) -> Point
 }
 
 // How many bytes of the area an entry takes at most: a prewrite's lock has two keys of 48, a row of 255 and three numbers, a record one
-// key, a row and two numbers, a Rollback no row.
+// key, a row and two numbers, a Rollback no row; and one byte more, since a stretch begins at a pair of bytes.
 pub fn most_of(deed: Deed) -> usize
     ensures { λ r. ⌜ r ≡ mostOf deed ⌝ }
 {
     match deed {
-        Deed::Prewrite { txn, start, ttl } => 375,
-        Deed::Commit { txn, start, commit } => 319,
-        Deed::Rollback { txn, start } => 64,
-        Deed::Step { txn, start, commit } => 319,
+        Deed::Prewrite { txn, start, ttl } => 376,
+        Deed::Commit { txn, start, commit } => 320,
+        Deed::Rollback { txn, start } => 65,
+        Deed::Step { txn, start, commit } => 320,
     }
 }

@@ -42,7 +42,7 @@ fn apply_prewrite(
     row: &[u8],
 ) -> Change
     requires { ⌜ (PrewriteAsks store (now area) (headFor txn start (now primary) ttl) (now key) put (now row)) × (LookedAt store (now area) (now key) start 0 seen) ⌝ }
-    ensures { λ r. ⌜ (ChangeAsks store r) × (Applied store (now (area .entry)) (applyPrewrite (headFor txn start (now (primary .entry)) ttl) (entryFor (now (key .entry)) put (now (row .entry))) (boxOf store (now (area .entry)))) (store .top + 375) (changed store r) (now (area .exit))) ⌝ }
+    ensures { λ r. ⌜ (ChangeAsks store r) × (Applied store (now (area .entry)) (applyPrewrite (headFor txn start (now (primary .entry)) ttl) (entryFor (now (key .entry)) put (now (row .entry))) (boxOf store (now (area .entry)))) (store .top + 376) (changed store r) (now (area .exit))) ⌝ }
 {
     let lock = seen.lock;
     match lock {
@@ -62,7 +62,7 @@ fn apply_commit(
     key: &[u8],
 ) -> Change
     requires { ⌜ (CommitAsks store (now area) (endingFor txn start commit) (now key)) × (LookedAt store (now area) (now key) start commit seen) ⌝ }
-    ensures { λ r. ⌜ (ChangeAsks store r) × (Applied store (now (area .entry)) (applyCommit (endingFor txn start commit) (now (key .entry)) (boxOf store (now (area .entry)))) (store .top + 319) (changed store r) (now (area .exit))) ⌝ }
+    ensures { λ r. ⌜ (ChangeAsks store r) × (Applied store (now (area .entry)) (applyCommit (endingFor txn start commit) (now (key .entry)) (boxOf store (now (area .entry)))) (store .top + 320) (changed store r) (now (area .exit))) ⌝ }
 {
     let history = seen.history;
     let with = history.with;
@@ -82,7 +82,7 @@ fn apply_rollback(
     key: &[u8],
 ) -> Change
     requires { ⌜ (RollbackAsks store (now area) txn start (now key)) × (LookedAt store (now area) (now key) start start seen) ⌝ }
-    ensures { λ r. ⌜ (ChangeAsks store r) × (Applied store (now (area .entry)) (applyRollback start (now (key .entry)) (boxOf store (now (area .entry)))) (store .top + 64) (changed store r) (now (area .exit))) ⌝ }
+    ensures { λ r. ⌜ (ChangeAsks store r) × (Applied store (now (area .entry)) (applyRollback start (now (key .entry)) (boxOf store (now (area .entry)))) (store .top + 65) (changed store r) (now (area .exit))) ⌝ }
 {
     let table = store.lines;
     let load = store.load;
@@ -118,7 +118,7 @@ fn apply_step(
     row: &[u8],
 ) -> Change
     requires { ⌜ (StepAsks store (now area) (endingFor txn start commit) (now key) put (now row)) × (LookedAt store (now area) (now key) start commit seen) ⌝ }
-    ensures { λ r. ⌜ (ChangeAsks store r) × (Applied store (now (area .entry)) (applyStep (endingFor txn start commit) (entryFor (now (key .entry)) put (now (row .entry))) (boxOf store (now (area .entry)))) (store .top + 319) (changed store r) (now (area .exit))) ⌝ }
+    ensures { λ r. ⌜ (ChangeAsks store r) × (Applied store (now (area .entry)) (applyStep (endingFor txn start commit) (entryFor (now (key .entry)) put (now (row .entry))) (boxOf store (now (area .entry)))) (store .top + 320) (changed store r) (now (area .exit))) ⌝ }
 {
     let table = store.lines;
     let load = store.load;

@@ -5,9 +5,10 @@ ghost use lib.ListN.{length};
 ghost use Rattle.forms.specs.Bytes.{eqBytes};
 ghost use Rattle.forms.specs.Readers.{when};
 ghost use Rattle.rules.specs.Page.{fromOn, beforeEnd, inBounds};
-ghost use Rattle.lines.specs.View.{keyOf};
+ghost use Rattle.lines.specs.View.{placeOf, keyOf};
 ghost use Rattle.bounds.specs.Bounds.{boundsOf};
 use lines::Slot;
+use lines::place_of;
 
 // "from start (from after resume, if start is absent or not above resume)"
 fn from_on(key: &[u8], starts: bool, start: &[u8], resumes: bool, resume: &[u8]) -> bool
@@ -66,22 +67,22 @@ pub fn slot_inside(
     resumes: bool,
     resume: &[u8],
 ) -> bool
-    requires { ⌜ s .at + s .len ≤ length (now area) ⌝ }
+    requires { ⌜ placeOf s + s .len ≤ length (now area) ⌝ }
     ensures { λ r. ⌜ r ≡ inBounds (boundsOf starts (now (start .entry)) ends (now (end .entry)) resumes (now (resume .entry))) (keyOf (now (area .entry)) s) ⌝ }
 {
-    let at = s.at as usize;
+    let at = place_of(s);
     let e = at + s.len as usize;
     in_bounds(&area[at..e], starts, start, ends, end, resumes, resume)
 }
 
 // Whether two slots have one key.
 pub fn slots_share(s: Slot, t: Slot, area: &[u8]) -> bool
-    requires { ⌜ (s .at + s .len ≤ length (now area)) × (t .at + t .len ≤ length (now area)) ⌝ }
+    requires { ⌜ (placeOf s + s .len ≤ length (now area)) × (placeOf t + t .len ≤ length (now area)) ⌝ }
     ensures { λ r. ⌜ r ≡ eqBytes (keyOf (now (area .entry)) s) (keyOf (now (area .entry)) t) ⌝ }
 {
-    let sa = s.at as usize;
+    let sa = place_of(s);
     let se = sa + s.len as usize;
-    let ta = t.at as usize;
+    let ta = place_of(t);
     let te = ta + t.len as usize;
     forms::same(&area[sa..se], &area[ta..te])
 }

@@ -106,7 +106,7 @@ pub record Underway (d : Deed) (primary : Key) (st : Store) (area s : Bytes) (n 
   pub still : n ≡ 0 → Untouched st area cur area′
 
 -- the bytes of all entries
-pub few-bytes : (d : Deed) {n : ℕ} → n ≤ 32 → n * mostOf d ≤ 12000
+pub few-bytes : (d : Deed) {n : ℕ} → n ≤ 32 → n * mostOf d ≤ 12032
 few-bytes (Prewrite txn start ttl) h = omega arith
 few-bytes (Commit txn start commit) h = omega arith
 few-bytes (Rollback txn start) h = omega arith

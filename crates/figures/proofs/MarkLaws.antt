@@ -11,7 +11,7 @@ use Rattle.forms.specs.Bytes.{Bytes}
 use Rattle.rules.specs.Box as box
 use Rattle.rules.specs.Figures.{largest, marks}
 use Rattle.rules.specs.declared.figures.Marks.{Marks}
-use Rattle.lines.specs.View.{eightAt, lineOf, rowIn, boxOf, noSlot}
+use Rattle.lines.specs.View.{placeOf, eightAt, lineOf, rowIn, boxOf, noSlot}
 use Rattle.lines.specs.Made.{Built}
 use Rattle.lines.proofs.LookLaws.{slot-in}
 use Rattle.lines.proofs.ViewLaws.{past-numbers}
@@ -25,14 +25,14 @@ use Rattle.figures.proofs.RowLaws.{stored-starts}
 
 -- ---- one line more
 
-module _ (area : Bytes) (s : Slot) (m : Marks) {a b : ℕ} (first : a ≡ eightAt area (s .at + s .len)) (start : b ≡ eightAt area (s .at + s .len + 8)) where
+module _ (area : Bytes) (s : Slot) (m : Marks) {a b : ℕ} (first : a ≡ eightAt area (placeOf s + s .len)) (start : b ≡ eightAt area (placeOf s + s .len + 8)) where
   pub mark-lock : {l : Stood} {t u : ℕ} → s .line ≡ Standing l → u ≡ max b (m .stamp) → t ≡ max a (m .txn) → record { txn = t; stamp = u } ≡ addMark (lineOf area s) m
   mark-lock e p q = rw (p, q, first, start, e)
 
   pub mark-record : {w : Ended} {u v : ℕ} → s .line ≡ Finished w → u ≡ max b (m .stamp) → v ≡ max a u → record { txn = m .txn; stamp = v } ≡ addMark (lineOf area s) m
   mark-record {v = v} e p q =
       let h : m .txn ≡ max 0 (m .txn) = omega arith in
-      let g : v ≡ max (max (eightAt area (s .at + s .len)) (eightAt area (s .at + s .len + 8))) (m .stamp) = omega arith in
+      let g : v ≡ max (max (eightAt area (placeOf s + s .len)) (eightAt area (placeOf s + s .len + 8))) (m .stamp) = omega arith in
       rw e (ap₂ (λ (t u : ℕ). record { txn = t; stamp = u }) h g)
 
 -- ---- the loop
@@ -49,7 +49,7 @@ module _ {st : Store} {area : Bytes} (made : Built st area) where
   unfolding lineMarks largest
   marks-start = down-start (made .lines) (lineOf area) lineMarks refl
 
-  pub marks-ready : {i : ℕ} {m : Marks} → LinesMarked area (st .lines) (st .load .lines) i m → 0 < i → getD (st .lines) (i - 1) noSlot .at + getD (st .lines) (i - 1) noSlot .len + 16 ≤ length area
+  pub marks-ready : {i : ℕ} {m : Marks} → LinesMarked area (st .lines) (st .load .lines) i m → 0 < i → placeOf (getD (st .lines) (i - 1) noSlot) + getD (st .lines) (i - 1) noSlot .len + 16 ≤ length area
   marks-ready {i} w h = omega (arith, slot-in made (i - 1) (omega (arith, w .low)), past-numbers (getD (st .lines) (i - 1) noSlot .line))
 
   pub marks-more : {i : ℕ} {m r : Marks} → LinesMarked area (st .lines) (st .load .lines) i m → 0 < i → r ≡ addMark (lineOf area (getD (st .lines) (i - 1) noSlot)) m → LinesMarked area (st .lines) (st .load .lines) (i - 1) r

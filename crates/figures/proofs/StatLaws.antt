@@ -20,7 +20,7 @@ use Rattle.rules.specs.Room.{loadOf}
 use Rattle.rules.specs.Figures.{figures, stats}
 use Rattle.laws.proofs.Sorted.{fewer-drop, ordered-fewer}
 use Rattle.laws.proofs.BoxOrder.{order-lines}
-use Rattle.lines.specs.View.{keyOf, lineIn, lineOf, rowIn, boxOf, noSlot}
+use Rattle.lines.specs.View.{placeOf, keyOf, lineIn, lineOf, rowIn, boxOf, noSlot}
 use Rattle.lines.specs.Made.{Built}
 use Rattle.lines.proofs.LookLaws.{slot-in}
 use Rattle.lines.specs.declared.store.Line.{Line}
@@ -43,11 +43,11 @@ record-one : (x : box.Line) → recordsIn x ≤ 1
 record-one (box.Standing l) = omega arith
 record-one (box.Finished w) = omega arith
 
-pub line-counted : {area : Bytes} {seen : Seen} {s : Slot} (v : NextLine area seen s) {x : Line} {t : Bool} {n : ℕ} {a b : Run} → s .line ≡ x
-    → t ≡ eqBytes (bytesAt area (seen .at) (seen .len)) (keyOf area s) → n ≡ rowsIn (lineIn area (s .at + s .len) x)
-    → a ≡ nextRun t n (seen .rows) → b ≡ nextRun t (recordsIn (lineIn area (s .at + s .len) x)) (seen .records)
-    → LineCounted area seen s (record { at = s .at; len = s .len; rows = a; records = b })
-line-counted v e h o p q = record { is = rw (p, q, o, h, e); within = v .key-in }
+pub line-counted : {area : Bytes} {seen : Seen} {s : Slot} (v : NextLine area seen s) {x : Line} {t : Bool} {at n : ℕ} {a b : Run} → at ≡ placeOf s → s .line ≡ x
+    → t ≡ eqBytes (bytesAt area (seen .at) (seen .len)) (keyOf area s) → n ≡ rowsIn (lineIn area (placeOf s + s .len) x)
+    → a ≡ nextRun t n (seen .rows) → b ≡ nextRun t (recordsIn (lineIn area (placeOf s + s .len) x)) (seen .records)
+    → LineCounted area seen s (record { at = at; len = s .len; rows = a; records = b })
+line-counted v z e h o p q = record { is = rw (p, q, o, h, e, z); within = omega (arith, z, v .key-in) }
 
 cons : (e : box.KeyLine) (es : List box.KeyLine) → sightOf (e ∷ es) ≡ addLine e (sightOf es)
 unfolding keyAt runOf

@@ -15,7 +15,7 @@ use Rattle.rules.specs.declared.figures.Figures.{Figures}
 use Rattle.rules.specs.declared.figures.Marks.{Marks}
 use Rattle.rules.specs.Box.{Line, Standing, Finished, KeyLine, kindIn}
 use Rattle.rules.specs.Figures.{sucIf, lineTxn, lineStamp, largest}
-use Rattle.lines.specs.View.{lineOf}
+use Rattle.lines.specs.View.{placeOf, lineOf}
 use Rattle.lines.specs.declared.store.Slot.{Slot}
 use Rattle.figures.specs.declared.runs.Run.{Run}
 use Rattle.figures.specs.declared.runs.Seen.{Seen}
@@ -103,7 +103,7 @@ sightIn area q = record { key = bytesAt area (q .at) (q .len); rows = q .rows; r
 -- what one line more asks: both keys lie in the area, and the counts are few
 pub record NextLine (area : Bytes) (seen : Seen) (s : Slot) : Type 0 where
   pub before-in : seen .at + seen .len ≤ length area
-  pub key-in : s .at + s .len ≤ length area
+  pub key-in : placeOf s + s .len ≤ length area
   pub rows : Few (seen .rows .long) (seen .rows .closed)
   pub records : Few (seen .records .long) (seen .records .closed)
 

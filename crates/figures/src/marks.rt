@@ -4,13 +4,14 @@ ghost use mathlib.Core.Path.{_≡_};
 ghost use Prim.Native.Nat.{_+_, _≤_, max};
 ghost use lib.ListN.{length};
 ghost use Rattle.rules.specs.Figures.{marks};
-ghost use Rattle.lines.specs.View.{boxOf, lineOf};
+ghost use Rattle.lines.specs.View.{placeOf, boxOf, lineOf};
 ghost use Rattle.lines.specs.Made.{Made};
 ghost use Rattle.figures.specs.Walks.{addMark};
 use lines::AREA;
 use lines::Line;
 use lines::Slot;
 use lines::Store;
+use lines::place_of;
 use lines::views::eight_at;
 use rules::Marks;
 
@@ -25,10 +26,10 @@ fn larger(a: u64, b: u64) -> u64
 
 // One line more.
 fn mark_line(m: Marks, s: Slot, area: &[u8]) -> Marks
-    requires { ⌜ s .at + s .len + 16 ≤ length (now area) ⌝ }
+    requires { ⌜ placeOf s + s .len + 16 ≤ length (now area) ⌝ }
     ensures { λ r. ⌜ r ≡ addMark (lineOf (now (area .entry)) s) m ⌝ }
 {
-    let at = s.at as usize + s.len as usize;
+    let at = place_of(s) + s.len as usize;
     let first = eight_at(area, at);
     let start = eight_at(area, at + 8);
     let stamp = larger(start, m.stamp);

@@ -14,6 +14,7 @@ use lines::AREA;
 use lines::Line;
 use lines::Slot;
 use lines::Store;
+use lines::place_of;
 use rules::Kind;
 use rules::Stats;
 
@@ -35,7 +36,7 @@ fn one_line(seen: Seen, s: Slot, area: &[u8]) -> Seen
 {
     let a = seen.at;
     let e = a + seen.len;
-    let at = s.at as usize;
+    let at = place_of(s);
     let len = s.len as usize;
     let f = at + len;
     let same = forms::same(&area[a..e], &area[at..f]);

@@ -42,7 +42,7 @@ use Rattle.lines.specs.declared.views.Told.{Told}
 use Rattle.lines.specs.declared.keys.Locked.the-variants.{Nobody}
 use Rattle.lines.specs.declared.keys.History.{History}
 use Rattle.lines.specs.declared.keys.Looked.{Looked}
-use Rattle.lines.specs.View.{eightAt, lineIn, past, rowLen, rowIf, keyOf, lineOf, rowIn, defaultIn, stored, boxOf, noSlot}
+use Rattle.lines.specs.View.{eightAt, lineIn, placeOf, past, rowLen, rowIf, keyOf, lineOf, rowIn, defaultIn, stored, boxOf, noSlot}
 use Rattle.lines.specs.Made.{SlotBelow, Built}
 use Rattle.lines.specs.Looks.{toldIn, toldOf, lockedBy, noHistory, either, seeLine, RowThere, LockThere, HistoryAt, stampLine, recordPlace, LookedAt}
 use Rattle.lines.proofs.ViewLaws.{past-row, lean-row}
@@ -94,7 +94,7 @@ module _ {st : Store} {area : Bytes} (b : Built st area) where
   pub lines-order : box.ordered box.before es ≡ true
   lines-order = order-lines (boxOf st area) (b .kept .sorted)
 
-  pub slot-in : (i : ℕ) → i < st .load .lines → slot i .at + slot i .len + past (slot i .line) ≤ length area
+  pub slot-in : (i : ℕ) → i < st .load .lines → placeOf (slot i) + slot i .len + past (slot i .line) ≤ length area
   slot-in i h = omega (arith, table-at (b .lines) i h .below, b .top-in, b .area-long)
 
   module _ (i : ℕ) (h : i < st .load .lines) where
@@ -105,13 +105,13 @@ module _ {st : Store} {area : Bytes} (b : Built st area) where
     inside = omega (arith, length-take-le (st .load .lines) (st .lines) (table-long (b .lines)))
 
     -- the row of a line's pair is the one that it carries
-    pub row-there : (t : ℕ) → All (SlotBelow t) (take (st .load .lines) (st .lines)) → RowThere t area ds (keyOf area (slot i)) (startOf (lineOf area (slot i) .line)) (kindIn (lineOf area (slot i) .line)) (slot i .at + slot i .len + 8 + 8) (rowLen (slot i .line))
+    pub row-there : (t : ℕ) → All (SlotBelow t) (take (st .load .lines) (st .lines)) → RowThere t area ds (keyOf area (slot i)) (startOf (lineOf area (slot i) .line)) (kindIn (lineOf area (slot i) .line)) (placeOf (slot i) + slot i .len + 8 + 8) (rowLen (slot i .line))
     unfolding shown
     row-there t a =
         let p : SlotBelow t (slot i) = subst (SlotBelow t) same (all-at (SlotBelow t) noSlot (take (st .load .lines) (st .lines)) i a inside) in
         record {
           within = omega (arith, p .below, past-row (slot i .line));
-          lean = lean-row area (slot i .at + slot i .len) (slot i .line) (p .lean);
+          lean = lean-row area (placeOf (slot i) + slot i .len) (slot i .line) (p .lean);
           is =
               subst (λ (s : Slot). box.rowOf (keyOf area s) (startOf (lineOf area s .line)) ds ≡ rowIf (kindIn (lineOf area s .line)) (rowIn area s)) same
               (row-held (lineOf area) (rowIn area) (take (st .load .lines) (st .lines)) i noSlot inside (b .kept .once));
@@ -266,21 +266,21 @@ module _ {st : Store} {area : Bytes} (b : Built st area) (k : Key) (start stamp 
         stands x q = sym (before-same e (stampLine k stamp) own ∙ ap (λ (y : box.Line). box.lineBefore y (stampLine k stamp .line)) q) ∙ stamp-here
 
         module _ (top : ℕ) (a : All (SlotBelow top) (take (st .load .lines) (st .lines))) where
-          row-here : (x : Line) → here .line ≡ x → RowThere top area (ds b) k (startOf (lineIn area (here .at + here .len) x)) (kindIn (lineIn area (here .at + here .len) x)) (here .at + here .len + 8 + 8) (rowLen x)
+          row-here : (x : Line) → here .line ≡ x → RowThere top area (ds b) k (startOf (lineIn area (placeOf here + here .len) x)) (kindIn (lineIn area (placeOf here + here .len) x)) (placeOf here + here .len + 8 + 8) (rowLen x)
           row-here x q =
-              subst (λ (j : Key). RowThere top area (ds b) j (startOf (lineIn area (here .at + here .len) x)) (kindIn (lineIn area (here .at + here .len) x)) (here .at + here .len + 8 + 8) (rowLen x)) (eqBytes-true (e .key) k own)
-              (subst (λ (y : Line). RowThere top area (ds b) (e .key) (startOf (lineIn area (here .at + here .len) y)) (kindIn (lineIn area (here .at + here .len) y)) (here .at + here .len + 8 + 8) (rowLen y)) q (row-there b i l top a))
+              subst (λ (j : Key). RowThere top area (ds b) j (startOf (lineIn area (placeOf here + here .len) x)) (kindIn (lineIn area (placeOf here + here .len) x)) (placeOf here + here .len + 8 + 8) (rowLen x)) (eqBytes-true (e .key) k own)
+              (subst (λ (y : Line). RowThere top area (ds b) (e .key) (startOf (lineIn area (placeOf here + here .len) y)) (kindIn (lineIn area (placeOf here + here .len) y)) (placeOf here + here .len + 8 + 8) (rowLen y)) q (row-there b i l top a))
 
-          primary-here : (h : Stood) → here .line ≡ Standing h → here .at + here .len + 8 + 8 + h .rowlen + 8 + h .plen ≤ top
+          primary-here : (h : Stood) → here .line ≡ Standing h → placeOf here + here .len + 8 + 8 + h .rowlen + 8 + h .plen ≤ top
           primary-here h q =
               let s : SlotBelow top (slot b i) = subst (SlotBelow top) (same b i l) (all-at (SlotBelow top) noSlot (take (st .load .lines) (st .lines)) i a (inside b i l)) in
               omega (arith, s .below, ap past q)
 
-        seen-line : (x : Line) → here .line ≡ x → Looking area k start stamp (st .lines) (st .load .lines) (i + 1) (seeLine start stamp (i + 1) seen (toldIn area (here .at + here .len) x))
+        seen-line : (x : Line) → here .line ≡ x → Looking area k start stamp (st .lines) (st .load .lines) (i + 1) (seeLine start stamp (i + 1) seen (toldIn area (placeOf here + here .len) x))
         unfolding box.addLock box.addRecord
         seen-line (Standing h) q =
-            let y : box.Line = lineIn area (here .at + here .len) (Standing h) in
-            let q′ : e .line ≡ y = ap (lineIn area (here .at + here .len)) q in
+            let y : box.Line = lineIn area (placeOf here + here .len) (Standing h) in
+            let q′ : e .line ≡ y = ap (lineIn area (placeOf here + here .len)) q in
             record {
               low = omega arith;
               from = omega (arith, w .from);
@@ -293,18 +293,18 @@ module _ {st : Store} {area : Bytes} (b : Built st area) (k : Key) (start stamp 
                   subst (λ (ws : List Record). HistoryAt t area (ds b) k start stamp ws (seen .history)) (sym (records-more y q′ ∙ append-nil (box.recordsOf k (take i (es b))))) (w .history t a);
             }
         seen-line (Finished v) q =
-            let y : box.Line = lineIn area (here .at + here .len) (Finished v) in
-            let q′ : e .line ≡ y = ap (lineIn area (here .at + here .len)) q in
+            let y : box.Line = lineIn area (placeOf here + here .len) (Finished v) in
+            let q′ : e .line ≡ y = ap (lineIn area (placeOf here + here .len)) q in
             record {
               low = omega arith;
               from = omega (arith, w .from);
               first-is = w .first-is;
               place-is = lesser-either _ (stands y q′) (w .place-is);
-              few = omega (arith, w .few, examined-few (leb (eightAt area (here .at + here .len)) stamp) (box.eqKind (v .kind) Rollback) (seen .history .examined));
+              few = omega (arith, w .few, examined-few (leb (eightAt area (placeOf here + here .len)) stamp) (box.eqKind (v .kind) Rollback) (seen .history .examined));
               lock-is = w .lock-is ∙ sym (lock-more y q′ ∙ or-none (box.lockOf k (take i (es b))));
               lock-there = w .lock-there;
               history = λ t a.
-                  subst (λ (ws : List Record). HistoryAt t area (ds b) k start stamp ws (seeLine start stamp (i + 1) seen (toldIn area (here .at + here .len) (Finished v)) .history)) (sym (records-more y q′))
+                  subst (λ (ws : List Record). HistoryAt t area (ds b) k start stamp ws (seeLine start stamp (i + 1) seen (toldIn area (placeOf here + here .len) (Finished v)) .history)) (sym (records-more y q′))
                   (history-more _ (row-here t a (Finished v) q) (w .history t a));
             }
 

@@ -24,7 +24,7 @@ use Rattle.lines.specs.declared.store.Line.{Line}
 use Rattle.lines.specs.declared.store.Line.the-variants.{Standing, Finished}
 use Rattle.lines.specs.declared.store.Slot.{Slot}
 use Rattle.lines.specs.declared.store.Store.{Store}
-use Rattle.lines.specs.View.{eightAt, rowLen, lineIn, past, keyOf, lineOf, rowIn, sizeOf, ifPut, defaultIn, addIf, stored, boxOf}
+use Rattle.lines.specs.View.{eightAt, placeOf, rowLen, lineIn, past, keyOf, lineOf, rowIn, sizeOf, ifPut, defaultIn, addIf, stored, boxOf}
 use Rattle.lines.specs.Made.{LeanRow, Lean, SlotBelow, Built, Made, Counted}
 use Rattle.lines.proofs.ViewLaws.{bytes-long}
 
@@ -48,16 +48,16 @@ module _ (area : Bytes) where
   slot-need : (s : Slot) → SlotBelow (length area) s → sizeOf s ≤ lineBytes (keyOf area s) (lineOf area s .line) + bytesIn (defaultIn area s) + 16 + 8 * oneLock (lineOf area s .line)
   slot-need s b = go (s .line) (b .below) (b .lean)
     where
-      go : (x : Line) → s .at + s .len + past x ≤ length area → Lean x → s .len + past x ≤ lineBytes (keyOf area s) (lineIn area (s .at + s .len) x) + bytesIn (defaultIn area (record { at = s .at; len = s .len; used = s .used; line = x })) + 16 + 8 * oneLock (lineIn area (s .at + s .len) x)
+      go : (x : Line) → placeOf s + s .len + past x ≤ length area → Lean x → s .len + past x ≤ lineBytes (keyOf area s) (lineIn area (placeOf s + s .len) x) + bytesIn (defaultIn area (record { at = s .at; len = s .len; used = s .used; line = x })) + 16 + 8 * oneLock (lineIn area (placeOf s + s .len) x)
       go (Standing l) h n =
-          let k = bytes-long area (s .at) (s .len) (omega arith) in
-          let r = bytes-long area (s .at + s .len + 8 + 8) (l .rowlen) (omega arith) in
-          let p = bytes-long area (s .at + s .len + 8 + 8 + l .rowlen + 8) (l .plen) (omega arith) in
-          omega (arith, row-counted (l .kind) (record { key = keyOf area s; start = eightAt area (s .at + s .len + 8); row = rowIn area (record { at = s .at; len = s .len; used = s .used; line = Standing l }) }) (subst (LeanRow (l .kind)) (sym r) n))
+          let k = bytes-long area (placeOf s) (s .len) (omega arith) in
+          let r = bytes-long area (placeOf s + s .len + 8 + 8) (l .rowlen) (omega arith) in
+          let p = bytes-long area (placeOf s + s .len + 8 + 8 + l .rowlen + 8) (l .plen) (omega arith) in
+          omega (arith, row-counted (l .kind) (record { key = keyOf area s; start = eightAt area (placeOf s + s .len + 8); row = rowIn area (record { at = s .at; len = s .len; used = s .used; line = Standing l }) }) (subst (LeanRow (l .kind)) (sym r) n))
       go (Finished w) h n =
-          let k = bytes-long area (s .at) (s .len) (omega arith) in
-          let r = bytes-long area (s .at + s .len + 8 + 8) (w .rowlen) (omega arith) in
-          omega (arith, row-counted (w .kind) (record { key = keyOf area s; start = eightAt area (s .at + s .len + 8); row = rowIn area (record { at = s .at; len = s .len; used = s .used; line = Finished w }) }) (subst (LeanRow (w .kind)) (sym r) n))
+          let k = bytes-long area (placeOf s) (s .len) (omega arith) in
+          let r = bytes-long area (placeOf s + s .len + 8 + 8) (w .rowlen) (omega arith) in
+          omega (arith, row-counted (w .kind) (record { key = keyOf area s; start = eightAt area (placeOf s + s .len + 8); row = rowIn area (record { at = s .at; len = s .len; used = s .used; line = Finished w }) }) (subst (LeanRow (w .kind)) (sym r) n))
 
   slots-need : (ss : List Slot) → All (SlotBelow (length area)) ss → sumOf sizeOf ss ≤ bytesOfLines (map (lineOf area) ss) + sumOf bytesIn (map (defaultIn area) ss) + 16 * length ss + 8 * lockCount (map (lineOf area) ss)
   unfolding All sumOf
@@ -89,13 +89,13 @@ carried-most Rollback d = omega arith
 module _ (area : Bytes) where
   slot-most : (s : Slot) → lineBytes (keyOf area s) (lineOf area s .line) + bytesIn (defaultIn area s) ≤ 4 * length area
   slot-most s =
-      let k = bytes-most area (s .at) (s .len) in
-      let r = bytes-most area (s .at + s .len + 8 + 8) (rowLen (s .line)) in
+      let k = bytes-most area (placeOf s) (s .len) in
+      let r = bytes-most area (placeOf s + s .len + 8 + 8) (rowLen (s .line)) in
       let c = carried-most (kindIn (lineOf area s .line)) (record { key = keyOf area s; start = startOf (lineOf area s .line); row = rowIn area s }) in
       omega (arith, go (s .line))
     where
-      go : (x : Line) → lineBytes (keyOf area s) (lineIn area (s .at + s .len) x) ≤ length (keyOf area s) + length area
-      go (Standing l) = omega (arith, bytes-most area (s .at + s .len + 8 + 8 + l .rowlen + 8) (l .plen))
+      go : (x : Line) → lineBytes (keyOf area s) (lineIn area (placeOf s + s .len) x) ≤ length (keyOf area s) + length area
+      go (Standing l) = omega (arith, bytes-most area (placeOf s + s .len + 8 + 8 + l .rowlen + 8) (l .plen))
       go (Finished w) = omega arith
 
   slots-most : (ss : List Slot) → bytesOfLines (map (lineOf area) ss) + sumOf bytesIn (map (defaultIn area) ss) ≤ length ss * (4 * length area)

@@ -16,7 +16,7 @@ use Rattle.rules.specs.Calls.{allBelow, stampedAt, recordFor, foundIf}
 use Rattle.rules.specs.Commit.{withStart}
 use Rattle.rules.specs.Read.{newestFirst}
 use Rattle.laws.specs.Places.{howMany, linesBefore, finishedAt}
-use Rattle.lines.specs.View.{eightAt, rowIf, boxOf}
+use Rattle.lines.specs.View.{eightAt, placeOf, rowIf, boxOf}
 use Rattle.lines.specs.Made.{LeanRow}
 use Rattle.lines.specs.declared.store.Slot.{Slot}
 use Rattle.lines.specs.declared.store.Store.{Store}
@@ -50,7 +50,7 @@ toldIn area at (Standing l) =
 toldIn area at (Finished w) = told.Finished (record { stamp = eightAt area at; start = eightAt area (at + 8); kind = w .kind; rowat = at + 8 + 8; rowlen = w .rowlen })
 
 abbrev pub toldOf : Bytes → Slot → Told
-toldOf area s = toldIn area (s .at + s .len) (s .line)
+toldOf area s = toldIn area (placeOf s + s .len) (s .line)
 
 -- and what it is in the box
 abbrev pub lockIn : Bytes → Intent → box.Lock

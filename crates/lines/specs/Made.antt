@@ -16,7 +16,7 @@ use Rattle.rules.specs.Room.{loadOf, Fits}
 use Rattle.rules.specs.Restore.{allGood, noSecond, likeLine}
 use Rattle.rules.specs.declared.room.Load.{Load}
 pub use Rattle.ledger.specs.Tidy.{soundLine, goodLine}
-use Rattle.lines.specs.View.{past, boxOf, noSlot}
+use Rattle.lines.specs.View.{placeOf, past, boxOf, noSlot}
 use Rattle.lines.specs.declared.store.Line.{Line}
 use Rattle.lines.specs.declared.store.Line.the-variants.{Standing, Finished}
 use Rattle.lines.specs.declared.store.Slot.{Slot}
@@ -34,7 +34,7 @@ Lean (Finished w) = LeanRow (w .kind) (w .rowlen)
 
 -- a slot in use: its stretch lies below `top`
 pub record SlotBelow (top : ℕ) (s : Slot) : Type 0 where
-  pub below : s .at + s .len + past (s .line) ≤ top
+  pub below : placeOf s + s .len + past (s .line) ≤ top
   pub lean : Lean (s .line)
   pub in-use : s .used ≡ true
 

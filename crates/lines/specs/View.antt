@@ -4,7 +4,7 @@
 use mathlib.Core.Bool.{false}
 use mathlib.Core.List.{List, [], _∷_}
 use mathlib.Core.Option.{Option, none, some}
-use Prim.Native.Nat.{ℕ, _+_}
+use Prim.Native.Nat.{ℕ, _+_, _≤_}
 use Rattle.seqs.specs.Tables.{shown}
 use Rattle.forms.specs.Bytes.{Bytes, bytesAt}
 use Rattle.forms.specs.Key.{Key}
@@ -46,14 +46,23 @@ past (Finished w) = 8 + 8 + w .rowlen
 
 -- ---- a slot
 
+-- where its stretch begins: `at` counts pairs of bytes
+abbrev pub placeOf : Slot → ℕ
+placeOf s = s .at + s .at
+
+-- so many pairs of bytes are the fewest that hold `top` bytes
+pub record Pairs (top at : ℕ) : Type 0 where
+  pub holds : top ≤ at + at
+  pub fewest : at + at ≤ top + 1
+
 abbrev pub keyOf : Bytes → Slot → Key
-keyOf area s = bytesAt area (s .at) (s .len)
+keyOf area s = bytesAt area (placeOf s) (s .len)
 
 abbrev pub lineOf : Bytes → Slot → box.KeyLine
-lineOf area s = record { key = keyOf area s; line = lineIn area (s .at + s .len) (s .line) }
+lineOf area s = record { key = keyOf area s; line = lineIn area (placeOf s + s .len) (s .line) }
 
 abbrev pub rowIn : Bytes → Slot → Row
-rowIn area s = bytesAt area (s .at + s .len + 8 + 8) (rowLen (s .line))
+rowIn area s = bytesAt area (placeOf s + s .len + 8 + 8) (rowLen (s .line))
 
 -- how many bytes of the area it takes
 abbrev pub sizeOf : Slot → ℕ

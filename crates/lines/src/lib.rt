@@ -18,6 +18,8 @@ pub use store::Slot;
 pub use store::Stood;
 pub use store::Store;
 pub use store::fresh;
+pub use store::pairs_in;
+pub use store::place_of;
 pub use views::Intent;
 pub use views::Told;
 pub use views::Written;

@@ -1,8 +1,9 @@
 // What a store keeps, and a fresh one.
 ghost use mathlib.Core.Path.{_≡_};
+ghost use Prim.Native.Nat.{_≤_};
 ghost use lib.ListN.{length};
 ghost use Rattle.forms.specs.Bytes.{Bytes};
-ghost use Rattle.lines.specs.View.{noSlot};
+ghost use Rattle.lines.specs.View.{placeOf, Pairs, noSlot};
 ghost use Rattle.lines.specs.Made.{FreshStore};
 use rules::Kind;
 use rules::Load;
@@ -29,10 +30,11 @@ pub enum Line {
     Finished(Ended),
 }
 
-// A place for a line, 12 bytes. From `at` on the area has its key of `len` bytes, two numbers of 8 (a lock's transaction or a record's stamp,
-// then the start), its row, and for a lock the time to live and the primary.
+// A place for a line, 8 bytes. Its stretch of the area begins after `at` pairs of bytes, so that 16 bits reach the whole area: its key of
+// `len` bytes, two numbers of 8 (a lock's transaction or a record's stamp, then the start), its row, and for a lock the time to live and
+// the primary.
 pub struct Slot {
-    pub at: u32,
+    pub at: u16,
     pub len: u8,
     pub used: bool,
     pub line: Line,
@@ -77,4 +79,20 @@ pub fn fresh() -> Store
         },
         top: 0,
     }
+}
+
+// Where the stretch of a slot begins.
+pub fn place_of(s: Slot) -> usize
+    ensures { λ r. ⌜ r ≡ placeOf s ⌝ }
+{
+    let at = s.at as usize;
+    at + at
+}
+
+// How many pairs of bytes `top` bytes take: the next stretch begins after them.
+pub fn pairs_in(top: usize) -> usize
+    requires { ⌜ top ≤ 131072 ⌝ }
+    ensures { λ r. ⌜ Pairs top r ⌝ }
+{
+    (top + 1) / 2
 }

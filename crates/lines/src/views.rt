@@ -3,10 +3,11 @@ ghost use mathlib.Core.Path.{_≡_};
 ghost use Prim.Native.Nat.{_+_, _≤_};
 ghost use lib.ListN.{length};
 ghost use Rattle.forms.specs.Bytes.{cmp};
-ghost use Rattle.lines.specs.View.{eightAt, past, keyOf};
+ghost use Rattle.lines.specs.View.{eightAt, past, placeOf, keyOf};
 ghost use Rattle.lines.specs.Looks.{toldOf};
 use crate::store::Line;
 use crate::store::Slot;
+use crate::store::place_of;
 use forms::Order;
 use forms::Width;
 use rules::Kind;
@@ -46,10 +47,10 @@ pub fn eight_at(area: &[u8], at: usize) -> u64
 }
 
 pub fn line_of(s: Slot, area: &[u8]) -> Told
-    requires { ⌜ s .at + s .len + past (s .line) ≤ length (now area) ⌝ }
+    requires { ⌜ placeOf s + s .len + past (s .line) ≤ length (now area) ⌝ }
     ensures { λ r. ⌜ r ≡ toldOf (now (area .entry)) s ⌝ }
 {
-    let at = s.at as usize + s.len as usize;
+    let at = place_of(s) + s.len as usize;
     let first = eight_at(area, at);
     let next = at + 8;
     let start = eight_at(area, next);
@@ -87,10 +88,10 @@ pub fn line_of(s: Slot, area: &[u8]) -> Told
 
 // How the key of a slot stands to `key`.
 pub fn slot_order(s: Slot, area: &[u8], key: &[u8]) -> Order
-    requires { ⌜ s .at + s .len ≤ length (now area) ⌝ }
+    requires { ⌜ placeOf s + s .len ≤ length (now area) ⌝ }
     ensures { λ r. ⌜ r ≡ cmp (keyOf (now (area .entry)) s) (now (key .entry)) ⌝ }
 {
-    let at = s.at as usize;
+    let at = place_of(s);
     let e = at + s.len as usize;
     forms::compare(&area[at..e], key)
 }

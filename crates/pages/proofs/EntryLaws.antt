@@ -17,7 +17,7 @@ use Rattle.lines.specs.declared.store.Slot.{Slot}
 use Rattle.lines.specs.declared.views.Intent.{Intent}
 use Rattle.lines.specs.declared.views.Told.{Told}
 use Rattle.lines.specs.declared.views.Told.the-variants as told
-use Rattle.lines.specs.View.{keyOf, past}
+use Rattle.lines.specs.View.{placeOf, keyOf, past}
 use Rattle.lines.specs.Looks.{lockIn, toldIn, toldOf}
 use Rattle.walks.specs.Walked.{lineBytes, entryBytes, partLen}
 use Rattle.walks.proofs.EntryLaws.{part-long, lock-long, intentIn}
@@ -65,18 +65,18 @@ ToldAsks area at out (told.Finished w) = PieceAsks area (w .rowat) (w .rowlen) (
 
 module _ {area : Bytes} {s : Slot} {at : ℕ} {out : Bytes} (q : EntryAsks area s at out) where
   entry-long : length (entryBytes area s) ≡ s .len + 1 + length (lineBytes area (toldOf area s))
-  entry-long = length-append (pieceBytes (keyOf area s)) (lineBytes area (toldOf area s)) ∙ omega (arith, part-long area (s .at) (s .len) (omega (arith, q .line .within)))
+  entry-long = length-append (pieceBytes (keyOf area s)) (lineBytes area (toldOf area s)) ∙ omega (arith, part-long area (placeOf s) (s .len) (omega (arith, q .line .within)))
 
-  pub key-asks : s .len ≤ 255 → PieceAsks area (s .at) (s .len) (s .len + 1) at out
+  pub key-asks : s .len ≤ 255 → PieceAsks area (placeOf s) (s .len) (s .len + 1) at out
   key-asks h = record { within = omega (arith, q .line .within); short = h; room = omega (arith, q .room, entry-long) }
 
   module _ {a : ℕ} {t : Bytes} (k : Laid at (s .len + 1) (pieceBytes (keyOf area s)) out a t) where
     line-asks : ToldAsks area a t (toldOf area s)
     line-asks = go (s .line) (q .line .within) (q .line .short) (omega (arith, q .room, entry-long))
       where
-        go : (x : Line) → s .at + s .len + past x ≤ length area → partLen x ≤ 255 → a + length (lineBytes area (toldIn area (s .at + s .len) x)) ≤ length t → ToldAsks area a t (toldIn area (s .at + s .len) x)
-        go (Standing l) f g h = record { within = omega arith; short = g; room = omega (arith, lock-long (lockIn area (intentIn area (s .at + s .len) l)), part-long area (s .at + s .len + 8 + 8 + l .rowlen + 8) (l .plen) (omega arith)) }
-        go (Finished w) f g h = record { within = omega arith; short = g; room = omega (arith, part-long area (s .at + s .len + 8 + 8) (w .rowlen) (omega arith)) }
+        go : (x : Line) → placeOf s + s .len + past x ≤ length area → partLen x ≤ 255 → a + length (lineBytes area (toldIn area (placeOf s + s .len) x)) ≤ length t → ToldAsks area a t (toldIn area (placeOf s + s .len) x)
+        go (Standing l) f g h = record { within = omega arith; short = g; room = omega (arith, lock-long (lockIn area (intentIn area (placeOf s + s .len) l)), part-long area (placeOf s + s .len + 8 + 8 + l .rowlen + 8) (l .plen) (omega arith)) }
+        go (Finished w) f g h = record { within = omega arith; short = g; room = omega (arith, part-long area (placeOf s + s .len + 8 + 8) (w .rowlen) (omega arith)) }
 
     module _ {line : Told} (e : line ≡ toldOf area s) where
       pub told-asks : {x : Told} → line ≡ x → ToldAsks area a t x

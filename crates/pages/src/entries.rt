@@ -13,6 +13,7 @@ use lines::Intent;
 use lines::Slot;
 use lines::Told;
 use lines::line_of;
+use lines::place_of;
 
 // "Lock: 8-byte transaction, primary length, primary, 8-byte start, 8-byte time to live, kind byte"
 fn put_lock(out: &mut [u8], at: usize, area: &[u8], l: Intent) -> usize
@@ -33,7 +34,7 @@ pub(crate) fn put_entry(out: &mut [u8], at: usize, area: &[u8], s: Slot) -> usiz
     requires { ⌜ EntryAsks (now area) s at (now out) ⌝ }
     ensures { λ r. ⌜ Laid at (length (entryBytes (now (area .entry)) s)) (entryBytes (now (area .entry)) s) (now (out .entry)) r (now (out .exit)) ⌝ }
 {
-    let a = put_piece(out, at, area, s.at as usize, s.len as usize);
+    let a = put_piece(out, at, area, place_of(s), s.len as usize);
     let line = line_of(s, area);
     match line {
         Told::Standing(l) => put_lock(out, a, area, l),

@@ -20,9 +20,10 @@ use Rattle.rules.specs.Sound.{kindFits}
 use Rattle.laws.proofs.StepLaws.{and-left, and-right}
 use Rattle.lines.specs.declared.store.Line.the-variants.{Standing, Finished}
 use Rattle.lines.specs.declared.store.Slot.{Slot}
-use Rattle.lines.specs.View.{ifPut, noSlot}
+use Rattle.lines.specs.View.{Pairs, ifPut, noSlot}
 use Rattle.lines.specs.Made.{LeanRow, soundLine}
 use Rattle.lines.proofs.ViewLaws.{bytes-long}
+use Rattle.stretches.proofs.WriteLaws.{past-lower}
 use Rattle.stretches.specs.Writes.{LockStands, RecordStands}
 use Rattle.images.specs.Entries.{rawAt, rawOf, EntryAt}
 use Rattle.images.specs.declared.entries.Section.{Section}
@@ -48,26 +49,28 @@ lean-for Rollback o = refl
 
 -- ---- `write_lock`, `write_record`
 
-lock-comes : {area : Bytes} {top : ℕ} {key : Key} {txn start : ℕ} {row : Row} {ttl : ℕ} {primary : Key} {end : ℕ} {area′ : Bytes} (kind : Kind) → LeanRow kind (length row)
-    → LockStands area top key txn start row ttl primary end area′
+lock-comes : {area : Bytes} {top at : ℕ} {key : Key} {txn start : ℕ} {row : Row} {ttl : ℕ} {primary : Key} {end : ℕ} {area′ : Bytes} (kind : Kind) → LeanRow kind (length row)
+    → Pairs top at → LockStands area (at + at) key txn start row ttl primary end area′
     → Comes (carrying (record { key = key; line = box.Standing (record { txn = txn; primary = primary; start = start; ttl = ttl; kind = kind }) }) row) area top
-    (record { at = top; len = length key; used = true; line = Standing (record { plen = length primary; rowlen = length row; kind = kind }) }) end area′
-lock-comes {key = key} {start = start} {row = row} kind l w = record {
-  past = w .past;
+    (record { at = at; len = length key; used = true; line = Standing (record { plen = length primary; rowlen = length row; kind = kind }) }) end area′
+lock-comes {key = key} {start = start} {row = row} kind l near w = record {
+  past = past-lower (w .past) (near .holds);
   shows = let e = ap₂ {C = box.KeyLine} (λ (k : Key) (x : box.Line). record { key = k; line = x }) (w .key-is) (w .line-is kind) in ap₂ carrying e (w .row-is);
   below = record { below = omega (arith, w .next); lean = l; in-use = refl };
-  end-is = omega (arith, w .next, row-bytes kind (record { key = key; start = start; row = row }) l);
+  end-low = omega (arith, w .next, near .holds);
+  end-most = omega (arith, w .next, near .fewest, row-bytes kind (record { key = key; start = start; row = row }) l);
 }
 
-record-comes : {area : Bytes} {top : ℕ} {key : Key} {stamp start : ℕ} {row : Row} {end : ℕ} {area′ : Bytes} (kind : Kind) → LeanRow kind (length row)
-    → RecordStands area top key stamp start row end area′
+record-comes : {area : Bytes} {top at : ℕ} {key : Key} {stamp start : ℕ} {row : Row} {end : ℕ} {area′ : Bytes} (kind : Kind) → LeanRow kind (length row)
+    → Pairs top at → RecordStands area (at + at) key stamp start row end area′
     → Comes (carrying (record { key = key; line = box.Finished (recordFor start stamp kind) }) row) area top
-    (record { at = top; len = length key; used = true; line = Finished (record { rowlen = length row; kind = kind }) }) end area′
-record-comes {key = key} {start = start} {row = row} kind l w = record {
-  past = w .past;
+    (record { at = at; len = length key; used = true; line = Finished (record { rowlen = length row; kind = kind }) }) end area′
+record-comes {key = key} {start = start} {row = row} kind l near w = record {
+  past = past-lower (w .past) (near .holds);
   shows = let e = ap₂ {C = box.KeyLine} (λ (k : Key) (x : box.Line). record { key = k; line = x }) (w .key-is) (w .line-is kind) in ap₂ carrying e (w .row-is);
   below = record { below = omega (arith, w .next); lean = l; in-use = refl };
-  end-is = omega (arith, w .next, row-bytes kind (record { key = key; start = start; row = row }) l);
+  end-low = omega (arith, w .next, near .holds);
+  end-most = omega (arith, w .next, near .fewest, row-bytes kind (record { key = key; start = start; row = row }) l);
 }
 
 module _ {s : Bytes} {b : Bool} {e : Entry} {row : RowPlace} {area : Bytes} {top : ℕ} (asks : WriteAsks s b e row area top) where
@@ -84,20 +87,20 @@ module _ {s : Bytes} {b : Bool} {e : Entry} {row : RowPlace} {area : Bytes} {top
   lean-row = subst (LeanRow (kindOf (e .kind))) (sym row-long) (asks .lean)
 
 module _ {s : Bytes} {e : Entry} {row : RowPlace} {area : Bytes} {top : ℕ} (asks : WriteAsks s true e row area top) where
-  pub lock-written : {kind : Kind} → kind ≡ kindOf (e .kind) → {end : ℕ} {area′ : Bytes}
-      → LockStands area top (bytesAt s (e .at) (e .len)) (e .one) (e .two) (bytesAt s (row .at) (row .len)) (e .three) (bytesAt s (e .pat) (e .plen)) end area′
-      → Comes (carrying (lineFrom true (rawOf s e)) (bytesAt s (row .at) (row .len))) area top (record { at = top; len = e .len; used = true; line = Standing (record { plen = e .plen; rowlen = row .len; kind = kind }) }) end area′
-  lock-written kd {end} {area′} w =
+  pub lock-written : {kind : Kind} → kind ≡ kindOf (e .kind) → {at : ℕ} → Pairs top at → {end : ℕ} {area′ : Bytes}
+      → LockStands area (at + at) (bytesAt s (e .at) (e .len)) (e .one) (e .two) (bytesAt s (row .at) (row .len)) (e .three) (bytesAt s (e .pat) (e .plen)) end area′
+      → Comes (carrying (lineFrom true (rawOf s e)) (bytesAt s (row .at) (row .len))) area top (record { at = at; len = e .len; used = true; line = Standing (record { plen = e .plen; rowlen = row .len; kind = kind }) }) end area′
+  lock-written kd {at} near {end} {area′} w =
       subst (λ (x : Slot). Comes (carrying (lineFrom true (rawOf s e)) (bytesAt s (row .at) (row .len))) area top x end area′)
-      (λ i. record { at = top; len = key-long asks i; used = true; line = Standing (record { plen = piece-long asks i; rowlen = row-long asks i; kind = sym kd i }) }) (lock-comes (kindOf (e .kind)) (lean-row asks) w)
+      (λ i. record { at = at; len = key-long asks i; used = true; line = Standing (record { plen = piece-long asks i; rowlen = row-long asks i; kind = sym kd i }) }) (lock-comes (kindOf (e .kind)) (lean-row asks) near w)
 
 module _ {s : Bytes} {e : Entry} {row : RowPlace} {area : Bytes} {top : ℕ} (asks : WriteAsks s false e row area top) where
-  pub record-written : {kind : Kind} → kind ≡ kindOf (e .kind) → {end : ℕ} {area′ : Bytes} → RecordStands area top (bytesAt s (e .at) (e .len)) (e .one) (e .two) (bytesAt s (row .at) (row .len)) end area′
-      → Comes (carrying (lineFrom false (rawOf s e)) (bytesAt s (row .at) (row .len))) area top (record { at = top; len = e .len; used = true; line = Finished (record { rowlen = row .len; kind = kind }) }) end area′
-  record-written kd {end} {area′} w =
+  pub record-written : {kind : Kind} → kind ≡ kindOf (e .kind) → {at : ℕ} → Pairs top at → {end : ℕ} {area′ : Bytes} → RecordStands area (at + at) (bytesAt s (e .at) (e .len)) (e .one) (e .two) (bytesAt s (row .at) (row .len)) end area′
+      → Comes (carrying (lineFrom false (rawOf s e)) (bytesAt s (row .at) (row .len))) area top (record { at = at; len = e .len; used = true; line = Finished (record { rowlen = row .len; kind = kind }) }) end area′
+  record-written kd {at} near {end} {area′} w =
       subst (λ (p : box.KeyLine × Slot). Comes (carrying (p .0) (bytesAt s (row .at) (row .len))) area top (p .1) end area′)
-      (λ i. (record { key = bytesAt s (e .at) (e .len); line = box.Finished (record { stamp = e .one; start = e .two; commit = sym (asks .stamp) i; kind = kindOf (e .kind) }) }, record { at = top; len = key-long asks i; used = true; line = Finished (record { rowlen = row-long asks i; kind = sym kd i }) }))
-      (record-comes (kindOf (e .kind)) (lean-row asks) w)
+      (λ i. (record { key = bytesAt s (e .at) (e .len); line = box.Finished (record { stamp = e .one; start = e .two; commit = sym (asks .stamp) i; kind = kindOf (e .kind) }) }, record { at = at; len = key-long asks i; used = true; line = Finished (record { rowlen = row-long asks i; kind = sym kd i }) }))
+      (record-comes (kindOf (e .kind)) (lean-row asks) near w)
 
 -- ---- `put_line`
 
@@ -129,7 +132,7 @@ module _ {s : Bytes} {rows : List ℕ} {e : Entry} where
     row-room = row-bytes (kindOf (e .kind)) (record { key = keyIn s e; start = e .two; row = rowFor (kindOf (e .kind)) (box.rowOf (keyIn s e) (e .two) (rowsAt s rows)) }) (lean-for (kindOf (e .kind)) _) ∙ found-long
 
     module _ {section : Section} {p : ℕ} (v : EntryAt section s p e) where
-      room : (b : Bool) (top : ℕ) → top + sizeOf (laid (rowsAt s rows) (entryLine b s e)) ≤ 131072 → top + e .len + 8 + 8 + row .len + tailIn b e ≤ 131072
+      room : (b : Bool) (top : ℕ) → top + 1 + sizeOf (laid (rowsAt s rows) (entryLine b s e)) ≤ 131072 → top + 1 + e .len + 8 + 8 + row .len + tailIn b e ≤ 131072
       room true top h = omega (arith, row-room, bytes-long s (e .at) (e .len) (v .key-in), bytes-long s (e .pat) (e .plen) (v .piece-in))
       room false top h = omega (arith, row-room, bytes-long s (e .at) (e .len) (v .key-in))
 

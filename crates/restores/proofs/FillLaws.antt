@@ -113,7 +113,7 @@ module _ {old : List Slot} {all : List Laid} {k top : ℕ} {area : Bytes} {t : L
   pub half-more : k < 1024 → k < length all → (z : Laid) {x : Slot} {end : ℕ} {area′ : Bytes} → Comes (getD all k z) area top x end area′ → Half old all (k + 1) end area′ (set t k x)
   half-more l g z {x} c =
       half-next l x
-      (seen-as (seen-more (seen-as (seen-kept (h .seen) (c .past) (omega (arith, c .end-is))) (omega arith) refl refl) l (c .shows) (c .below)) (omega arith) (sym (blank-put k t (h .long) l x))
+      (seen-as (seen-more (seen-as (seen-kept (h .seen) (c .past) (omega (arith, c .end-low))) (omega arith) refl refl) l (c .shows) (c .below)) (omega arith) (sym (blank-put k t (h .long) l x))
       (sym (take-suc all k z g) ∙ ap (λ (n : ℕ). take n all) (sym (add-one k))))
 
   pub half-past : k < 1024 → length all ≤ k → Half old all (k + 1) top area (set t k noSlot)

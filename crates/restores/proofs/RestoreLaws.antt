@@ -1,6 +1,6 @@
 -- A store whose table is filled with the lines of an accepted image, one at a time, and the promise of restore.
 -- Assumes nothing.
-use Prim.Native.Nat.{ℕ, zero, suc, _+_, _≤_, _<_, max}
+use Prim.Native.Nat.{ℕ, zero, suc, _+_, _≤_, _<_, max, _-_}
 use native.Mathlib.Omega.{arith}
 use mathlib.Core.Path.{_≡_, refl, sym, ap, ap₂, _∙_, subst}
 use mathlib.Core.Bool.{Bool, true, false, not}
@@ -99,7 +99,7 @@ pub record Filling (s : Bytes) (load : Load) (wat : ℕ) (rows places : List ℕ
   pub few : end ≤ 1024
   pub half : Half (old .lines) (linesTold s load wat rows places) k top area (st .lines)
   pub long : length area ≡ 131072
-  pub left : top + sumOf sizeOf (drop k (linesTold s load wat rows places)) ≤ 67584
+  pub left : top + sumOf sizeOf (drop k (linesTold s load wat rows places)) + (load .lines - k) ≤ 68608
 
 pub filling-start : {s : Bytes} {v : Verdict} {rows places : List ℕ} {old : Store} {area : Bytes} {t : Bool} {end : ℕ} → Decided s v rows places → t ≡ isAccepted (v .answer) → t ≡ true → Made old area
     → end ≡ max (v .load .lines) (old .load .lines) → Filling s (v .load) (v .wat) rows places old end 0 0 area old
@@ -110,7 +110,7 @@ filling-start {v = v} {old = old} {area = area} d e h m q =
       few = omega (arith, p .fit .lines, m .fit .lines);
       half = half-start (old .lines) _ 0 area (m .built .lines .long);
       long = m .built .area-long;
-      left = omega (arith, room p);
+      left = omega (arith, room p, p .fit .lines);
     }
 
 module _ {s : Bytes} {load : Load} {wat : ℕ} {rows places : List ℕ} {old st : Store} {end k top : ℕ} {area : Bytes} (f : Filling s load wat rows places old end k top area st) where
@@ -127,7 +127,7 @@ module _ {s : Bytes} {load : Load} {wat : ℕ} {rows places : List ℕ} {old st 
         has = ap (λ (ds : List box.Default). lineHas ds (lineAt s wat (getD places k 0))) (p .rows-are) ∙ line-at p (lineHas (boxOf (p .img) .defaults)) (image-has (p .img) (p .good) (p .healthy)) l;
         good = line-at p goodLine (image-good (p .img) (p .good) (p .healthy)) l;
         long = f .long;
-        room = omega (arith, f .left, told-next (told p) l);
+        room = omega (arith, f .left, told-next (told p) l, l);
       }
   asks false e = tt
 
@@ -135,8 +135,8 @@ module _ {s : Bytes} {load : Load} {wat : ℕ} {rows places : List ℕ} {old st 
   line-asks = asks (ltb k (load .lines)) refl
 
   left-next : (b : Bool) → ltb k (load .lines) ≡ b → (x : Slot) (on : ℕ) (area′ : Bytes) → ComesIf b (laid (rowsTold s load rows) (lineAt s wat (getD places k 0))) area top x on area′
-      → (length area′ ≡ 131072) × (on + sumOf sizeOf (drop (k + 1) (linesTold s load wat rows places)) ≤ 67584)
-  left-next true e x on area′ c = (c .past .long ∙ f .long, omega (arith, f .left, c .end-is, told-next (told (f .placed)) (ltb-true k (load .lines) e)))
+      → (length area′ ≡ 131072) × (on + sumOf sizeOf (drop (k + 1) (linesTold s load wat rows places)) + (load .lines - (k + 1)) ≤ 68608)
+  left-next true e x on area′ c = (c .past .long ∙ f .long, omega (arith, f .left, c .end-most, told-next (told (f .placed)) (ltb-true k (load .lines) e), ltb-true k (load .lines) e))
   left-next false e x on area′ c = (ap length (c .area-is) ∙ f .long, omega (arith, f .left, c .end-is, told-past (told (f .placed)) (ltb-false k (load .lines) e)))
 
   pub filling-more : (x : Slot) (on : ℕ) (area′ : Bytes) → ComesIf (ltb k (load .lines)) (laid (rowsAt s (take (load .defaults) rows)) (lineAt s wat (getD places k 0))) area top x on area′ → k < end

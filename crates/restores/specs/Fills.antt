@@ -59,12 +59,13 @@ sizeOf y = length (y .line .key) + 8 + 8 + rowBytes (y .default) + tailBytes (y 
 
 -- ---- it comes
 
--- the slot that shows it, its stretch from `top` to `end`
+-- the slot that shows it, its stretch from `top` to `end`, or from the byte after: it begins at a pair of bytes
 pub record Comes (y : Laid) (area : Bytes) (top : ℕ) (r : Slot) (end : ℕ) (area′ : Bytes) : Type 0 where
   pub past : Past area top area′
   pub shows : laidIn area′ r ≡ y
   pub below : SlotBelow end r
-  pub end-is : end ≡ top + sizeOf y
+  pub end-low : top ≤ end
+  pub end-most : end ≤ top + 1 + sizeOf y
 
 -- or the empty slot, and nothing is written
 pub record Stays (area : Bytes) (top : ℕ) (r : Slot) (end : ℕ) (area′ : Bytes) : Type 0 where
@@ -101,7 +102,7 @@ pub record WriteAsks (s : Bytes) (lock : Bool) (e : Entry) (row : RowPlace) (are
   pub lean : LeanRow (kindOf (e .kind)) (row .len)
   pub stamp : OneStamp lock e
   pub long : length area ≡ 131072
-  pub room : top + e .len + 8 + 8 + row .len + tailIn lock e ≤ 131072
+  pub room : top + 1 + e .len + 8 + 8 + row .len + tailIn lock e ≤ 131072
 
 -- a good line that has its default, with place for its stretch
 pub record LineAsks (x : box.KeyLine) (ds : List box.Default) (area : Bytes) (top : ℕ) : Type 0 where
@@ -109,7 +110,7 @@ pub record LineAsks (x : box.KeyLine) (ds : List box.Default) (area : Bytes) (to
   pub has : kindHasDefault (box.kindIn (x .line)) (isSome (box.rowOf (x .key) (box.startOf (x .line)) ds)) ≡ true
   pub good : goodLine x ≡ true
   pub long : length area ≡ 131072
-  pub room : top + sizeOf (laid ds x) ≤ 131072
+  pub room : top + 1 + sizeOf (laid ds x) ≤ 131072
 
 abbrev pub AsksIf : Bool → box.KeyLine → List box.Default → Bytes → ℕ → Type 0
 AsksIf true x ds area top = LineAsks x ds area top

@@ -14,6 +14,7 @@ use lines::Ended;
 use lines::Line;
 use lines::Slot;
 use lines::Stood;
+use lines::pairs_in;
 use lines::store::no_slot;
 use orders::section_of;
 use stretches::append_lock;
@@ -39,10 +40,20 @@ fn write_lock(area: &mut [u8], top: usize, s: &[u8], e: Entry, row: RowPlace) ->
     let y = x + e.plen;
     let kind = kind_of(e.kind);
     let ttl = e.three;
-    let end = append_lock(area, top, &s[a..b], e.one, e.two, &s[c..d], ttl, &s[x..y]);
+    let at = pairs_in(top);
+    let end = append_lock(
+        area,
+        at + at,
+        &s[a..b],
+        e.one,
+        e.two,
+        &s[c..d],
+        ttl,
+        &s[x..y],
+    );
     Filled {
         slot: Slot {
-            at: top as u32,
+            at: at as u16,
             len: e.len as u8,
             used: true,
             line: Line::Standing(Stood {
@@ -66,10 +77,11 @@ fn write_record(area: &mut [u8], top: usize, s: &[u8], e: Entry, row: RowPlace) 
     let c = row.at;
     let d = c + row.len;
     let kind = kind_of(e.kind);
-    let end = append_record(area, top, &s[a..b], e.one, e.two, &s[c..d]);
+    let at = pairs_in(top);
+    let end = append_record(area, at + at, &s[a..b], e.one, e.two, &s[c..d]);
     Filled {
         slot: Slot {
-            at: top as u32,
+            at: at as u16,
             len: e.len as u8,
             used: true,
             line: Line::Finished(Ended {

@@ -36,6 +36,9 @@ shows-box {st} {area} {b} long high t q r k h =
       top-most = h;
     }
 
+pub leaves-within : {b : box.Box} {t u : ℕ} {s : Store} {area : Bytes} → t ≤ u → Leaves b t s area → Leaves b u s area
+leaves-within h l = record { built = l .built; shown = l .shown; top-most = omega (arith, l .top-most) }
+
 module _ {st : Store} {area : Bytes} (b : Built st area) {area′ : Bytes} {top′ : ℕ} (p : Past area (st .top) area′) (low : st .top ≤ top′) (high : top′ ≤ 131072) where
   abbrev n : ℕ
   n = st .load .lines

@@ -28,7 +28,7 @@ use Rattle.lines.specs.declared.keys.Locked.the-variants.{Nobody, By}
 use Rattle.lines.specs.declared.keys.Looked.{Looked}
 use Rattle.lines.specs.declared.views.Intent.{Intent}
 use Rattle.lines.specs.declared.store.Store.{Store}
-use Rattle.lines.specs.View.{ifPut, rowIf, addIf, boxOf}
+use Rattle.lines.specs.View.{Pairs, ifPut, rowIf, addIf, boxOf}
 use Rattle.lines.specs.Made.{LeanRow, goodLine, goodRow}
 use Rattle.lines.specs.Looks.{lockIn, lockedBy, LockThere, IntentThere}
 use Rattle.lines.proofs.MemberLaws.{lock-found, row-found}
@@ -89,7 +89,7 @@ sound-ended x commit s h =
 -- ---- the call
 
 module _ {st : Store} {area : Bytes} {seen : Looked} {key : Key} {start commit : ℕ} (asks : EndAsks st area seen key start commit) where
-  pub end-nobody : seen .lock ≡ Nobody → Leaves (commitTo commit (boxOf st area) key none (box.lockOf key (boxOf st area .lines))) (st .top + 319) st area
+  pub end-nobody : seen .lock ≡ Nobody → Leaves (commitTo commit (boxOf st area) key none (box.lockOf key (boxOf st area .lines))) (st .top + 320) st area
   unfolding commitTo
   end-nobody q =
       let f : box.lockOf key (boxOf st area .lines) ≡ none = sym (asks .looked .lock-is) ∙ ap (lockedBy area) q in
@@ -151,14 +151,14 @@ module _ {st : Store} {area : Bytes} {seen : Looked} {key : Key} {start commit :
       area-room = omega (arith, long, end-few, asks .area-room);
     }
 
-    pub end-slot : SlotAsks (st .top) (st .load) seen (length key) (i .kind) (i .rowlen)
-    end-slot = subst (λ (m : ℕ). SlotAsks (st .top) (st .load) seen (length key) (i .kind) m) long (slot-asks record-asks)
+    pub end-slot : {at : ℕ} → Pairs (st .top) at → SlotAsks at (st .load) seen (length key) (i .kind) (i .rowlen)
+    end-slot {at} p = subst (λ (m : ℕ). SlotAsks at (st .load) seen (length key) (i .kind) m) long (slot-asks record-asks p)
 
-    pub lock-ended : {area′ : Bytes} {end : ℕ} {r : Change} → RecordStands area (st .top) key commit start (bytesAt area (i .rowat) (i .rowlen)) end area′ → r ≡ slotChange (st .top) (st .load) seen (length key) (i .kind) (i .rowlen) end
-        → (ChangeAsks st r) × (Leaves (commitTo commit (boxOf st area) key none (box.lockOf key (boxOf st area .lines))) (st .top + 319) (changed st r) area′)
+    pub lock-ended : {at : ℕ} → Pairs (st .top) at → {area′ : Bytes} {end : ℕ} {r : Change} → RecordStands area (at + at) key commit start (bytesAt area (i .rowat) (i .rowlen)) end area′ → r ≡ slotChange at (st .load) seen (length key) (i .kind) (i .rowlen) end
+        → (ChangeAsks st r) × (Leaves (commitTo commit (boxOf st area) key none (box.lockOf key (boxOf st area .lines))) (st .top + 320) (changed st r) area′)
     unfolding commitTo
-    lock-ended {area′} {end} {r} v p =
-        let l = record-put record-asks v (p ∙ ap (λ (m : ℕ). slotChange (st .top) (st .load) seen (length key) (i .kind) m end) (sym long)) in
+    lock-ended {at} near {area′} {end} {r} v p =
+        let l = record-put record-asks near v (p ∙ ap (λ (m : ℕ). slotChange at (st .load) seen (length key) (i .kind) m end) (sym long)) in
         (l .0, record { built = l .1 .built; shown = l .1 .shown ∙ same; top-most = omega (arith, l .1 .top-most, long, end-few) })
       where
         b : box.Box

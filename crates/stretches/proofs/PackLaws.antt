@@ -20,7 +20,7 @@ use Rattle.rules.specs.Box as box
 use Rattle.rules.specs.Room.{sumOf}
 use Rattle.lines.specs.declared.store.Slot.{Slot}
 use Rattle.lines.specs.declared.store.Store.{Store}
-use Rattle.lines.specs.View.{sizeOf, lineOf, carries, defaultIn, stored, boxOf, noSlot}
+use Rattle.lines.specs.View.{placeOf, Pairs, sizeOf, lineOf, carries, defaultIn, stored, boxOf, noSlot}
 use Rattle.lines.specs.Made.{SlotBelow, Kept, Made}
 use Rattle.lines.proofs.ViewLaws.{bytes-long}
 use Rattle.lines.proofs.NeedLaws.{area-enough}
@@ -38,13 +38,14 @@ shown-more : {A B : Type 0} (f : A → B) (l : List A) (i : ℕ) (d : A) → i <
 unfolding shown
 shown-more f l i d h = ap (λ (n : ℕ). map f (take n l)) (add-one i) ∙ ap (map f) (take-suc l i d h) ∙ map-last f (take i l) (getD l i d)
 
-pub record Packing (st : Store) (area : Bytes) (n i top : ℕ) (l : Store) (into : Bytes) : Type 0 where
+-- the first `i` lines stand in `at` pairs of bytes; each of the others needs its bytes, and one more where it begins at a pair
+pub record Packing (st : Store) (area : Bytes) (n i at : ℕ) (l : Store) (into : Bytes) : Type 0 where
   pub low : i ≤ n
-  pub long : length into ≡ 67584
-  pub room : top + sumOf sizeOf (drop i (take n (st .lines))) ≤ 67584
+  pub long : length into ≡ 68608
+  pub room : at + at + sumOf sizeOf (drop i (take n (st .lines))) + (n - i) ≤ 68608
   pub load-is : l .load ≡ st .load
   pub table-is : length (l .lines) ≡ 1024
-  pub holds : All (SlotBelow top) (take i (l .lines))
+  pub holds : All (SlotBelow (at + at)) (take i (l .lines))
   pub rest : drop i (l .lines) ≡ drop i (st .lines)
   pub lines : shown (lineOf into) i (l .lines) ≡ shown (lineOf area) i (st .lines)
   pub rows : shown (defaultIn into) i (l .lines) ≡ shown (defaultIn area) i (st .lines)
@@ -55,7 +56,7 @@ module _ {st : Store} {area into₀ : Bytes} (asks : PackAsks st area into₀) w
   packing-start = record {
     low = omega arith;
     long = asks .long;
-    room = omega (arith, asks .room);
+    room = omega (arith, asks .room, asks .table .few);
     load-is = refl;
     table-is = asks .table .long;
     holds = tt;
@@ -64,11 +65,14 @@ module _ {st : Store} {area into₀ : Bytes} (asks : PackAsks st area into₀) w
     rows = refl;
   }
 
-  module _ {i top : ℕ} {l : Store} {into : Bytes} (v : Packing st area (st .load .lines) i top l into) where
+  module _ {i at : ℕ} {l : Store} {into : Bytes} (v : Packing st area (st .load .lines) i at l into) where
+    abbrev top : ℕ
+    top = at + at
+
     abbrev n : ℕ
     n = st .load .lines
 
-    pub packing-end : n ≤ i → Packed st area (record { lines = l .lines; load = l .load; top = top }) into
+    pub packing-end : n ≤ i → Packed st area (record { lines = l .lines; load = l .load; top = at + at }) into
     packing-end h =
         let e : i ≡ n = omega (arith, v .low) in
         record {
@@ -105,8 +109,8 @@ module _ {st : Store} {area into₀ : Bytes} (asks : PackAsks st area into₀) w
       below : SlotBelow (length area) s
       below = table-at (asks .table) i h
 
-      pub packing-in : getD (l .lines) i noSlot .at + sizeOf (getD (l .lines) i noSlot) ≤ length area
-      packing-in = subst (λ (x : Slot). x .at + sizeOf x ≤ length area) (sym as-was) (omega (arith, below .below))
+      pub packing-in : placeOf (getD (l .lines) i noSlot) + sizeOf (getD (l .lines) i noSlot) ≤ length area
+      packing-in = subst (λ (x : Slot). placeOf x + sizeOf x ≤ length area) (sym as-was) (omega (arith, below .below))
 
       sum-next : sumOf sizeOf (drop i (take n (st .lines))) ≡ sizeOf s + sumOf sizeOf (drop (suc i) (take n (st .lines)))
       unfolding sumOf
@@ -114,40 +118,40 @@ module _ {st : Store} {area into₀ : Bytes} (asks : PackAsks st area into₀) w
           let few : i < length (take n (st .lines)) = omega (arith, length-take-le n (st .lines) (table-long (asks .table))) in
           ap (sumOf sizeOf) (drop-cons (take n (st .lines)) i noSlot few) ∙ ap (λ (x : Slot). sizeOf x + sumOf sizeOf (drop (suc i) (take n (st .lines)))) (getD-take n (st .lines) i noSlot h)
 
-      pub packing-room : top + sizeOf (getD (l .lines) i noSlot) ≤ 67584
-      packing-room = subst (λ (x : Slot). top + sizeOf x ≤ 67584) (sym as-was) (omega (arith, v .room, sum-next))
+      pub packing-room : at + at + sizeOf (getD (l .lines) i noSlot) ≤ 68608
+      packing-room = subst (λ (x : Slot). at + at + sizeOf x ≤ 68608) (sym as-was) (omega (arith, v .room, sum-next))
 
       -- what was cut from the old area stands in the new one
-      module _ {into′ : Bytes} (w : Appended into top (bytesAt area (s .at) (sizeOf s)) into′) where
+      module _ {into′ : Bytes} (w : Appended into top (bytesAt area (placeOf s) (sizeOf s)) into′) {next : ℕ} (near : Pairs (top + sizeOf s) next) where
         abbrev t : Slot
-        t = record { at = top; len = s .len; used = true; line = s .line }
+        t = record { at = at; len = s .len; used = true; line = s .line }
 
-        same : SameBytes area (s .at) into′ top (sizeOf s)
+        same : SameBytes area (placeOf s) into′ top (sizeOf s)
         same = record {
           are =
-              let e : length (bytesAt area (s .at) (sizeOf s)) ≡ sizeOf s = bytes-long area (s .at) (sizeOf s) (omega (arith, below .below)) in
-              subst (λ (m : ℕ). bytesAt into′ top m ≡ bytesAt area (s .at) (sizeOf s)) e (w .stands);
+              let e : length (bytesAt area (placeOf s) (sizeOf s)) ≡ sizeOf s = bytes-long area (placeOf s) (sizeOf s) (omega (arith, below .below)) in
+              subst (λ (m : ℕ). bytesAt into′ top m ≡ bytesAt area (placeOf s) (sizeOf s)) e (w .stands);
         }
 
         line : lineOf into′ t ≡ lineOf area s
-        line = slot-same same (s .len) (s .line) (omega arith) true (s .used)
+        line = slot-same (s .at) at same (s .len) (s .line) (omega arith) true (s .used)
 
         default : defaultIn into′ t ≡ defaultIn area s
-        default = ap₂ carries line (row-same same (s .len) (s .line) (omega arith) true (s .used))
+        default = ap₂ carries line (row-same (s .at) at same (s .len) (s .line) (omega arith) true (s .used))
 
-        go : Packing st area n (i + 1) (top + sizeOf s) (record { lines = set (l .lines) i t; load = l .load; top = l .top }) into′
+        go : Packing st area n (i + 1) next (record { lines = set (l .lines) i t; load = l .load; top = l .top }) into′
         unfolding shown
         go = record {
           low = omega arith;
           long = w .long ∙ v .long;
-          room = omega (arith, v .room, sum-next, ap (λ (m : ℕ). sumOf sizeOf (drop m (take n (st .lines)))) (add-one i));
+          room = omega (arith, v .room, sum-next, ap (λ (m : ℕ). sumOf sizeOf (drop m (take n (st .lines)))) (add-one i), near .fewest, h);
           load-is = v .load-is;
           table-is = length-set (l .lines) i t ∙ v .table-is;
           holds =
-              subst (All (SlotBelow (top + sizeOf s))) (sym (ap (λ (m : ℕ). take m (set (l .lines) i t)) (add-one i) ∙ take-suc-set (l .lines) i t inside′))
-              (all-append (SlotBelow (top + sizeOf s)) (take i (l .lines)) (t ∷ [])
-              (all-weaken (SlotBelow top) (SlotBelow (top + sizeOf s)) (take i (l .lines)) (λ x b. record { below = omega (arith, b .below); lean = b .lean; in-use = b .in-use }) (v .holds))
-              (all-cons (SlotBelow (top + sizeOf s)) t [] (record { below = omega arith; lean = below .lean; in-use = refl }) (all-none (SlotBelow (top + sizeOf s)))));
+              subst (All (SlotBelow (next + next))) (sym (ap (λ (m : ℕ). take m (set (l .lines) i t)) (add-one i) ∙ take-suc-set (l .lines) i t inside′))
+              (all-append (SlotBelow (next + next)) (take i (l .lines)) (t ∷ [])
+              (all-weaken (SlotBelow top) (SlotBelow (next + next)) (take i (l .lines)) (λ x b. record { below = omega (arith, b .below, near .holds); lean = b .lean; in-use = b .in-use }) (v .holds))
+              (all-cons (SlotBelow (next + next)) t [] (record { below = omega (arith, near .holds); lean = below .lean; in-use = refl }) (all-none (SlotBelow (next + next)))));
           rest =
               ap (λ (m : ℕ). drop m (set (l .lines) i t)) (add-one i) ∙ past-set ∙ sym (drop-drop 1 i (l .lines) ∙ ap (λ (m : ℕ). drop m (l .lines)) (add-one i)) ∙ ap (drop 1) (v .rest) ∙ drop-drop 1 i (st .lines);
           lines =
@@ -164,16 +168,18 @@ module _ {st : Store} {area into₀ : Bytes} (asks : PackAsks st area into₀) w
             past-set =
                 sym (drop-drop 1 i (set (l .lines) i t) ∙ ap (λ (m : ℕ). drop m (set (l .lines) i t)) (add-one i)) ∙ ap (drop 1) (drop-set (l .lines) i t inside′)
 
-      pub packing-more : {into′ : Bytes} {size : ℕ} → size ≡ sizeOf (getD (l .lines) i noSlot) → Appended into top (bytesAt area (getD (l .lines) i noSlot .at) (getD (l .lines) i noSlot .at + size - getD (l .lines) i noSlot .at)) into′
-          → Packing st area (st .load .lines) (i + 1) (top + size) (record { lines = set (l .lines) i (record { at = top; len = getD (l .lines) i noSlot .len; used = true; line = getD (l .lines) i noSlot .line }); load = l .load; top = l .top }) into′
-      packing-more {into′} {size} q w =
-          let p : getD (l .lines) i noSlot .at + size - getD (l .lines) i noSlot .at ≡ size = omega arith in
-          rw (q, as-was) (go (subst (λ (x : Slot). Appended into top (bytesAt area (x .at) (sizeOf x)) into′) as-was (subst (λ (m : ℕ). Appended into top (bytesAt area (getD (l .lines) i noSlot .at) m) into′) (p ∙ q) w)))
+      pub packing-more : {into′ : Bytes} {from size : ℕ} → from ≡ placeOf (getD (l .lines) i noSlot) → size ≡ sizeOf (getD (l .lines) i noSlot) → Appended into (at + at) (bytesAt area from (from + size - from)) into′
+          → {next : ℕ} → Pairs (at + at + size) next
+          → Packing st area (st .load .lines) (i + 1) next (record { lines = set (l .lines) i (record { at = at; len = getD (l .lines) i noSlot .len; used = true; line = getD (l .lines) i noSlot .line }); load = l .load; top = l .top }) into′
+      packing-more {into′} {from} {size} f q w {next} near =
+          let p : from + size - from ≡ size = omega arith in
+          let u : size ≡ sizeOf s = q ∙ ap sizeOf as-was in
+          rw as-was (go (subst (λ (x : ℕ). Appended into top (bytesAt area x (sizeOf s)) into′) (f ∙ ap placeOf as-was) (subst (λ (m : ℕ). Appended into top (bytesAt area from m) into′) (p ∙ u) w)) (subst (λ (m : ℕ). Pairs (top + m) next) u near))
 
 -- ---- `repack`
 
 module _ {st : Store} {area : Bytes} (m : Made st area) where
-  pub pack-asks : {into : Bytes} → length into ≡ 67584 → PackAsks st area into
+  pub pack-asks : {into : Bytes} → length into ≡ 68608 → PackAsks st area into
   pack-asks e = record {
     table = record {
       long = m .built .lines .long;

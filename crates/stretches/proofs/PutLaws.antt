@@ -29,7 +29,7 @@ use Rattle.lines.specs.declared.keys.Looked.{Looked}
 use Rattle.lines.specs.declared.store.Line.the-variants.{Standing}
 use Rattle.lines.specs.declared.store.Slot.{Slot}
 use Rattle.lines.specs.declared.store.Store.{Store}
-use Rattle.lines.specs.View.{lineOf, rowIn, carries, addIf, boxOf}
+use Rattle.lines.specs.View.{Pairs, lineOf, rowIn, carries, addIf, boxOf}
 use Rattle.lines.specs.Looks.{lockedBy}
 use Rattle.lines.proofs.StoredLaws.{row-none}
 use Rattle.lines.proofs.LookLaws.{lines-order}
@@ -42,7 +42,8 @@ use Rattle.stretches.specs.Changes.{Leaves, InsertAsks, changed, entryFo
 use Rattle.stretches.proofs.LoadLaws.{lock-small, counted-small}
 use Rattle.stretches.proofs.PlaceLaws.{lock-in-place, lines-few}
 use Rattle.stretches.proofs.KeptLaws.{row-short, row-lean, none-pair, kept-lock}
-use Rattle.stretches.proofs.ChangeLaws.{line-in}
+use Rattle.stretches.proofs.ChangeLaws.{leaves-within, line-in}
+use Rattle.stretches.proofs.WriteLaws.{past-lower}
 
 put-carries : (key : Key) (h : Head) (put : Bool) (row : Row) (ds : List box.Default) → addIf (carries (record { key = key; line = box.Standing (lockFor h (kindOf (when put row))) }) row) ds ≡ storeIf key (h .start) (when put row) ds
 unfolding addIf storeIf
@@ -75,11 +76,11 @@ module _ {st : Store} {area : Bytes} {seen : Looked} {h : Head} {key : Key} {put
   abbrev e : box.KeyLine
   e = record { key = key; line = box.Standing (lockFor h (kindOf (when put row))) }
 
-  abbrev top : ℕ
-  top = st .top + length key + 8 + 8 + length row + 8 + length (h .primary)
+  abbrev top : ℕ → ℕ
+  top at = at + at + length key + 8 + 8 + length row + 8 + length (h .primary)
 
-  abbrev slot : Kind → Slot
-  slot kind = record { at = st .top; len = length key; used = true; line = Standing (record { plen = length (h .primary); rowlen = length row; kind = kind }) }
+  abbrev slot : ℕ → Kind → Slot
+  slot at kind = record { at = at; len = length key; used = true; line = Standing (record { plen = length (h .primary); rowlen = length row; kind = kind }) }
 
   free : box.lockOf key es ≡ none
   free = sym (asks .looked .lock-is) ∙ ap (lockedBy area) (asks .nobody)
@@ -91,15 +92,22 @@ module _ {st : Store} {area : Bytes} {seen : Looked} {h : Head} {key : Key} {put
   unfolding shown
   norow = row-none (lineOf area) (rowIn area) e (take (st .load .lines) (st .lines)) once
 
-  abbrev coming : Kind → Load → ℕ → Coming
-  coming kind load end = record { to = seen .first; slot = slot kind; load = load; top = end }
+  abbrev coming : ℕ → Kind → Load → ℕ → Coming
+  coming at kind load end = record { to = seen .first; slot = slot at kind; load = load; top = end }
 
-  pub lock-put : {area′ : Bytes} {end : ℕ} {kind : Kind} {added load : Load} → kind ≡ kindOf (when put row) → LockStands area (st .top) key (h .txn) (h .start) row (h .ttl) (h .primary) end area′
+  -- the bytes from the next pair on have place
+  pub put-room : {at : ℕ} → Pairs (st .top) at → at + at + length key + 8 + 8 + length row + 8 + length (h .primary) ≤ 131072
+  put-room p = omega (arith, p .fewest, asks .area-room)
+
+  pub put-at : {at : ℕ} → Pairs (st .top) at → at ≤ 65535
+  put-at p = omega (arith, p .fewest, asks .area-room)
+
+  pub lock-put : {at : ℕ} → Pairs (st .top) at → {area′ : Bytes} {end : ℕ} {kind : Kind} {added load : Load} → kind ≡ kindOf (when put row) → LockStands area (at + at) key (h .txn) (h .start) row (h .ttl) (h .primary) end area′
       → added ≡ lockSize kind (length key) (length (h .primary)) (length row) → load ≡ plus (st .load) added
-      → Leaves (lockLine h (entryFor key put row) (boxOf st area)) (st .top + length key + 8 + 8 + length row + 8 + length (h .primary)) (changed st (Inserts (coming kind load end))) area′
+      → Leaves (lockLine h (entryFor key put row) (boxOf st area)) (st .top + 1 + length key + 8 + 8 + length row + 8 + length (h .primary)) (changed st (Inserts (coming at kind load end))) area′
   unfolding lockLine
-  lock-put {area′} {end} {kind} {added} {load} kd w ad ld =
-      subst (λ (x : Coming). Leaves (lockLine h (entryFor key put row) (boxOf st area)) top (changed st (Inserts x)) area′) (sym is) there
+  lock-put {at} near {area′} {end} {kind} {added} {load} kd w ad ld =
+      leaves-within (omega (arith, near .fewest)) (subst (λ (x : Coming). Leaves (lockLine h (entryFor key put row) (boxOf st area)) (top at) (changed st (Inserts x)) area′) (sym is) there)
     where
       kind′ : Kind
       kind′ = kindOf (when put row)
@@ -107,12 +115,12 @@ module _ {st : Store} {area : Bytes} {seen : Looked} {h : Head} {key : Key} {put
       load′ : Load
       load′ = plus (st .load) (lockSize kind′ (length key) (length (h .primary)) (length row))
 
-      is : coming kind load end ≡ coming kind′ load′ top
+      is : coming at kind load end ≡ coming at kind′ load′ (top at)
       is = rw (ld, ad, kd, w .next)
 
-      there : Leaves (lockLine h (entryFor key put row) (boxOf st area)) top (changed st (Inserts (coming kind′ load′ top))) area′
+      there : Leaves (lockLine h (entryFor key put row) (boxOf st area)) (top at) (changed st (Inserts (coming at kind′ load′ (top at)))) area′
       there =
-          line-in (asks .built) (w .past) (omega arith) (asks .area-room) (record { below = omega arith; lean = row-lean kind′ row (asks .row-fits); in-use = refl })
+          line-in (asks .built) (past-lower (w .past) (near .holds)) (omega (arith, near .holds)) (put-room near) (record { below = omega arith; lean = row-lean kind′ row (asks .row-fits); in-use = refl })
           (ap₂ (λ (k : Key) (x : box.Line). record { key = k; line = x }) (w .key-is) (w .line-is kind′)) (w .row-is)
           (omega arith) (put-insert .low) (asks .slot-free) once
           (lock-in-place key (lockFor h kind′) es (lines-order (asks .built)) free ∙ ap (λ (i : ℕ). insertAt i e es) (sym (asks .looked .first-is)))

@@ -34,7 +34,7 @@ use Rattle.lines.specs.declared.views.Intent.{Intent}
 use Rattle.lines.specs.declared.store.Line.the-variants.{Finished}
 use Rattle.lines.specs.declared.store.Slot.{Slot}
 use Rattle.lines.specs.declared.store.Store.{Store}
-use Rattle.lines.specs.View.{rowIf, lineOf, rowIn, carries, defaultIn, addIf, stored, boxOf, noSlot}
+use Rattle.lines.specs.View.{Pairs, rowIf, lineOf, rowIn, carries, defaultIn, addIf, stored, boxOf, noSlot}
 use Rattle.lines.specs.Made.{SlotBelow, Kept}
 use Rattle.lines.specs.Looks.{lockIn, lockedBy, LockThere, IntentThere}
 use Rattle.lines.proofs.StoredLaws.{row-none, row-out}
@@ -50,7 +50,8 @@ use Rattle.stretches.specs.Changes.{Leaves, ChangeAsks, changed, changeF
 use Rattle.stretches.proofs.LoadLaws.{counted-small}
 use Rattle.stretches.proofs.PlaceLaws.{record-in-place, record-few, lock-there, lock-before, dropped-in-place, ended-in-place}
 use Rattle.stretches.proofs.KeptLaws.{row-short, row-lean, row-size, record-size, none-other, freed-within, kept-record}
-use Rattle.stretches.proofs.ChangeLaws.{line-in, line-over}
+use Rattle.stretches.proofs.ChangeLaws.{leaves-within, line-in, line-over}
+use Rattle.stretches.proofs.WriteLaws.{past-lower}
 
 module _ {st : Store} {area : Bytes} {seen : Looked} {key : Key} {start stamp : ℕ} {kind : Kind} {row : Row} (asks : RecordAsks st area seen key start stamp kind row) where
   abbrev es : List box.KeyLine
@@ -162,9 +163,12 @@ module _ {st : Store} {area : Bytes} {seen : Looked} {key : Key} {start stamp : 
   key-few : length key ≤ 48
   key-few = key-bounds key (asks .form) .short
 
-  pub slot-asks : SlotAsks (st .top) (st .load) seen (length key) kind (length row)
-  slot-asks = record {
-    top-in = asks .built .top-in;
+  pub record-room : {at : ℕ} → Pairs (st .top) at → at + at + length key + 8 + 8 + length row ≤ 131072
+  record-room p = omega (arith, p .fewest, asks .area-room)
+
+  pub slot-asks : {at : ℕ} → Pairs (st .top) at → SlotAsks at (st .load) seen (length key) kind (length row)
+  slot-asks p = record {
+    at-in = omega (arith, p .fewest, asks .area-room);
     key-in = omega (arith, key-few);
     row-in = row-short kind row (asks .row-fits);
     small = counted-small (counted (asks .built));
@@ -189,42 +193,42 @@ module _ {st : Store} {area : Bytes} {seen : Looked} {key : Key} {start stamp : 
       subst (Kept b′) (sym (ap₂ (λ (a c : Load). plus (minus (st .load) a) c) (freed-is o q) (record-size kind key row)))
       (kept-record (asks .built .kept) key w row (asks .fresh) (asks .free) (asks .form) (asks .row-fits) (asks .sound))
 
-  abbrev top : ℕ
-  top = st .top + length key + 8 + 8 + length row
+  abbrev top : ℕ → ℕ
+  top at = at + at + length key + 8 + 8 + length row
 
-  abbrev comes : Slot
-  comes = record { at = st .top; len = length key; used = true; line = Finished (record { rowlen = length row; kind = kind }) }
+  abbrev comes : ℕ → Slot
+  comes at = record { at = at; len = length key; used = true; line = Finished (record { rowlen = length row; kind = kind }) }
 
-  abbrev coming : Locked → Coming
-  coming o = record { to = seen .place; slot = comes; load = load′ o; top = top }
+  abbrev coming : ℕ → Locked → Coming
+  coming at o = record { to = seen .place; slot = comes at; load = load′ o; top = top at }
 
-  asked : (o : Locked) → seen .lock ≡ o → ChangeAsks st (changeFor o (seen .first) (coming o))
-  asked Nobody q = record { low = place-few; room = asks .slot-free q; long = asks .built .lines .long }
-  asked (By i) q = record { before = before q; low = omega (arith, place-few, asks .built .lines .few); long = asks .built .lines .long }
+  asked : (at : ℕ) (o : Locked) → seen .lock ≡ o → ChangeAsks st (changeFor o (seen .first) (coming at o))
+  asked at Nobody q = record { low = place-few; room = asks .slot-free q; long = asks .built .lines .long }
+  asked at (By i) q = record { before = before q; low = omega (arith, place-few, asks .built .lines .few); long = asks .built .lines .long }
 
-  module _ {area′ : Bytes} {end : ℕ} (v : RecordStands area (st .top) key stamp start row end area′) where
-    below : SlotBelow top comes
+  module _ {at : ℕ} (near : Pairs (st .top) at) {area′ : Bytes} {end : ℕ} (v : RecordStands area (at + at) key stamp start row end area′) where
+    below : SlotBelow (top at) (comes at)
     below = record { below = omega arith; lean = row-lean kind row (asks .row-fits); in-use = refl }
 
-    line : lineOf area′ comes ≡ e
+    line : lineOf area′ (comes at) ≡ e
     line = ap₂ (λ (k : Key) (y : box.Line). record { key = k; line = y }) (v .key-is) (v .line-is kind)
 
-    placed : (o : Locked) → seen .lock ≡ o → Leaves b′ top (changed st (changeFor o (seen .first) (coming o))) area′
+    placed : (o : Locked) → seen .lock ≡ o → Leaves b′ (top at) (changed st (changeFor o (seen .first) (coming at o))) area′
     placed Nobody q =
-        subst (λ (v : List box.KeyLine). Leaves (record { lines = box.insertLine e v; defaults = b′ .defaults }) top (changed st (Inserts (coming Nobody))) area′) (sym (same-lines q))
-        (line-in (asks .built) (v .past) (omega arith) (asks .area-room) below line (v .row-is) (omega arith) place-few (asks .slot-free q) (once-free q)
+        subst (λ (v : List box.KeyLine). Leaves (record { lines = box.insertLine e v; defaults = b′ .defaults }) (top at) (changed st (Inserts (coming at Nobody))) area′) (sym (same-lines q))
+        (line-in (asks .built) (past-lower (v .past) (near .holds)) (omega (arith, near .holds)) (record-room near) below line (v .row-is) (omega arith) place-few (asks .slot-free q) (once-free q)
         (record-in-place key w es ordered (asks .free) ∙ ap (λ (i : ℕ). insertAt i e es) (sym (asks .looked .place-is)))
         (ap (addIf (carries e row)) (sym (dropRow-none key start ds (no-row q))))
         (subst (λ (v : List box.KeyLine). Kept (record { lines = box.insertLine e v; defaults = b′ .defaults }) (load′ Nobody)) (same-lines q) (kept Nobody q)))
     placed (By i) q =
-        line-over (asks .built) (v .past) (omega arith) (asks .area-room) below line (v .row-is) (omega (arith, first-in q)) (before q) place-few
+        line-over (asks .built) (past-lower (v .past) (near .holds)) (omega (arith, near .holds)) (record-room near) below line (v .row-is) (omega (arith, first-in q)) (before q) place-few
         (subst (λ (v : List box.KeyLine). noneLike likeLine e v ≡ true) (gone q) once)
         (ended-in-place key (x q) es ordered (held q) w (asks .free) ∙ ap₂ (λ (i j : ℕ). moveTo i j e es) (sym (asks .looked .first-is)) (sym (asks .looked .place-is)))
         (ap (addIf (carries e row)) (sym (row-gone q)))
         (kept (By i) q)
 
-    pub record-put : {r : Change} → r ≡ slotChange (st .top) (st .load) seen (length key) kind (length row) end
-        → (ChangeAsks st r) × (Leaves (recordOver key (recordFor start stamp kind) row (boxOf st area)) (st .top + length key + 8 + 8 + length row) (changed st r) area′)
+    pub record-put : {r : Change} → r ≡ slotChange at (st .load) seen (length key) kind (length row) end
+        → (ChangeAsks st r) × (Leaves (recordOver key (recordFor start stamp kind) row (boxOf st area)) (st .top + 1 + length key + 8 + 8 + length row) (changed st r) area′)
     record-put {r} q =
-        subst (λ (x : Change). (ChangeAsks st x) × (Leaves b′ top (changed st x) area′)) (sym (q ∙ ap (slotChange (st .top) (st .load) seen (length key) kind (length row)) (v .next)))
-        (asked (seen .lock) refl, placed (seen .lock) refl)
+        subst (λ (x : Change). (ChangeAsks st x) × (Leaves b′ (st .top + 1 + length key + 8 + 8 + length row) (changed st x) area′)) (sym (q ∙ ap (slotChange at (st .load) seen (length key) kind (length row)) (v .next)))
+        (asked at (seen .lock) refl, leaves-within (omega (arith, near .fewest)) (placed (seen .lock) refl))

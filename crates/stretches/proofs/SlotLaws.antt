@@ -19,7 +19,7 @@ use Rattle.stretches.specs.declared.changes.Change.the-variants.{Inserts
 use Rattle.stretches.specs.Changes.{changeFor, slotChange, SlotAsks}
 use Rattle.stretches.proofs.LoadLaws.{less-small, record-small}
 
-module _ {top : ℕ} {old : Load} {seen : Looked} {key : ℕ} {kind : Kind} {row : ℕ} (asks : SlotAsks top old seen key kind row) {freed : Load} (f : freed ≡ freedBy (seen .lock) key) where
+module _ {at : ℕ} {old : Load} {seen : Looked} {key : ℕ} {kind : Kind} {row : ℕ} (asks : SlotAsks at old seen key kind row) {freed : Load} (f : freed ≡ freedBy (seen .lock) key) where
   pub slot-freed : Within freed old
   slot-freed = subst (λ (l : Load). Within l old) (sym f) (asks .freed-in)
 
@@ -30,7 +30,7 @@ module _ {top : ℕ} {old : Load} {seen : Looked} {key : ℕ} {kind : Kind} {row
   slot-added e = record-small kind key row e (omega (arith, asks .key-in, asks .row-in))
 
   abbrev slot : Slot
-  slot = record { at = top; len = key; used = true; line = Finished (record { rowlen = row; kind = kind }) }
+  slot = record { at = at; len = key; used = true; line = Finished (record { rowlen = row; kind = kind }) }
 
   abbrev coming : Load → ℕ → Coming
   coming load end = record { to = seen .place; slot = slot; load = load; top = end }
@@ -39,8 +39,8 @@ module _ {top : ℕ} {old : Load} {seen : Looked} {key : ℕ} {kind : Kind} {row
     load-is : load ≡ plus (minus old (freedBy (seen .lock) key)) (recordSize kind key row)
     load-is = ld ∙ ap₂ plus (rs ∙ ap (minus old) f) ad
 
-    pub slot-inserted : {end : ℕ} → seen .lock ≡ Nobody → Inserts (coming load end) ≡ slotChange top old seen key kind row end
+    pub slot-inserted : {end : ℕ} → seen .lock ≡ Nobody → Inserts (coming load end) ≡ slotChange at old seen key kind row end
     slot-inserted {end} q = ap₂ (λ (o : Locked) (l : Load). changeFor o (seen .first) (coming l end)) (sym q) load-is
 
-    pub slot-replaced : {end : ℕ} {i : Intent} → seen .lock ≡ By i → Replaces (seen .first) (coming load end) ≡ slotChange top old seen key kind row end
+    pub slot-replaced : {end : ℕ} {i : Intent} → seen .lock ≡ By i → Replaces (seen .first) (coming load end) ≡ slotChange at old seen key kind row end
     slot-replaced {end} q = ap₂ (λ (o : Locked) (l : Load). changeFor o (seen .first) (coming l end)) (sym q) load-is

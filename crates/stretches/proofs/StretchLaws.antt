@@ -13,7 +13,7 @@ use Rattle.rules.specs.Box as box
 use Rattle.lines.specs.declared.store.Line.{Line}
 use Rattle.lines.specs.declared.store.Line.the-variants.{Standing, Finished}
 use Rattle.lines.specs.declared.store.Slot.{Slot}
-use Rattle.lines.specs.View.{rowLen, lineIn, past, lineOf, rowIn, carries, defaultIn}
+use Rattle.lines.specs.View.{placeOf, rowLen, lineIn, past, lineOf, rowIn, carries, defaultIn}
 use Rattle.lines.specs.Made.{SlotBelow}
 use Rattle.lines.proofs.ViewLaws.{past-row}
 
@@ -41,22 +41,22 @@ module _ {area area′ : Bytes} {a a′ n : ℕ} (e : SameBytes area a area′ a
     line-same (Finished w) h =
         rw (part-same (a′ + len) (a + len) len 8 refl refl (omega arith), part-same (a′ + len + 8) (a + len + 8) (len + 8) 8 (omega arith) (omega arith) (omega arith))
 
-    module _ (x : Line) (h : len + past x ≤ n) (u v : Bool) where
-      pub slot-same : lineOf area′ (record { at = a′; len = len; used = u; line = x }) ≡ lineOf area (record { at = a; len = len; used = v; line = x })
-      slot-same = ap₂ (λ (k : Key) (y : box.Line). record { key = k; line = y }) (part-same a′ a 0 len (omega arith) (omega arith) (omega arith)) (line-same x h)
+module _ {area area′ : Bytes} (a a′ : ℕ) {n : ℕ} (e : SameBytes area (a + a) area′ (a′ + a′) n) (len : ℕ) (x : Line) (h : len + past x ≤ n) (u v : Bool) where
+  pub slot-same : lineOf area′ (record { at = a′; len = len; used = u; line = x }) ≡ lineOf area (record { at = a; len = len; used = v; line = x })
+  slot-same = ap₂ (λ (k : Key) (y : box.Line). record { key = k; line = y }) (part-same e (a′ + a′) (a + a) 0 len (omega arith) (omega arith) (omega arith)) (line-same e len x h)
 
-      pub row-same : rowIn area′ (record { at = a′; len = len; used = u; line = x }) ≡ rowIn area (record { at = a; len = len; used = v; line = x })
-      row-same = part-same (a′ + len + 8 + 8) (a + len + 8 + 8) (len + 8 + 8) (rowLen x) (omega arith) (omega arith) (omega (arith, past-row x))
+  pub row-same : rowIn area′ (record { at = a′; len = len; used = u; line = x }) ≡ rowIn area (record { at = a; len = len; used = v; line = x })
+  row-same = part-same e (a′ + a′ + len + 8 + 8) (a + a + len + 8 + 8) (len + 8 + 8) (rowLen x) (omega arith) (omega arith) (omega (arith, past-row x))
 
 -- the same bytes below a top: what the slots below it show is the same
 module _ (area area′ : Bytes) (top : ℕ) (p : take top area′ ≡ take top area) (s : Slot) (b : SlotBelow top s) where
-  bytes-kept : SameBytes area (s .at) area′ (s .at) (s .len + past (s .line))
+  bytes-kept : SameBytes area (placeOf s) area′ (placeOf s) (s .len + past (s .line))
   bytes-kept =
-      let h : s .at + (s .len + past (s .line)) ≤ top = omega (arith, b .below) in
-      record { are = sym (part-in area′ (s .at) (s .len + past (s .line)) top h) ∙ ap (λ (l : Bytes). bytesAt l (s .at) (s .len + past (s .line))) p ∙ part-in area (s .at) (s .len + past (s .line)) top h }
+      let h : placeOf s + (s .len + past (s .line)) ≤ top = omega (arith, b .below) in
+      record { are = sym (part-in area′ (placeOf s) (s .len + past (s .line)) top h) ∙ ap (λ (l : Bytes). bytesAt l (placeOf s) (s .len + past (s .line))) p ∙ part-in area (placeOf s) (s .len + past (s .line)) top h }
 
   pub slot-kept : lineOf area′ s ≡ lineOf area s
-  slot-kept = slot-same bytes-kept (s .len) (s .line) (omega arith) (s .used) (s .used)
+  slot-kept = slot-same (s .at) (s .at) bytes-kept (s .len) (s .line) (omega arith) (s .used) (s .used)
 
   pub default-kept : defaultIn area′ s ≡ defaultIn area s
-  default-kept = ap₂ carries slot-kept (row-same bytes-kept (s .len) (s .line) (omega arith) (s .used) (s .used))
+  default-kept = ap₂ carries slot-kept (row-same (s .at) (s .at) bytes-kept (s .len) (s .line) (omega arith) (s .used) (s .used))

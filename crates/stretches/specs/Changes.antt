@@ -79,6 +79,8 @@ headFor txn start primary ttl = record { txn = txn; start = start; primary = pri
 abbrev pub entryFor : Key → Bool → Row → Mutation
 entryFor key put row = record { key = key; row = when put row }
 
+-- a stretch begins at a pair of bytes, so one byte more may go before it
+
 -- a lock of a key that has none, of a start that the key has no record of; a slot is free, and the area has place
 pub record LockAsks (st : Store) (area : Bytes) (seen : Looked) (h : Head) (key : Key) (put : Bool) (row : Row) : Type 0 where
   pub built : Built st area
@@ -90,7 +92,7 @@ pub record LockAsks (st : Store) (area : Bytes) (seen : Looked) (h : Head) (key 
   pub row-fits : RowFits (kindOf (when put row)) row
   pub sound : soundLock (lockFor h (kindOf (when put row))) ≡ true
   pub slot-free : st .load .lines < 1024
-  pub area-room : st .top + length key + 8 + 8 + length row + 8 + length (h .primary) ≤ 131072
+  pub area-room : st .top + 1 + length key + 8 + 8 + length row + 8 + length (h .primary) ≤ 131072
 
 -- ---- a record comes
 
@@ -104,15 +106,15 @@ changeFor Nobody first c = Inserts c
 changeFor (By i) first c = Replaces first c
 
 abbrev pub slotChange : ℕ → Load → Looked → ℕ → Kind → ℕ → ℕ → Change
-slotChange top load seen key kind row end = changeFor (seen .lock) (seen .first) (record {
+slotChange at load seen key kind row end = changeFor (seen .lock) (seen .first) (record {
   to = seen .place;
-  slot = record { at = top; len = key; used = true; line = Finished (record { rowlen = row; kind = kind }) };
+  slot = record { at = at; len = key; used = true; line = Finished (record { rowlen = row; kind = kind }) };
   load = plus (minus load (freedBy (seen .lock) key)) (recordSize kind key row);
   top = end;
 })
 
-pub record SlotAsks (top : ℕ) (load : Load) (seen : Looked) (key : ℕ) (kind : Kind) (row : ℕ) : Type 0 where
-  pub top-in : top ≤ 131072
+pub record SlotAsks (at : ℕ) (load : Load) (seen : Looked) (key : ℕ) (kind : Kind) (row : ℕ) : Type 0 where
+  pub at-in : at ≤ 65535
   pub key-in : key ≤ 255
   pub row-in : row ≤ 255
   pub small : Small load
@@ -135,7 +137,7 @@ pub record RecordAsks (st : Store) (area : Bytes) (seen : Looked) (key : Key) (s
   pub row-fits : RowFits kind row
   pub sound : soundRecord (recordFor start stamp kind) ≡ true
   pub slot-free : seen .lock ≡ Nobody → st .load .lines < 1024
-  pub area-room : st .top + length key + 8 + 8 + length row ≤ 131072
+  pub area-room : st .top + 1 + length key + 8 + 8 + length row ≤ 131072
 
 -- ---- a lock becomes a record: it is of this start, which lies before the commit
 pub record EndAsks (st : Store) (area : Bytes) (seen : Looked) (key : Key) (start commit : ℕ) : Type 0 where
@@ -145,4 +147,4 @@ pub record EndAsks (st : Store) (area : Bytes) (seen : Looked) (key : Key) (star
   pub fresh : withStart start (box.recordsOf key (boxOf st area .lines)) ≡ none
   pub free : stampedAt commit (box.recordsOf key (boxOf st area .lines)) ≡ none
   pub later : start < commit
-  pub area-room : st .top + 319 ≤ 131072
+  pub area-room : st .top + 320 ≤ 131072

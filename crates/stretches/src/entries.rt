@@ -30,6 +30,7 @@ use lines::Looked;
 use lines::Slot;
 use lines::Stood;
 use lines::Store;
+use lines::pairs_in;
 use rules::Kind;
 use rules::Load;
 
@@ -57,14 +58,15 @@ pub fn put_lock(
     row: &[u8],
 ) -> Change
     requires { ⌜ LockAsks store (now area) seen (headFor txn start (now primary) ttl) (now key) put (now row) ⌝ }
-    ensures { λ r. ⌜ (ChangeAsks store r) × (Leaves (lockLine (headFor txn start (now (primary .entry)) ttl) (entryFor (now (key .entry)) put (now (row .entry))) (boxOf store (now (area .entry)))) (store .top + length (now (key .entry)) + 8 + 8 + length (now (row .entry)) + 8 + length (now (primary .entry))) (changed store r) (now (area .exit))) ⌝ }
+    ensures { λ r. ⌜ (ChangeAsks store r) × (Leaves (lockLine (headFor txn start (now (primary .entry)) ttl) (entryFor (now (key .entry)) put (now (row .entry))) (boxOf store (now (area .entry)))) (store .top + 1 + length (now (key .entry)) + 8 + 8 + length (now (row .entry)) + 8 + length (now (primary .entry))) (changed store r) (now (area .exit))) ⌝ }
 {
     let top = store.top;
     let old = store.load;
     let kind = kind_for(put);
-    let end = append_lock(area, top, key, txn, start, row, ttl, primary);
+    let at = pairs_in(top);
+    let end = append_lock(area, at + at, key, txn, start, row, ttl, primary);
     let s = Slot {
-        at: top as u32,
+        at: at as u16,
         len: key.len() as u8,
         used: true,
         line: Line::Standing(Stood {
@@ -83,10 +85,10 @@ pub fn put_lock(
     })
 }
 
-// The slot of a record whose bytes stand at the top, up to `end`; the key's lock goes, if it has one. It takes the store's two numbers and
-// not the store, which a call would copy.
+// The slot of a record whose bytes stand after `at` pairs of bytes, up to `end`; the key's lock goes, if it has one. It takes the numbers
+// that it needs and not the store, which a call would copy.
 fn place_record(
-    top: usize,
+    at: usize,
     old: Load,
     seen: Looked,
     key: usize,
@@ -94,12 +96,12 @@ fn place_record(
     row: usize,
     end: usize,
 ) -> Change
-    requires { ⌜ SlotAsks top old seen key kind row ⌝ }
-    ensures { λ r. ⌜ r ≡ slotChange top old seen key kind row end ⌝ }
+    requires { ⌜ SlotAsks at old seen key kind row ⌝ }
+    ensures { λ r. ⌜ r ≡ slotChange at old seen key kind row end ⌝ }
 {
     let lock = seen.lock;
     let s = Slot {
-        at: top as u32,
+        at: at as u16,
         len: key as u8,
         used: true,
         line: Line::Finished(Ended {
@@ -138,10 +140,11 @@ pub fn put_record(
     row: &[u8],
 ) -> Change
     requires { ⌜ RecordAsks (storeOf lines old top) (now area) seen (now key) start stamp kind (now row) ⌝ }
-    ensures { λ r. ⌜ (ChangeAsks (storeOf lines old top) r) × (Leaves (recordOver (now (key .entry)) (recordFor start stamp kind) (now (row .entry)) (boxOf (storeOf lines old top) (now (area .entry)))) (top + length (now (key .entry)) + 8 + 8 + length (now (row .entry))) (changed (storeOf lines old top) r) (now (area .exit))) ⌝ }
+    ensures { λ r. ⌜ (ChangeAsks (storeOf lines old top) r) × (Leaves (recordOver (now (key .entry)) (recordFor start stamp kind) (now (row .entry)) (boxOf (storeOf lines old top) (now (area .entry)))) (top + 1 + length (now (key .entry)) + 8 + 8 + length (now (row .entry))) (changed (storeOf lines old top) r) (now (area .exit))) ⌝ }
 {
-    let end = append_record(area, top, key, stamp, start, row);
-    place_record(top, old, seen, key.len(), kind, row.len(), end)
+    let at = pairs_in(top);
+    let end = append_record(area, at + at, key, stamp, start, row);
+    place_record(at, old, seen, key.len(), kind, row.len(), end)
 }
 
 // "a record of the lock's start and kind, stamped with the commit, replaces the lock; a Put's row stays"
@@ -154,7 +157,7 @@ pub fn end_lock(
     commit: u64,
 ) -> Change
     requires { ⌜ EndAsks store (now area) seen (now key) start commit ⌝ }
-    ensures { λ r. ⌜ (ChangeAsks store r) × (Leaves (commitTo commit (boxOf store (now (area .entry))) (now (key .entry)) none (lockOf (now (key .entry)) (boxOf store (now (area .entry)) .lines))) (store .top + 319) (changed store r) (now (area .exit))) ⌝ }
+    ensures { λ r. ⌜ (ChangeAsks store r) × (Leaves (commitTo commit (boxOf store (now (area .entry))) (now (key .entry)) none (lockOf (now (key .entry)) (boxOf store (now (area .entry)) .lines))) (store .top + 320) (changed store r) (now (area .exit))) ⌝ }
 {
     let lock = seen.lock;
     match lock {
@@ -163,8 +166,9 @@ pub fn end_lock(
             let top = store.top;
             let old = store.load;
             let kind = l.kind;
-            let end = append_ended(area, top, key, commit, start, l.rowat, l.rowlen);
-            place_record(top, old, seen, key.len(), kind, l.rowlen, end)
+            let at = pairs_in(top);
+            let end = append_ended(area, at + at, key, commit, start, l.rowat, l.rowlen);
+            place_record(at, old, seen, key.len(), kind, l.rowlen, end)
         }
     }
 }

@@ -7,6 +7,8 @@ use forms::append;
 use lines::Line;
 use lines::Slot;
 use lines::Store;
+use lines::pairs_in;
+use lines::place_of;
 
 // How many bytes a line has past its key.
 fn past_key(line: Line) -> usize
@@ -18,7 +20,7 @@ fn past_key(line: Line) -> usize
     }
 }
 
-// Each stretch is copied whole.
+// Each stretch is copied whole, to the next pair of bytes.
 fn pack(store: Store, area: &[u8], into: &mut [u8]) -> Store
     requires { ⌜ PackAsks store (now area) (now into) ⌝ }
     ensures { λ r. ⌜ Packed store (now (area .entry)) r (now (into .exit)) ⌝ }
@@ -26,26 +28,27 @@ fn pack(store: Store, area: &[u8], into: &mut [u8]) -> Store
     let mut l = store;
     let load = store.load;
     let n = load.lines;
-    let mut top: usize = 0;
+    let mut at: usize = 0;
     let mut i: usize = 0;
     while i < n {
         let s = l.lines[i];
         let line = s.line;
-        let at = s.at as usize;
+        let from = place_of(s);
         let size = s.len as usize + past_key(line);
-        let e = at + size;
-        append(into, top, &area[at..e]);
+        let e = from + size;
+        let to = at + at;
+        append(into, to, &area[from..e]);
         let t = Slot {
-            at: top as u32,
+            at: at as u16,
             len: s.len,
             used: true,
             line: line,
         };
         l.lines[i] = t;
-        top += size;
+        at = pairs_in(to + size);
         i += 1;
     }
-    l.top = top;
+    l.top = at + at;
     l
 }
 
@@ -54,7 +57,7 @@ pub fn repack(store: Store, area: &mut [u8]) -> Store
     requires { ⌜ Made store (now area) ⌝ }
     ensures { λ r. ⌜ Repacked store (now (area .entry)) r (now (area .exit)) ⌝ }
 {
-    let mut into = [0u8; 67584];
+    let mut into = [0u8; 68608];
     let l = pack(store, area, &mut into);
     let top = l.top;
     append(area, 0, &into[0..top]);

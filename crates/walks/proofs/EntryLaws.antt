@@ -30,7 +30,7 @@ use Rattle.lines.specs.declared.store.Line.{Line}
 use Rattle.lines.specs.declared.store.Line.the-variants.{Standing, Finished}
 use Rattle.lines.specs.declared.views.Intent.{Intent}
 use Rattle.lines.specs.declared.views.Written.{Written}
-use Rattle.lines.specs.View.{eightAt, past, rowLen, keyOf, rowIn, lineIn}
+use Rattle.lines.specs.View.{placeOf, eightAt, past, rowLen, keyOf, rowIn, lineIn}
 use Rattle.lines.specs.Looks.{toldIn, lockIn}
 use Rattle.walks.specs.Walked.{pageOn, lineBytes, entryBytes, partLen}
 use Rattle.walks.specs.Turns.{costIn, costOf, stopIf, largeIf, add, roomTurn, turnTo, turnDue}
@@ -96,11 +96,11 @@ abbrev pub rowOn : Bytes → Slot → KeyRow
 rowOn area s = record { key = keyOf area s; row = rowIn area s }
 
 abbrev pub lockOn : Bytes → Slot → Stood → KeyLock
-lockOn area s l = record { key = keyOf area s; lock = lockIn area (intentIn area (s .at + s .len) l) }
+lockOn area s l = record { key = keyOf area s; lock = lockIn area (intentIn area (placeOf s + s .len) l) }
 
-module _ (area : Bytes) (s : Slot) (h : s .at + s .len + past (s .line) ≤ length area) (k : keyForm (keyOf area s) ≡ true) where
+module _ (area : Bytes) (s : Slot) (h : placeOf s + s .len + past (s .line) ≤ length area) (k : keyForm (keyOf area s) ≡ true) where
   key-long : length (keyOf area s) ≡ s .len
-  key-long = part-long area (s .at) (s .len) (omega arith)
+  key-long = part-long area (placeOf s) (s .len) (omega arith)
 
   -- a record, for its row
   pub row-lists : (w : Ended) → s .line ≡ Finished w → rowForm (rowIn area s) ≡ true → Lists area keyRowBytes rowCost 2 s (rowOn area s)
@@ -119,13 +119,13 @@ module _ (area : Bytes) (s : Slot) (h : s .at + s .len + past (s .line) ≤ leng
       row-long′ =
           let a = ap past e in
           let b = ap rowLen e in
-          part-long area (s .at + s .len + 8 + 8) (rowLen (s .line)) (omega arith)
+          part-long area (placeOf s + s .len + 8 + 8) (rowLen (s .line)) (omega arith)
 
       cost : rowCost (rowOn area s) ≡ costOf s
       cost = omega (arith, key-long, row-long′, ap rowLen e, ap (costIn (s .len)) e)
 
       bytes : keyRowBytes (rowOn area s) ≡ entryBytes area s
-      bytes = subst (λ (x : Line). pieceBytes (keyOf area s) ++ pieceBytes (bytesAt area (s .at + s .len + 8 + 8) (rowLen x)) ≡ pieceBytes (keyOf area s) ++ lineBytes area (toldIn area (s .at + s .len) x)) (sym e) refl
+      bytes = subst (λ (x : Line). pieceBytes (keyOf area s) ++ pieceBytes (bytesAt area (placeOf s + s .len + 8 + 8) (rowLen x)) ≡ pieceBytes (keyOf area s) ++ lineBytes area (toldIn area (placeOf s + s .len) x)) (sym e) refl
 
   -- an intent, for its lock
   pub lock-lists : (l : Stood) → s .line ≡ Standing l → soundLock (lockOn area s l .lock) ≡ true → Lists area keyLockBytes lockCost 1 s (lockOn area s l)
@@ -147,13 +147,13 @@ module _ (area : Bytes) (s : Slot) (h : s .at + s .len + past (s .line) ≤ leng
       primary-form = and-right (not (eqb (lock .txn) 0) && not (eqb (lock .start) 0) && not (eqb (lock .ttl) 0) && not (eqKind (lock .kind) Rollback)) (keyForm (lock .primary)) g
 
       primary-long : length (lockOn area s l .lock .primary) ≡ l .plen
-      primary-long = let a = ap past e in part-long area (s .at + s .len + 8 + 8 + l .rowlen + 8) (l .plen) (omega arith)
+      primary-long = let a = ap past e in part-long area (placeOf s + s .len + 8 + 8 + l .rowlen + 8) (l .plen) (omega arith)
 
       cost : lockCost (lockOn area s l) ≡ costOf s
       cost = omega (arith, key-long, primary-long, ap (costIn (s .len)) e)
 
       bytes : keyLockBytes (lockOn area s l) ≡ entryBytes area s
-      bytes = ap (λ (x : Line). pieceBytes (keyOf area s) ++ lineBytes area (toldIn area (s .at + s .len) x)) (sym e)
+      bytes = ap (λ (x : Line). pieceBytes (keyOf area s) ++ lineBytes area (toldIn area (placeOf s + s .len) x)) (sym e)
 
 -- ---- what one that is shown does to a page
 
@@ -219,12 +219,12 @@ module _ {area : Bytes} {s : Slot} {x : KeyLock} (l : Lists area keyLockBytes lo
 
 -- ---- one line: a record is passed over, and a lock that is out of bounds
 
-module _ (area : Bytes) (s : Slot) (h : s .at + s .len + past (s .line) ≤ length area) (k : keyForm (keyOf area s) ≡ true) (m : Limits) (a : Bounds) (moment : ℕ) (es : List box.KeyLine) (count sum : ℕ) where
+module _ (area : Bytes) (s : Slot) (h : placeOf s + s .len + past (s .line) ≤ length area) (k : keyForm (keyOf area s) ≡ true) (m : Limits) (a : Bounds) (moment : ℕ) (es : List box.KeyLine) (count sum : ℕ) where
   abbrev lineAt : Line → box.KeyLine
-  lineAt x = record { key = keyOf area s; line = lineIn area (s .at + s .len) x }
+  lineAt x = record { key = keyOf area s; line = lineIn area (placeOf s + s .len) x }
 
-  pub intent-stepped : sum + 600 ≤ m .bytes → (x : Line) → s .line ≡ x → soundLine (lineIn area (s .at + s .len) x) ≡ true → (t : Bool) → inBounds a (keyOf area s) ≡ t
-      → Stepped area 1 (intents m (locksWithin a (locksOf (lineAt x ∷ es)))) (intents m (locksWithin a (locksOf es))) count sum (turnDue t (seeLock true moment s (toldIn area (s .at + s .len) x)) (m .rows) (m .bytes) count sum)
+  pub intent-stepped : sum + 600 ≤ m .bytes → (x : Line) → s .line ≡ x → soundLine (lineIn area (placeOf s + s .len) x) ≡ true → (t : Bool) → inBounds a (keyOf area s) ≡ t
+      → Stepped area 1 (intents m (locksWithin a (locksOf (lineAt x ∷ es)))) (intents m (locksWithin a (locksOf es))) count sum (turnDue t (seeLock true moment s (toldIn area (placeOf s + s .len) x)) (m .rows) (m .bytes) count sum)
   unfolding locksOf locksWithin keepIf
   intent-stepped f (Finished w) q g true e = record { is = refl; good = tt }
   intent-stepped f (Finished w) q g false e = record { is = refl; good = tt }
@@ -233,8 +233,8 @@ module _ (area : Bytes) (s : Slot) (h : s .at + s .len + past (s .line) ≤ leng
       let z = lock-lists area s h k l q g in
       record { is = rw e (intent-turn z m (locksWithin a (locksOf es)) count sum g f); good = shown-good z (m .rows) (m .bytes) count (sum + costOf s) }
 
-  pub conflict-stepped : (x : Line) → s .line ≡ x → soundLine (lineIn area (s .at + s .len) x) ≡ true → (t : Bool) → inBounds a (keyOf area s) ≡ t
-      → Stepped area 1 (conflicts moment m (locksWithin a (locksOf (lineAt x ∷ es)))) (conflicts moment m (locksWithin a (locksOf es))) count sum (turnDue t (seeLock false moment s (toldIn area (s .at + s .len) x)) (m .rows) (m .bytes) count sum)
+  pub conflict-stepped : (x : Line) → s .line ≡ x → soundLine (lineIn area (placeOf s + s .len) x) ≡ true → (t : Bool) → inBounds a (keyOf area s) ≡ t
+      → Stepped area 1 (conflicts moment m (locksWithin a (locksOf (lineAt x ∷ es)))) (conflicts moment m (locksWithin a (locksOf es))) count sum (turnDue t (seeLock false moment s (toldIn area (placeOf s + s .len) x)) (m .rows) (m .bytes) count sum)
   unfolding locksOf locksWithin keepIf
   conflict-stepped (Finished w) q g true e = record { is = refl; good = tt }
   conflict-stepped (Finished w) q g false e = record { is = refl; good = tt }

@@ -30,7 +30,7 @@ use Rattle.lines.specs.declared.store.Slot.{Slot}
 use Rattle.lines.specs.declared.store.Store.{Store}
 use Rattle.lines.specs.declared.store.Line.{Line}
 use Rattle.lines.specs.declared.store.Line.the-variants.{Standing, Finished}
-use Rattle.lines.specs.View.{rowIf, lineIn, keyOf, lineOf, rowIn, boxOf, noSlot, defaultIn, stored}
+use Rattle.lines.specs.View.{placeOf, rowIf, lineIn, keyOf, lineOf, rowIn, boxOf, noSlot, defaultIn, stored}
 use Rattle.lines.specs.Made.{Built, goodLine, soundLine}
 use Rattle.lines.specs.Looks.{toldIn, toldOf}
 use Rattle.lines.proofs.MemberLaws.{fewer-take}
@@ -83,7 +83,7 @@ module _ {st : Store} {area : Bytes} (b : Built st area) where
   abbrev key : ℕ → Key
   key i = keyOf area (getD (st .lines) i noSlot)
 
-  pub key-in : (i : ℕ) → i < st .load .lines → getD (st .lines) i noSlot .at + getD (st .lines) i noSlot .len ≤ length area
+  pub key-in : (i : ℕ) → i < st .load .lines → placeOf (getD (st .lines) i noSlot) + getD (st .lines) i noSlot .len ≤ length area
   key-in i h = omega (arith, slot-in b i h)
 
   module _ (i : ℕ) (h : i < st .load .lines) where
@@ -124,12 +124,12 @@ module _ {st : Store} {area : Bytes} (b : Built st area) where
     row-more : (m : ℕ) {d : Due} → DueRow area m ds (key i) (take i es) d → DueRow area m ds (key i) (take (i + 1) es) (seeRow m d (slot i) (toldOf area (slot i)))
     row-more m {d} v = subst (λ (l : List box.KeyLine). DueRow area m ds (key i) l (seeRow m d (slot i) (toldOf area (slot i)))) (sym one-more) (go (slot i .line) refl in-order sound (λ p. row-there b i h (st .top) (b .lines .holds) .is ∙ ap (λ (a : Kind). rowIf a (rowIn area (slot i))) p))
       where
-        go : (x : Line) → slot i .line ≡ x → box.ordered box.before (take i es ++ record { key = key i; line = lineIn area (slot i .at + slot i .len) x } ∷ []) ≡ true → soundLine (lineIn area (slot i .at + slot i .len) x) ≡ true
-            → (kindIn (lineIn area (slot i .at + slot i .len) x) ≡ Put → box.rowOf (key i) (startOf (lineIn area (slot i .at + slot i .len) x)) ds ≡ some (rowIn area (slot i)))
-            → DueRow area m ds (key i) (take i es ++ record { key = key i; line = lineIn area (slot i .at + slot i .len) x } ∷ []) (seeRow m d (slot i) (toldIn area (slot i .at + slot i .len) x))
-        go (Standing l) q o g r = due-lock v (slot i) (intentIn area (slot i .at + slot i .len) l) o
+        go : (x : Line) → slot i .line ≡ x → box.ordered box.before (take i es ++ record { key = key i; line = lineIn area (placeOf (slot i) + slot i .len) x } ∷ []) ≡ true → soundLine (lineIn area (placeOf (slot i) + slot i .len) x) ≡ true
+            → (kindIn (lineIn area (placeOf (slot i) + slot i .len) x) ≡ Put → box.rowOf (key i) (startOf (lineIn area (placeOf (slot i) + slot i .len) x)) ds ≡ some (rowIn area (slot i)))
+            → DueRow area m ds (key i) (take i es ++ record { key = key i; line = lineIn area (placeOf (slot i) + slot i .len) x } ∷ []) (seeRow m d (slot i) (toldIn area (placeOf (slot i) + slot i .len) x))
+        go (Standing l) q o g r = due-lock v (slot i) (intentIn area (placeOf (slot i) + slot i .len) l) o
         go (Finished w) q o g r =
-            due-record v (slot i) (writtenIn area (slot i .at + slot i .len) w) g (λ p. row-shown (key i) _ ds (rowIn area (slot i)) (b .kept .rows) (r p))
+            due-record v (slot i) (writtenIn area (placeOf (slot i) + slot i .len) w) g (λ p. row-shown (key i) _ ds (rowIn area (slot i)) (b .kept .rows) (r p))
             (λ p. record { key-is = refl; lists = row-lists area (slot i) (slot-in b i h) form w q (row-form (key i) _ ds (rowIn area (slot i)) (b .kept .rows) (r p)) })
 
     -- there is no more of the key

@@ -20,7 +20,7 @@ use Rattle.lines.specs.declared.store.Line.{Line}
 use Rattle.lines.specs.declared.store.Line.the-variants.{Standing, Finished}
 use Rattle.lines.specs.declared.views.Told.{Told}
 use Rattle.lines.specs.declared.views.Told.the-variants as told
-use Rattle.lines.specs.View.{keyOf, past, noSlot}
+use Rattle.lines.specs.View.{placeOf, keyOf, past, noSlot}
 use Rattle.lines.specs.Made.{Built}
 use Rattle.lines.specs.Looks.{lockIn, toldOf}
 use Rattle.walks.specs.declared.walked.Asked.{Asked}
@@ -77,7 +77,7 @@ partLen (Finished w) = w .rowlen
 
 -- the line lies in the area, and its row or primary is short
 pub record SlotIn (area : Bytes) (s : Slot) : Type 0 where
-  pub within : s .at + s .len + past (s .line) ≤ length area
+  pub within : placeOf s + s .len + past (s .line) ≤ length area
   pub short : partLen (s .line) ≤ 255
 
 -- how many bytes an entry has besides its cost: the lengths of key and row; of the key, since a lock's 26 have the primary's

@@ -6,7 +6,7 @@ use Rattle.bounds.proofs.within.slot_inside.Statement.{statement}
 use Rattle.bounds.proofs.within.slot_inside.Tie as tie
 
 returns : tie.Need-returns
-returns c = simp add-sub-cancel-left at ((c .in-bounds) .ensures)
+returns c = rw ((c .before .before .before .place-of) .ensures) at (simp add-sub-cancel-left at ((c .in-bounds) .ensures))
 
 pub slot-inside-spec : {M : Type 1} → statement M
 slot-inside-spec =

@@ -6,7 +6,7 @@ use Rattle.bounds.proofs.within.slots_share.Statement.{statement}
 use Rattle.bounds.proofs.within.slots_share.Tie as tie
 
 returns : tie.Need-returns
-returns c = simp add-sub-cancel-left at ((c .same) .ensures)
+returns c = rw ((c .before .before .before .before .before .before .place-of) .ensures, (c .before .before .before .before .place-of2) .ensures) at (simp add-sub-cancel-left at ((c .same) .ensures))
 
 pub slots-share-spec : {M : Type 1} → statement M
 slots-share-spec =

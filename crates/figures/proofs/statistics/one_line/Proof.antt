@@ -8,10 +8,10 @@ use Rattle.figures.proofs.statistics.one_line.Statement.{statement}
 use Rattle.figures.proofs.statistics.one_line.Tie as tie
 
 returns : tie.Need-returns
-returns c = line-counted (c .before .before .before .before .before .before .before .before .before .before .before .before .before .before .before .pre) ((c .before .before .before .before .line) .given .1) ((c .before .before .before .before .before .before .before .before .same) .ensures ∙ simp add-sub-cancel-left) ((c .before .before .if-row) .ensures .0) ((c .before .next-run) .ensures) ((c .next-run2) .ensures)
+returns c = line-counted (c .before .before .before .before .before .before .before .before .before .before .before .before .before .before .before .pre) ((c .before .before .before .before .before .before .before .before .before .before .before .before .place-of) .ensures) ((c .before .before .before .before .line) .given .1) (rw ((c .before .before .before .before .before .before .before .before .before .before .before .before .place-of) .ensures) at ((c .before .before .before .before .before .before .before .before .same) .ensures) ∙ simp add-sub-cancel-left) ((c .before .before .if-row) .ensures .0) ((c .before .next-run) .ensures) ((c .next-run2) .ensures)
 
 returns-2 : tie.Need-returns-2
-returns-2 c = line-counted (c .before .before .before .before .before .before .before .before .before .before .before .before .before .before .before .pre) ((c .before .before .before .before .line2) .given .1) ((c .before .before .before .before .before .before .before .before .same) .ensures ∙ simp add-sub-cancel-left) ((c .before .before .if-row2) .ensures .0) ((c .before .next-run3) .ensures) ((c .next-run4) .ensures)
+returns-2 c = line-counted (c .before .before .before .before .before .before .before .before .before .before .before .before .before .before .before .pre) ((c .before .before .before .before .before .before .before .before .before .before .before .before .place-of) .ensures) ((c .before .before .before .before .line2) .given .1) (rw ((c .before .before .before .before .before .before .before .before .before .before .before .before .place-of) .ensures) at ((c .before .before .before .before .before .before .before .before .same) .ensures) ∙ simp add-sub-cancel-left) ((c .before .before .if-row2) .ensures .0) ((c .before .next-run3) .ensures) ((c .next-run4) .ensures)
 
 pub one-line-spec : {M : Type 1} → statement M
 one-line-spec =

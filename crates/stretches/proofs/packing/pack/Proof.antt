@@ -1,18 +1,20 @@
+-- `stretches::packing::pack` meets its contract.
+-- Assumes nothing.
 use Rattle.stretches.proofs.PackLaws.{Packing, packing-start, packing-in, packing-room, packing-more, packing-end}
-use mathlib.Core.Path.{ap}
 use Rattle.lines.specs.View.{noSlot}
 use borrow.Author.Needs.{needs}
 use native.Mathlib.Omega.{arith}
 use Prim.Native.Nat.{ℕ, _+_, _-_}
+use mathlib.Core.Path.{ap}
 use lib.ListN.{getD}
 use Rattle.stretches.proofs.packing.pack.Statement.{statement}
 use Rattle.stretches.proofs.packing.pack.Tie as tie
 
 abbrev Inv-loop : tie.InvT-loop
-Inv-loop area into₀ l₀ n top₀ i₀ into l top i = Packing l₀ area n i top l into
+Inv-loop area into₀ l₀ n at₀ i₀ into l at i = Packing l₀ area n i at l into
 
 abbrev μ-loop : tie.MeasureT-loop
-μ-loop area into₀ l₀ n top₀ i₀ into l top i = n - i
+μ-loop area into₀ l₀ n at₀ i₀ into l at i = n - i
 
 loop-holds : tie.Need-loop-holds Inv-loop μ-loop
 loop-holds c = packing-start (c .before .before .before .pre)
@@ -21,22 +23,31 @@ add-size : tie.Need-add-size Inv-loop μ-loop
 add-size c = omega (arith, packing-in (c .before .before .before .before .before .before .before .before .before .pre) ((c .before .before .before .before .before .loop) .inv) ((c .before .before .before .before .loop-test) .taken), (c .past-key) .ensures)
 
 add-e : tie.Need-add-e Inv-loop μ-loop
-add-e c = omega (arith, packing-in (c .before .before .before .before .before .before .before .before .before .pre) ((c .before .before .before .before .before .loop) .inv) ((c .before .before .before .before .loop-test) .taken), (c .past-key) .ensures)
+add-e c = omega (arith, packing-in (c .before .before .before .before .before .before .before .before .before .pre) ((c .before .before .before .before .before .loop) .inv) ((c .before .before .before .before .loop-test) .taken), (c .past-key) .ensures, (c .before .before .place-of) .ensures)
+
+add-to : tie.Need-add-to Inv-loop μ-loop
+add-to c = omega (arith, packing-room (c .before .before .before .before .before .before .before .before .before .pre) ((c .before .before .before .before .before .loop) .inv) ((c .before .before .before .before .loop-test) .taken))
 
 part-append-end : tie.Need-part-append-end Inv-loop μ-loop
-part-append-end c = omega (arith, packing-in (c .before .before .before .before .before .before .before .before .before .before .pre) ((c .before .before .before .before .before .before .loop) .inv) ((c .before .before .before .before .before .loop-test) .taken), (c .before .past-key) .ensures)
+part-append-end c = omega (arith, packing-in (c .before .before .before .before .before .before .before .before .before .before .pre) ((c .before .before .before .before .before .before .loop) .inv) ((c .before .before .before .before .before .loop-test) .taken), (c .before .past-key) .ensures, (c .before .before .before .place-of) .ensures)
 
 append-requires : tie.Need-append-requires Inv-loop μ-loop
-append-requires c κs = omega (arith, packing-room (c .before .before .before .before .before .before .before .before .before .before .before .pre) ((c .before .before .before .before .before .before .before .loop) .inv) ((c .before .before .before .before .before .before .loop-test) .taken), (c .before .before .past-key) .ensures, (c .before .before .before .before .before .before .before .loop) .inv .long)
+append-requires c κs = omega (arith, packing-room (c .before .before .before .before .before .before .before .before .before .before .before .pre) ((c .before .before .before .before .before .before .before .loop) .inv) ((c .before .before .before .before .before .before .loop-test) .taken), (c .before .before .past-key) .ensures, (c .before .before .before .before .place-of) .ensures, (c .before .before .before .before .before .before .before .loop) .inv .long)
 
-cast-t27 : tie.Need-cast-t27 Inv-loop μ-loop
-cast-t27 c = omega (arith, packing-room (c .before .before .before .before .before .before .before .before .before .before .before .before .before .before .pre) ((c .before .before .before .before .before .before .before .before .before .before .loop) .inv) ((c .before .before .before .before .before .before .before .before .before .loop-test) .taken))
+cast-t28 : tie.Need-cast-t28 Inv-loop μ-loop
+cast-t28 c = omega (arith, packing-room (c .before .before .before .before .before .before .before .before .before .before .before .before .before .before .pre) ((c .before .before .before .before .before .before .before .before .before .before .loop) .inv) ((c .before .before .before .before .before .before .before .before .before .loop-test) .taken))
 
-add-top : tie.Need-add-top Inv-loop μ-loop
-add-top c = omega (arith, packing-room (c .before .before .before .before .before .before .before .before .before .before .before .before .before .before .pre) ((c .before .before .before .before .before .before .before .before .before .before .loop) .inv) ((c .before .before .before .before .before .before .before .before .before .loop-test) .taken), (c .before .before .before .before .before .past-key) .ensures)
+add-pairs-in : tie.Need-add-pairs-in Inv-loop μ-loop
+add-pairs-in c = omega (arith, packing-room (c .before .before .before .before .before .before .before .before .before .before .before .before .before .before .pre) ((c .before .before .before .before .before .before .before .before .before .before .loop) .inv) ((c .before .before .before .before .before .before .before .before .before .loop-test) .taken), (c .before .before .before .before .before .past-key) .ensures)
+
+pairs-in-requires : tie.Need-pairs-in-requires Inv-loop μ-loop
+pairs-in-requires c κs = omega (arith, packing-room (c .before .before .before .before .before .before .before .before .before .before .before .before .before .before .pre) ((c .before .before .before .before .before .before .before .before .before .before .loop) .inv) ((c .before .before .before .before .before .before .before .before .before .loop-test) .taken), (c .before .before .before .before .before .past-key) .ensures)
 
 loop-again : tie.Need-loop-again Inv-loop μ-loop
-loop-again c = packing-more (c .before .before .before .before .before .before .before .before .before .before .before .before .before .before .pre) ((c .before .before .before .before .before .before .before .before .before .before .loop) .inv) ((c .before .before .before .before .before .before .before .before .before .loop-test) .taken) (ap (λ (m : ℕ). getD ((c .before .before .before .before .before .before .before .before .before .before .loop) .l .lines) ((c .before .before .before .before .before .before .before .before .before .before .loop) .i) noSlot .len + m) ((c .before .before .before .before .before .past-key) .ensures)) ((c .before .before .append) .ensures)
+loop-again c = packing-more (c .before .before .before .before .before .before .before .before .before .before .before .before .before .before .before .pre) ((c .before .before .before .before .before .before .before .before .before .before .before .loop) .inv) ((c .before .before .before .before .before .before .before .before .before .before .loop-test) .taken) ((c .before .before .before .before .before .before .before .before .place-of) .ensures) (ap (λ (m : ℕ). getD ((c .before .before .before .before .before .before .before .before .before .before .before .loop) .l .lines) ((c .before .before .before .before .before .before .before .before .before .before .before .loop) .i) noSlot .len + m) ((c .before .before .before .before .before .before .past-key) .ensures)) ((c .before .before .before .append) .ensures) ((c .pairs-in) .ensures)
+
+add-l : tie.Need-add-l Inv-loop μ-loop
+add-l c = omega (arith, (c .before .loop) .inv .room)
 
 returns : tie.Need-returns Inv-loop μ-loop
 returns c = packing-end (c .before .before .before .before .before .pre) ((c .before .loop) .inv) ((c .loop-test) .left)
@@ -50,21 +61,24 @@ pack-spec =
     loop-holds
     (λ c. search needs)
     (λ c. search needs)
-    (λ c. search needs)
+    (λ c κs. search needs)
     (λ c. search needs)
     (λ c κs. search needs)
     add-size
     add-e
+    add-to
     (λ c. search needs)
     (λ c. search needs)
     part-append-end
     append-requires
-    cast-t27
+    cast-t28
     (λ c. search needs)
     (λ c. search needs)
-    add-top
+    add-pairs-in
+    pairs-in-requires
     (λ c. search needs)
     (λ c. search needs)
     loop-again
+    add-l
     (λ c. search needs)
     returns)

@@ -7,7 +7,7 @@ use Rattle.stretches.proofs.packing.repack.Statement.{statement}
 use Rattle.stretches.proofs.packing.repack.Tie as tie
 
 pack-requires : tie.Need-pack-requires
-pack-requires c κs = pack-asks (c .before .before .before .pre) (length-replicate {A = ℕ} 67584 0)
+pack-requires c κs = pack-asks (c .before .before .before .pre) (length-replicate {A = ℕ} 68608 0)
 
 part-append-end : tie.Need-part-append-end
 part-append-end c = omega (arith, (c .before .before .before .pack) .ensures .top-most, (c .before .before .before .pack) .ensures .long)
