@@ -48,7 +48,8 @@ module _ {st : Store} {area k : Bytes} {start m : ℕ} {found : Looked} (b : Bui
     unfolding judgeLock unlessAbove
     point-above h = point-as (sym (rw (lt-ltb m (i .start) h)) ∙ judged e) tt
 
-    pub point-lock : i .start ≤ m → PointedAs (intentAt k m (boxOf st area)) area (pointed.Lock i)
+    pub point-lock : i .start ≤ m
+        → PointedAs (intentAt k m (boxOf st area)) area (pointed.Lock (record { txn = i .txn; start = i .start; ttl = i .ttl; kind = i .kind; at = i .at; len = i .len }))
     unfolding judgeLock unlessAbove lockIf
     point-lock h =
         let there : LockThere (st .top) area (boxOf st area .defaults) k (By i) = subst (LockThere (st .top) area (boxOf st area .defaults) k) e (f .lock-there) in

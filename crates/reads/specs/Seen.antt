@@ -11,12 +11,12 @@ use Rattle.rules.specs.declared.records.Kind.the-variants.{Put, Delete, Rollbac
 use Rattle.rules.specs.Answers.{Answered, Reply, nothing, shown, refused, answerOf}
 use Rattle.rules.specs.Box.{Lock}
 use Rattle.rules.specs.Read.{Examined}
-use Rattle.lines.specs.Looks.{lockIn}
 use Rattle.lines.specs.declared.keys.Found.{Found}
 use Rattle.lines.specs.declared.keys.Found.the-variants.{Nothing, Is}
 use Rattle.reads.specs.declared.seen.Seen.{Seen}
 use Rattle.reads.specs.declared.seen.Seen.the-variants as seen
 use Rattle.reads.specs.declared.seen.Reading.{Reading}
+use Rattle.reads.specs.declared.seen.ShownLock.{ShownLock}
 use Rattle.reads.specs.declared.seen.Pointed.{Pointed}
 use Rattle.reads.specs.declared.seen.Pointed.the-variants as pointed
 
@@ -60,15 +60,18 @@ newestSeen (Is w) = ifPut (w .kind) (seen.Row (w .rowat) (w .rowlen))
 
 -- ---- an intent at a point
 
+abbrev pub shownLock : Bytes → ShownLock → Lock
+shownLock area s = record { txn = s .txn; primary = bytesAt area (s .at) (s .len); start = s .start; ttl = s .ttl; kind = s .kind }
+
 abbrev pub pointedIn : Bytes → Pointed → Reply Lock
 pointedIn area pointed.Nothing = nothing
-pointedIn area (pointed.Lock i) = shown (lockIn area i)
+pointedIn area (pointed.Lock s) = shown (shownLock area s)
 pointedIn area (pointed.Refused a) = refused a
 
 -- the primary of what is shown ends by n
 abbrev pub PointedBelow : ℕ → Pointed → Type 0
 PointedBelow n pointed.Nothing = Unit {0}
-PointedBelow n (pointed.Lock i) = i .at + i .len ≤ n
+PointedBelow n (pointed.Lock s) = s .at + s .len ≤ n
 PointedBelow n (pointed.Refused a) = Unit {0}
 
 -- an answer is this reply, with its number and holder, and the primary that it shows lies in the area

@@ -13,3 +13,4 @@ pub use rows::read;
 pub use seen::Pointed;
 pub use seen::Reading;
 pub use seen::Seen;
+pub use seen::ShownLock;

@@ -5,6 +5,7 @@ ghost use Rattle.lines.specs.View.{boxOf};
 ghost use Rattle.lines.specs.Made.{Made};
 ghost use Rattle.reads.specs.Seen.{PointedAs};
 use crate::seen::Pointed;
+use crate::seen::ShownLock;
 use lines::AREA;
 use lines::Locked;
 use lines::Store;
@@ -27,7 +28,15 @@ pub fn intent_for_read(store: Store, area: &[u8; AREA], key: &[u8], moment: u64)
             if moment < l.start {
                 return Pointed::Nothing;
             }
-            Pointed::Lock(l)
+            let kind = l.kind;
+            Pointed::Lock(ShownLock {
+                txn: l.txn,
+                start: l.start,
+                ttl: l.ttl,
+                kind: kind,
+                at: l.at,
+                len: l.len,
+            })
         }
     }
 }

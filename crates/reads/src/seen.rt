@@ -1,6 +1,6 @@
 // What a read and an intent at a point answer, as numbers. specs/Seen.antt gives the paper's reply of each case, the area given.
-use lines::Intent;
 use rules::Answer;
+use rules::Kind;
 
 // Of a read: nothing is shown, or the row that is the `len` bytes of the area from `at`, or a refusal.
 pub enum Seen {
@@ -15,9 +15,19 @@ pub struct Reading {
     pub count: usize,
 }
 
-// Of an intent at a point: nothing is shown, or the lock, its primary a stretch of the area, or a refusal.
+// A lock as it is shown: its primary is the `len` bytes of the area from `at`. Its row is not shown.
+pub struct ShownLock {
+    pub txn: u64,
+    pub start: u64,
+    pub ttl: u64,
+    pub kind: Kind,
+    pub at: usize,
+    pub len: usize,
+}
+
+// Of an intent at a point: nothing is shown, or the lock, or a refusal.
 pub enum Pointed {
     Nothing,
-    Lock(Intent),
+    Lock(ShownLock),
     Refused(Answer),
 }

@@ -26,12 +26,11 @@ use Rattle.rules.specs.Box.{Box, Lock, Default, eqKind, lockOf}
 use Rattle.rules.specs.Sound.{soundRecord, soundLock}
 use Rattle.rules.specs.Read.{showIf, showRow, Examined, oneRecord, walk, examine}
 use Rattle.rules.specs.Intent.{lockIf, unlessAbove, judgeLock, intentAt}
-use Rattle.lines.specs.Looks.{lockIn}
 use Rattle.reads.specs.declared.seen.Seen.{Seen}
 use Rattle.reads.specs.declared.seen.Seen.the-variants as seen
 use Rattle.reads.specs.declared.seen.Pointed.{Pointed}
 use Rattle.reads.specs.declared.seen.Pointed.the-variants as pointed
-use Rattle.reads.specs.Seen.{seenIn, SeenBelow, SeenAs, pointedIn, PointedBelow, PointedAs}
+use Rattle.reads.specs.Seen.{shownLock, seenIn, SeenBelow, SeenAs, pointedIn, PointedBelow, PointedAs}
 use Rattle.reads.specs.Parts.{RowPart, PrimaryPart, rowShown, primaryShown}
 use Rattle.replies.specs.Put as put
 use Rattle.replies.specs.Payloads.{lockPayload, readPayload, intentPayload}
@@ -171,6 +170,6 @@ module _ {want : Reply Lock} {area : Bytes} {s : Pointed} (v : PointedAs want ar
       by-case : (q : Pointed) → (PointedBelow (length area) q → primary ≡ primaryShown (pointedIn area q)) → PointedBelow (length area) q → LockShort (pointedIn area q) → length primary ≤ 255
       by-case pointed.Nothing f g k = omega (arith, ap length (f g))
       by-case (pointed.Lock l) f g k =
-          let x : Lock = lockIn area l in
+          let x : Lock = shownLock area l in
           omega (arith, ap length (f g), length-lock (x .txn) (x .primary) (x .start) (x .ttl) (x .kind))
       by-case (pointed.Refused a) f g k = omega (arith, ap length (f g))
