@@ -1,1 +1,2 @@
-pub mod TurnLaws
+-- The laws of `bench`, in the order in which they build on each other.
+pub mod BenchTurnLaws

@@ -4,8 +4,8 @@ use Prim.Native.Nat.{ℕ, _≤_, _<_}
 use mathlib.Core.Path.{_≡_}
 use lib.ListN.{length}
 use Rattle.forms.specs.Bytes.{Bytes}
-use Rattle.lines.specs.declared.store.Store.{Store}
-use Rattle.lines.specs.Made.{Made}
+use Rattle.store.specs.declared.table.Store.{Store}
+use Rattle.store.specs.Made.{Made}
 use Rattle.bench.specs.declared.asked.Asked.{Asked}
 
 -- primary, key and row follow one another, and the next call begins where they end
@@ -28,4 +28,4 @@ pub record CallAsks (st : Store) (area s : Bytes) (a : Asked) : Type 0 where
 -- a turn: the store stands on its area, and the calls that change it are made on a copy
 pub record TurnAsks (st : Store) (area copy : Bytes) : Type 0 where
   pub made : Made st area
-  pub long : length copy ≡ 131072
+  pub length-is : length copy ≡ 131072

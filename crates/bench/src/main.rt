@@ -3,7 +3,7 @@
 // so many turns are made, each call on that box, and the sum of what the answers are worth is written, 8 bytes. An input that is shorter than
 // its lengths say gives nothing.
 mod asked;
-mod changes;
+mod changing;
 mod shows;
 mod turns;
 mod worths;
@@ -72,10 +72,10 @@ fn measure(input: &[u8]) {
         head.way,
         head.turns,
     );
-    // The room is wider than the number. With 8 bytes of room, the table of a read and the copy of it that `look` makes lie 8 bytes apart
+    // The room is wider than the number. With 8 bytes of room, the table of a read and the copy of it that `look_up` makes lie 8 bytes apart
     // modulo 4,096, and there some processors copy thirty times slower (docs/SPEED.md).
     let mut bytes = [0u8; 64];
-    forms::put_number(&mut bytes[..8], Width::Eight, sum);
+    forms::put_digits(&mut bytes, 0, Width::Eight, sum);
     io::write_all(STDOUT_FILENO, &bytes[..8]);
 }
 

@@ -1,5 +1,5 @@
 // The calls that show something.
-ghost use Rattle.lines.specs.Made.{Made};
+ghost use Rattle.store.specs.Made.{Made};
 use crate::worths::of_answer;
 use crate::worths::of_seen;
 use mvcc::AREA;

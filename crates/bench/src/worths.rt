@@ -1,7 +1,7 @@
 // What a call's answer is worth: a number that depends on it, so that no call can be left out, and that the paper's answer gives too.
 use mvcc::Answer;
 use mvcc::Changed;
-use mvcc::Seen;
+use mvcc::RowSeen;
 use rules::Load;
 use std::num::wrapping_add_u64;
 
@@ -15,11 +15,11 @@ pub fn of_answer(answer: Answer) -> u64 {
 }
 
 // Of a read: 1 where nothing is shown, 2 and the row's length where a row is.
-pub fn of_seen(seen: Seen, row: &[u8]) -> u64 {
+pub fn of_seen(seen: RowSeen, row: &[u8]) -> u64 {
     match seen {
-        Seen::Nothing => 1,
-        Seen::Row { at: _, len: _ } => wrapping_add_u64(2, row.len() as u64),
-        Seen::Refused(answer) => of_answer(answer),
+        RowSeen::Nothing => 1,
+        RowSeen::Row { at: _, len: _ } => wrapping_add_u64(2, row.len() as u64),
+        RowSeen::Refused(answer) => of_answer(answer),
     }
 }
 

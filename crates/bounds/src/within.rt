@@ -5,10 +5,10 @@ ghost use lib.ListN.{length};
 ghost use Rattle.forms.specs.Bytes.{eqBytes};
 ghost use Rattle.forms.specs.Readers.{when};
 ghost use Rattle.rules.specs.Page.{fromOn, beforeEnd, inBounds};
-ghost use Rattle.lines.specs.View.{placeOf, keyOf};
+ghost use Rattle.store.specs.View.{placeOf, keyOf};
 ghost use Rattle.bounds.specs.Bounds.{boundsOf};
-use lines::Slot;
-use lines::place_of;
+use store::Slot;
+use store::place_of;
 
 // "from start (from after resume, if start is absent or not above resume)"
 fn from_on(key: &[u8], starts: bool, start: &[u8], resumes: bool, resume: &[u8]) -> bool

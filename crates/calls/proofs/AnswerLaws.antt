@@ -12,7 +12,7 @@ use Rattle.forms.specs.Bytes.{Bytes}
 use Rattle.forms.specs.Places.{Decoded}
 use Rattle.forms.specs.declared.batch.Entry.{Entry}
 use Rattle.forms.specs.declared.batch.Entries.{Entries}
-use Rattle.forms.proofs.BatchLaws.{decoded-bad, decoded-good}
+use Rattle.forms.proofs.DecodeLaws.{decoded-bad, decoded-good}
 use Rattle.rules.specs.declared.answers.Answer.{Answer}
 use Rattle.rules.specs.declared.answers.Answer.the-variants.{Accepted, No, Held}
 use Rattle.rules.specs.Answers.{_▸_, need}

@@ -25,17 +25,17 @@ use Rattle.laws.proofs.StepLaws.{then-left, then-right, need-true}
 use Rattle.laws.proofs.SettleLaws.{settle-new}
 use Rattle.laws.proofs.ChainLaws.{denies}
 use Rattle.laws.proofs.BatchLaws.{checkAll, applyAll}
-use Rattle.lines.specs.declared.store.Store.{Store}
-use Rattle.lines.specs.View.{boxOf}
-use Rattle.lines.specs.Made.{Made}
-use Rattle.applies.specs.declared.deeds.Deed.{Deed}
+use Rattle.store.specs.declared.table.Store.{Store}
+use Rattle.store.specs.View.{boxOf}
+use Rattle.store.specs.Made.{Made}
+use Rattle.actions.specs.declared.action.Action.{Action}
 use Rattle.calls.specs.Settled.{Settled}
-use Rattle.calls.specs.Walks.{onlyIf, AllAsks}
+use Rattle.calls.specs.Entries.{onlyIf, AllAsks}
 use Rattle.calls.specs.Passes.{allDone, Judged, applyEntry, Ready, counted, ApplyAsks, AllApplied}
 use Rattle.calls.specs.declared.changed.Changed.{Changed}
-use Rattle.calls.specs.declared.judged.Verdict.{Verdict}
+use Rattle.calls.specs.declared.judged.BatchVerdict.{BatchVerdict}
 use Rattle.calls.proofs.SettledLaws.{settled-same, settled-still, settled-new}
-use Rattle.calls.proofs.ApplyLaws.{applied-is}
+use Rattle.calls.proofs.ApplyAllLaws.{applied-is}
 use Rattle.calls.proofs.AnswerLaws.{head-out, head-on, bad-batch, empty-batch, full-batch}
 
 -- a call that leaves the box as it was
@@ -46,19 +46,19 @@ settle-still (No n) new old e = refl
 settle-still (Held h) new old e = refl
 
 -- the entries are applied where the call moves
-pub asks-if : {st : Store} {area s : Bytes} {n : ℕ} {es : List Entry} → AllAsks st area s n es → {moves : Bool} {m : ℕ} → m ≡ onlyIf moves n → {d : Deed} {primary : Key}
+pub asks-if : {st : Store} {area s : Bytes} {n : ℕ} {es : List Entry} → AllAsks st area s n es → {moves : Bool} {m : ℕ} → m ≡ onlyIf moves n → {d : Action} {primary : Key}
     → (moves ≡ true → Ready d primary s (counted n es) (boxOf st area)) → ApplyAsks d primary st area s m es
 unfolding shown Ready
 asks-if {st} {area} {s} {n} {es} a {moves} q {d} {primary} r = subst (λ (i : ℕ). ApplyAsks d primary st area s i es) (sym q) (go moves refl)
   where
     go : (t : Bool) → moves ≡ t → ApplyAsks d primary st area s (onlyIf t n) es
-    go true e = record { made = a .made; few = a .form .listed .few; listed = λ _. a .form .listed; ready = r e }
-    go false e = record { made = a .made; few = omega arith; listed = λ z. absurd (omega arith); ready = tt }
+    go true e = record { made = a .made; count-fits = a .form .listed .count-fits; listed = λ _. a .form .listed; ready = r e }
+    go false e = record { made = a .made; count-fits = omega arith; listed = λ z. absurd (omega arith); ready = tt }
 
 module _ {A : Type 0} {check : Box → A → Answer} {apply : A → Box → Box} (item : Entry → A) where
   -- ---- from its entries on
 
-  module _ {st : Store} {area s : Bytes} {n : ℕ} {es : List Entry} (a : AllAsks st area s n es) {v : Verdict} (j : Judged check apply (boxOf st area) (shown item n es) v) where
+  module _ {st : Store} {area s : Bytes} {n : ℕ} {es : List Entry} (a : AllAsks st area s n es) {v : BatchVerdict} (j : Judged check apply (boxOf st area) (shown item n es) v) where
     abbrev b : Box
     b = boxOf st area
 
@@ -77,7 +77,7 @@ module _ {A : Type 0} {check : Box → A → Answer} {apply : A → Box → Box}
       unfolding roomFor
       pass-fit = fits-out _ (need-true _ 11 (then-right (checkAll check b (shown item n es)) _ (sym (j .answer-is) ∙ j .passes move)))
 
-    module _ {d : Deed} {primary : Key} {m : ℕ} (q : m ≡ onlyIf (v .moves) n) where
+    module _ {d : Action} {primary : Key} {m : ℕ} (q : m ≡ onlyIf (v .moves) n) where
       -- a refusal or a replay leaves all as it was; else the box is another one
       pub pass-done : ((e : Entry) (x : Box) → apply (item e) x ≡ applyEntry d primary s e x) → {t : Store} {area′ : Bytes} → AllApplied d primary st area s m es t area′
           → Settled st area (allDone check apply (shown item n es) (boxOf st area)) (record { store = t; answer = v .answer }) area′

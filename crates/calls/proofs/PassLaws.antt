@@ -22,7 +22,7 @@ module _ {A S : Type 0} (P : List A → S → Type 0) (item : Entry → A) {s : 
 module _ {A S : Type 0} {P : List A → S → Type 0} {item : Entry → A} {s : Bytes} {n : ℕ} {es : List Entry} {i : ℕ} {q : S} (v : Pass P item s n es i q) where
   module _ (more : i < n) where
     pub pass-small : i < 32
-    pass-small = omega (arith, v .listed .few)
+    pass-small = omega (arith, v .listed .count-fits)
 
     -- the entry lies in the bytes
     pub pass-in : EntryIn s (getD es i noEntry)

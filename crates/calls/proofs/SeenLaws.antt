@@ -18,13 +18,13 @@ use Rattle.rules.specs.declared.room.Load.{Load}
 use Rattle.rules.specs.Box.{Box}
 use Rattle.laws.specs.Adds.{plus, minus}
 use Rattle.laws.proofs.LoadLaws.{load-fields}
-use Rattle.stretches.specs.Loads.{Within}
-use Rattle.calls.specs.Walks.{rowAt}
+use Rattle.changes.specs.Loads.{Within}
+use Rattle.calls.specs.Entries.{rowAt}
 use Rattle.calls.specs.Weights.{noWeight, Light, Sums, LeftAsks, Steps, Refused, EntryChecked, AllChecked}
 use Rattle.calls.specs.declared.weights.Weight.{Weight}
-use Rattle.calls.specs.declared.weights.Seen.{Seen}
-use Rattle.calls.proofs.EntryLaws.{parts-are}
-use Rattle.calls.proofs.WalkLaws.{Walking, walking-start, walking-more, walking-out, walking-end, added-small, Summing, summing-start, summing-more, summing-small, summing-few, summing-end}
+use Rattle.calls.specs.declared.weights.Checked.{Checked}
+use Rattle.calls.proofs.EntryPartLaws.{parts-are}
+use Rattle.calls.proofs.CheckAllLaws.{Walking, walking-start, walking-more, walking-out, walking-end, added-small, Summing, summing-start, summing-more, summing-small, summing-few, summing-end}
 use Rattle.calls.proofs.PassLaws.{Pass, pass-start, pass-here, pass-more, pass-end}
 
 pub record Seeing {A : Type 0} (c : Steps A) (b : Box) (all rest : List A) (w : Weight) : Type 0 where
@@ -38,18 +38,18 @@ SeeingAll c item b s n es i w = Pass (Seeing c b (shown item n es)) item s n es 
 module _ {A : Type 0} (c : Steps A) (item : Entry → A) (b : Box) {s : Bytes} {n : ℕ} {es : List Entry} where
   pub seeing-start : Listed s n es → {z : Weight} → z ≡ noWeight → SeeingAll c item b s n es 0 z
   seeing-start a e =
-      let few = shown-length a item in
+      let count-fits = shown-length a item in
       pass-start (Seeing c b (shown item n es)) item a (record {
         walk = walking-start (c .check) b (shown item n es);
-        added = summing-start (c .adds b) (c .add) (shown item n es) (omega (arith, few, a .few)) (ap (λ (w : Weight). w .added) e);
-        freed = summing-start (c .frees b) (c .free) (shown item n es) (omega (arith, few, a .few)) (ap (λ (w : Weight). w .freed) e);
+        added = summing-start (c .adds b) (c .add) (shown item n es) (omega (arith, count-fits, a .count-fits)) (ap (λ (w : Weight). w .added) e);
+        freed = summing-start (c .frees b) (c .free) (shown item n es) (omega (arith, count-fits, a .count-fits)) (ap (λ (w : Weight). w .freed) e);
       })
 
 module _ {A : Type 0} {c : Steps A} {item : Entry → A} {b : Box} {s : Bytes} {n : ℕ} {es : List Entry} {i : ℕ} {sum : Weight} (v : SeeingAll c item b s n es i sum) where
   light : Light 32 (c .add) (c .free) sum
   light = record { added = summing-few (v .left .added); freed = summing-few (v .left .freed) }
 
-  module _ (more : i < n) {r : Seen} (k : EntryChecked c b (item (getD es i noEntry)) r) where
+  module _ (more : i < n) {r : Checked} (k : EntryChecked c b (item (getD es i noEntry)) r) where
     pub seeing-small : c .add ≤ 65887 → c .free ≤ 65887 → Sums sum (r .weight)
     seeing-small a f = record {
       added = summing-small (v .left .added) a;
@@ -84,7 +84,7 @@ module _ {A : Type 0} {c : Steps A} {item : Entry → A} {b : Box} {s : Bytes} {
       }
 
 -- an entry that is refused adds and frees nothing
-pub checked-refused : {A : Type 0} (c : Steps A) (b : Box) (x : A) {a : Answer} → a ≡ c .check b x → (a ≡ Accepted → ⊥) → {r : Seen} → Refused a r → EntryChecked c b x r
+pub checked-refused : {A : Type 0} (c : Steps A) (b : Box) (x : A) {a : Answer} → a ≡ c .check b x → (a ≡ Accepted → ⊥) → {r : Checked} → Refused a r → EntryChecked c b x r
 checked-refused c b x e n v =
     let y = load-fields (ap (λ (w : Weight). w .added) (v .weight-is)) in
     let z = load-fields (ap (λ (w : Weight). w .freed) (v .weight-is)) in
@@ -97,7 +97,7 @@ checked-refused c b x e n v =
 
 -- what a check says of an entry's parts it says of the entry
 module _ {c : Steps Mutation} {b : Box} {s : Bytes} {n : ℕ} {es : List Entry} {i : ℕ} {sum : Weight} (v : SeeingAll c (mutationOf s) b s n es i sum) where
-  pub seeing-parts : {key row : Bytes} {r : Seen} → key ≡ keyAt s (getD es i noEntry) → row ≡ rowAt s (getD es i noEntry) → EntryChecked c b (record { key = key; row = when (getD es i noEntry .put) row }) r
+  pub seeing-parts : {key row : Bytes} {r : Checked} → key ≡ keyAt s (getD es i noEntry) → row ≡ rowAt s (getD es i noEntry) → EntryChecked c b (record { key = key; row = when (getD es i noEntry .put) row }) r
       → EntryChecked c b (mutationOf s (getD es i noEntry)) r
   seeing-parts {r = r} p q k =
       let e = getD es i noEntry in

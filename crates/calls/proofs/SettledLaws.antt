@@ -8,9 +8,9 @@ use Rattle.rules.specs.declared.answers.Answer.the-variants.{Accepted, No, Held
 use Rattle.rules.specs.Answers.{_▸_}
 use Rattle.rules.specs.Calls.{Done}
 use Rattle.laws.proofs.StepLaws.{answered}
-use Rattle.lines.specs.declared.store.Store.{Store}
-use Rattle.lines.specs.View.{boxOf}
-use Rattle.lines.specs.Made.{Made}
+use Rattle.store.specs.declared.table.Store.{Store}
+use Rattle.store.specs.View.{boxOf}
+use Rattle.store.specs.Made.{Made}
 use Rattle.calls.specs.Settled.{isAccepted, Untouched, Settled}
 
 -- ---- accepted, or a refusal

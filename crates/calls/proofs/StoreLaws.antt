@@ -12,7 +12,7 @@ use lib.ListN.{length}
 use Rattle.forms.specs.Bytes.{Bytes, bytesAt, eqBytes}
 use Rattle.forms.specs.Key.{Key, keyForm}
 use Rattle.forms.specs.Row.{Row, rowForm}
-use Rattle.forms.proofs.KeyLaws.{key-bounds}
+use Rattle.forms.proofs.KeyFormLaws.{key-bounds}
 use Rattle.forms.proofs.RowLaws.{row-bounds}
 use Rattle.rules.specs.declared.records.Kind.{Kind}
 use Rattle.rules.specs.declared.records.Kind.the-variants.{Put, Delete, Rollback}
@@ -25,20 +25,20 @@ use Rattle.rules.specs.Commit.{withStart}
 use Rattle.laws.specs.Adds.{plus, lockLoad, ofLock, ofRow}
 use Rattle.laws.proofs.StepLaws.{and-left, and-right, not-true}
 use Rattle.laws.proofs.LoadLaws.{load-eq}
-use Rattle.lines.specs.declared.keys.Locked.{Locked}
-use Rattle.lines.specs.declared.keys.Locked.the-variants.{Nobody, By}
-use Rattle.lines.specs.declared.keys.Looked.{Looked}
-use Rattle.lines.specs.declared.store.Store.{Store}
-use Rattle.lines.specs.declared.views.Intent.{Intent}
-use Rattle.lines.specs.View.{rowIf, boxOf}
-use Rattle.lines.specs.Made.{goodLine, goodRow, Built}
-use Rattle.lines.specs.Looks.{lockIn, lockedBy, LockThere, IntentThere, LookedAt}
-use Rattle.lines.proofs.ViewLaws.{bytes-long}
-use Rattle.lines.proofs.MemberLaws.{lock-found, row-found}
-use Rattle.lines.proofs.SoundLaws.{good-in}
-use Rattle.stretches.specs.Loads.{rowSize, lockSize, freedBy, FreedAsks}
-use Rattle.stretches.specs.Changes.{Owned}
-use Rattle.stretches.proofs.KeptLaws.{row-size}
+use Rattle.store.specs.declared.lookup.Locked.{Locked}
+use Rattle.store.specs.declared.lookup.Locked.the-variants.{Nobody, By}
+use Rattle.store.specs.declared.lookup.KeyState.{KeyState}
+use Rattle.store.specs.declared.table.Store.{Store}
+use Rattle.store.specs.declared.views.LockView.{LockView}
+use Rattle.store.specs.View.{rowIf, boxOf}
+use Rattle.store.specs.Made.{goodLine, goodRow, Built}
+use Rattle.store.specs.KeyStates.{lockIn, lockedBy, LockThere, IntentThere, KeyStateAt}
+use Rattle.forms.proofs.WriterLaws.{bytes-long}
+use Rattle.store.proofs.MemberLaws.{lock-found, row-found}
+use Rattle.store.proofs.KeySoundLaws.{good-in}
+use Rattle.changes.specs.Loads.{rowSize, lockSize, freedBy, FreedAsks}
+use Rattle.changes.specs.Changes.{Owned}
+use Rattle.changes.proofs.KeptLaws.{row-size}
 use Rattle.calls.specs.Weights.{AddedBy}
 
 -- ---- one line of a pair
@@ -63,7 +63,7 @@ module _ {st : Store} {area : Bytes} (b : Built st area) (key : Key) where
 
   -- ---- a lock
 
-  module _ {i : Intent} (held : some (lockIn area i) ≡ box.lockOf key (boxOf st area .lines)) (there : IntentThere (st .top) area (boxOf st area .defaults) key i) where
+  module _ {i : LockView} (held : some (lockIn area i) ≡ box.lockOf key (boxOf st area .lines)) (there : IntentThere (st .top) area (boxOf st area .defaults) key i) where
     abbrev row : Row
     row = bytesAt area (i .rowat) (i .rowlen)
 
@@ -102,7 +102,7 @@ module _ {st : Store} {area : Bytes} (b : Built st area) (key : Key) where
         go Delete f = omega (arith, primary-few)
         go Rollback f = omega (arith, primary-few)
 
-  module _ {start stamp : ℕ} {seen : Looked} (f : LookedAt st area key start stamp seen) (short : length key ≤ 255) where
+  module _ {start stamp : ℕ} {seen : KeyState} (f : KeyStateAt st area key start stamp seen) (short : length key ≤ 255) where
     pub freed-asks : FreedAsks (seen .lock) (length key)
     freed-asks = go (seen .lock) (f .lock-there)
       where

@@ -1,4 +1,5 @@
+-- The definitions of `calls`, in the order in which they build on each other.
 pub mod Settled
-pub mod Walks
+pub mod Entries
 pub mod Weights
 pub mod Passes

@@ -20,22 +20,22 @@ use Rattle.rules.specs.Room.{fits, roomFor}
 use Rattle.rules.specs.Calls.{Done, settle}
 use Rattle.laws.specs.Adds.{plus, minus}
 use Rattle.laws.proofs.BatchLaws.{checkAll, applyAll}
-use Rattle.lines.specs.declared.store.Store.{Store}
-use Rattle.lines.specs.View.{boxOf}
-use Rattle.lines.specs.Made.{Built, Made}
-use Rattle.applies.specs.declared.deeds.Deed.{Deed}
-use Rattle.applies.specs.Deeds.{mostOf, applyOf, EntryAsks}
-use Rattle.calls.specs.Walks.{rowAt}
+use Rattle.store.specs.declared.table.Store.{Store}
+use Rattle.store.specs.View.{boxOf}
+use Rattle.store.specs.Made.{Built, Made}
+use Rattle.actions.specs.declared.action.Action.{Action}
+use Rattle.actions.specs.Actions.{mostOf, applyOf, EntryAsks}
+use Rattle.calls.specs.Entries.{rowAt}
 use Rattle.calls.specs.Settled.{isAccepted, Untouched}
 use Rattle.calls.specs.declared.weights.Weight.{Weight}
-use Rattle.calls.specs.declared.judged.Verdict.{Verdict}
+use Rattle.calls.specs.declared.judged.BatchVerdict.{BatchVerdict}
 
 -- the load of the box that the call would leave
 abbrev pub leftBy : Load → Weight → Load
 leftBy load w = minus (plus load (w .added)) (w .freed)
 
 -- "Then 11", of entries that passed; the box becomes another one where there is room, and a line comes
-pub record RoomJudged (sum : Weight) (load : Load) (r : Verdict) : Type 0 where
+pub record RoomJudged (sum : Weight) (load : Load) (r : BatchVerdict) : Type 0 where
   pub answer-is : r .answer ≡ need (fits (leftBy load sum)) 11
   pub moves-is : r .moves ≡ isAccepted (r .answer) && ltb 0 (sum .added .lines)
 
@@ -44,7 +44,7 @@ unfoldable pub allDone : {A : Type 0} → (Box → A → Answer) → (A → Box 
 allDone check apply xs b = settle (checkAll check b xs ▸ need (roomFor (applyAll apply xs b)) 11) (applyAll apply xs b) b
 
 -- the answer is the definition's, and the call moves exactly where it is accepted and leaves another box
-pub record Judged {A : Type 0} (check : Box → A → Answer) (apply : A → Box → Box) (b : Box) (xs : List A) (r : Verdict) : Type 0 where
+pub record Judged {A : Type 0} (check : Box → A → Answer) (apply : A → Box → Box) (b : Box) (xs : List A) (r : BatchVerdict) : Type 0 where
   pub answer-is : r .answer ≡ checkAll check b xs ▸ need (roomFor (applyAll apply xs b)) 11
   pub stays : r .moves ≡ false → r .answer ≡ Accepted → applyAll apply xs b ≡ b
   pub passes : r .moves ≡ true → r .answer ≡ Accepted
@@ -53,15 +53,15 @@ pub record Judged {A : Type 0} (check : Box → A → Answer) (apply : A → Box
 -- ---- the applying pass
 
 -- the change of one entry
-abbrev pub applyEntry : Deed → Key → Bytes → Entry → Box → Box
+abbrev pub applyEntry : Action → Key → Bytes → Entry → Box → Box
 applyEntry d primary s e = applyOf d primary (mutationOf s e)
 
 -- a store that shows the box, with place for the entry's bytes, has what its change asks
-abbrev pub EntryReady : Deed → Key → Bytes → Entry → Box → Type 0
+abbrev pub EntryReady : Action → Key → Bytes → Entry → Box → Type 0
 EntryReady d primary s e b = (st : Store) (area : Bytes) → Built st area → boxOf st area ≡ b → st .top + mostOf d ≤ 131072 → EntryAsks d primary st area (keyAt s e) (e .put) (rowAt s e)
 
 -- so it is for each entry in its turn
-unfoldable pub Ready : Deed → Key → Bytes → List Entry → Box → Type 0
+unfoldable pub Ready : Action → Key → Bytes → List Entry → Box → Type 0
 Ready d primary s [] b = Unit {0}
 Ready d primary s (e ∷ es) b = (EntryReady d primary s e b) × (Ready d primary s es (applyEntry d primary s e b))
 
@@ -69,14 +69,14 @@ Ready d primary s (e ∷ es) b = (EntryReady d primary s e b) × (Ready d primar
 abbrev pub counted : ℕ → List Entry → List Entry
 counted n es = shown (λ (e : Entry). e) n es
 
-pub record ApplyAsks (d : Deed) (primary : Key) (st : Store) (area s : Bytes) (n : ℕ) (es : List Entry) : Type 0 where
+pub record ApplyAsks (d : Action) (primary : Key) (st : Store) (area s : Bytes) (n : ℕ) (es : List Entry) : Type 0 where
   pub made : Made st area
-  pub few : n ≤ 32
+  pub count-fits : n ≤ 32
   pub listed : 0 < n → Listed s n es
   pub ready : Ready d primary s (counted n es) (boxOf st area)
 
 -- the box is the definition's; without entries nothing has changed
-pub record AllApplied (d : Deed) (primary : Key) (st : Store) (area s : Bytes) (n : ℕ) (es : List Entry) (r : Store) (area′ : Bytes) : Type 0 where
+pub record AllApplied (d : Action) (primary : Key) (st : Store) (area s : Bytes) (n : ℕ) (es : List Entry) (r : Store) (area′ : Bytes) : Type 0 where
   pub built : Built r area′
   pub shown : boxOf r area′ ≡ applyAll (applyEntry d primary s) (counted n es) (boxOf st area)
   pub still : n ≡ 0 → Untouched st area r area′

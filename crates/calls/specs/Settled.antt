@@ -7,9 +7,9 @@ use Rattle.rules.specs.declared.answers.Answer.{Answer}
 use Rattle.rules.specs.declared.answers.Answer.the-variants.{Accepted, No, Held}
 use Rattle.rules.specs.Answers.{Answered}
 use Rattle.rules.specs.Calls.{Done}
-use Rattle.lines.specs.declared.store.Store.{Store}
-use Rattle.lines.specs.View.{boxOf}
-use Rattle.lines.specs.Made.{Made}
+use Rattle.store.specs.declared.table.Store.{Store}
+use Rattle.store.specs.View.{boxOf}
+use Rattle.store.specs.Made.{Made}
 use Rattle.calls.specs.declared.changed.Changed.{Changed}
 
 abbrev pub isAccepted : Answer → Bool

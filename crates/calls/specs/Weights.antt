@@ -9,9 +9,9 @@ use Rattle.rules.specs.declared.room.Load.{Load}
 use Rattle.rules.specs.Box.{Box}
 use Rattle.laws.specs.Adds.{noLoad, plus, sumLoads}
 use Rattle.laws.proofs.BatchLaws.{checkAll}
-use Rattle.stretches.specs.Loads.{Small, Within}
+use Rattle.changes.specs.Loads.{Small, Within}
 use Rattle.calls.specs.declared.weights.Weight.{Weight}
-use Rattle.calls.specs.declared.weights.Seen.{Seen}
+use Rattle.calls.specs.declared.weights.Checked.{Checked}
 
 abbrev pub noWeight : Weight
 noWeight = record { added = noLoad; freed = noLoad }
@@ -50,19 +50,19 @@ pub record Steps (A : Type 0) : Type 0 where
   pub add : ℕ
   pub free : ℕ
 
-pub record Refused (answer : Answer) (r : Seen) : Type 0 where
+pub record Refused (answer : Answer) (r : Checked) : Type 0 where
   pub answer-is : r .answer ≡ answer
   pub weight-is : r .weight ≡ noWeight
 
 -- the answer is the definition's; where it passes, so is what the entry adds and frees
-pub record EntryChecked {A : Type 0} (c : Steps A) (b : Box) (x : A) (r : Seen) : Type 0 where
+pub record EntryChecked {A : Type 0} (c : Steps A) (b : Box) (x : A) (r : Checked) : Type 0 where
   pub answer-is : r .answer ≡ c .check b x
   pub added-is : r .answer ≡ Accepted → r .weight .added ≡ c .adds b x
   pub freed-is : r .answer ≡ Accepted → r .weight .freed ≡ c .frees b x
   pub light : Light 1 (c .add) (c .free) (r .weight)
 
 -- the same of all entries
-pub record AllChecked {A : Type 0} (c : Steps A) (b : Box) (xs : List A) (r : Seen) : Type 0 where
+pub record AllChecked {A : Type 0} (c : Steps A) (b : Box) (xs : List A) (r : Checked) : Type 0 where
   pub answer-is : r .answer ≡ checkAll (c .check) b xs
   pub added-is : r .answer ≡ Accepted → r .weight .added ≡ sumLoads (c .adds b) xs
   pub freed-is : r .answer ≡ Accepted → r .weight .freed ≡ sumLoads (c .frees b) xs

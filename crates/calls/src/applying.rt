@@ -3,33 +3,33 @@
 ghost use Rattle.calls.specs.Passes.{ApplyAsks, AllApplied};
 use crate::parts::key_of;
 use crate::parts::row_of;
-use applies::Deed;
-use applies::apply_entry;
-use applies::most_of;
-use applies::point_of;
+use actions::Action;
+use actions::apply_entry;
+use actions::most_of;
+use actions::point_of;
+use changes::Change;
+use changes::repack;
 use forms::Entry;
-use lines::AREA;
-use lines::Store;
-use lines::look;
-use stretches::Change;
-use stretches::repack;
+use store::AREA;
+use store::Store;
+use store::look_up;
 
 // The area is packed anew where the entries' bytes would pass its end. A slot that comes moves those from its place on by one; where one
 // goes for it, those between the two places close up.
 pub fn apply_all(
     store: Store,
     area: &mut [u8],
-    deed: Deed,
+    action: Action,
     primary: &[u8],
     batch: &[u8],
     n: usize,
     list: [Entry; 32],
 ) -> Store
-    requires { ⌜ ApplyAsks deed (now primary) store (now area) (now batch) n list ⌝ }
-    ensures { λ r. ⌜ AllApplied deed (now (primary .entry)) store (now (area .entry)) (now (batch .entry)) n list r (now (area .exit)) ⌝ }
+    requires { ⌜ ApplyAsks action (now primary) store (now area) (now batch) n list ⌝ }
+    ensures { λ r. ⌜ AllApplied action (now (primary .entry)) store (now (area .entry)) (now (batch .entry)) n list r (now (area .exit)) ⌝ }
 {
-    let point = point_of(deed);
-    let need = n * most_of(deed);
+    let point = point_of(action);
+    let need = n * most_of(action);
     let mut l = store;
     while AREA - l.top < need {
         l = repack(l, area);
@@ -41,8 +41,8 @@ pub fn apply_all(
         let row = row_of(batch, e);
         let lines = l.lines;
         let old = l.load;
-        let seen = look(lines, old, l.top, area, key, point.start, point.stamp);
-        let c = apply_entry(l, area, seen, deed, primary, key, e.put, row);
+        let seen = look_up(lines, old, l.top, area, key, point.start, point.stamp);
+        let c = apply_entry(l, area, seen, action, primary, key, e.put, row);
         i += 1;
         match c {
             Change::Stays => {}

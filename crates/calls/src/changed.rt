@@ -1,6 +1,6 @@
 // What a changing call gives back.
-use lines::Store;
 use rules::Answer;
+use store::Store;
 
 // The store after a call, and what the call answers.
 pub struct Changed {

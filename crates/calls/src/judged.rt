@@ -7,25 +7,25 @@ use rules::Answer;
 use rules::Load;
 
 // The answer, and whether the box becomes another one.
-pub struct Verdict {
+pub struct BatchVerdict {
     pub answer: Answer,
     pub moves: bool,
 }
 
 // "Then 11." Where no entry adds a line each is a replay, and nothing changes.
-pub fn judge(sum: Weight, load: Load) -> Verdict
+pub fn judge(sum: Weight, load: Load) -> BatchVerdict
     requires { ⌜ LeftAsks load sum ⌝ }
     ensures { λ r. ⌜ RoomJudged sum load r ⌝ }
 {
     let left = left_load(load, sum);
     if !rules::load_fits(left) {
-        return Verdict {
+        return BatchVerdict {
             answer: Answer::No(11),
             moves: false,
         };
     }
     let added = sum.added;
-    Verdict {
+    BatchVerdict {
         answer: Answer::Accepted,
         moves: 0 < added.lines,
     }

@@ -1,7 +1,7 @@
 // The key and the row of an entry, as parts of the batch.
 ghost use mathlib.Core.Path.{_≡_};
 ghost use Rattle.forms.specs.Places.{EntryIn, keyAt};
-ghost use Rattle.calls.specs.Walks.{onlyIf, rowAt};
+ghost use Rattle.calls.specs.Entries.{onlyIf, rowAt};
 use forms::Entry;
 
 pub fn key_of(batch: &[u8], e: Entry) -> &[u8]

@@ -7,11 +7,11 @@ ghost use Rattle.forms.specs.Bytes.{Bytes, bytesAt};
 ghost use Rattle.forms.specs.Readers.{when};
 ghost use Rattle.rules.specs.Box.{eqKind};
 ghost use Rattle.rules.specs.Calls.{owns, zeroStep, rowArgument, rowStands};
-ghost use Rattle.lines.specs.Looks.{lockIn};
+ghost use Rattle.store.specs.KeyStates.{lockIn};
 ghost use Rattle.calls.specs.Settled.{isAccepted};
-use lines::Intent;
 use rules::Answer;
 use rules::Kind;
+use store::LockView;
 
 // "zero transaction, start": 3
 pub fn zero_step(txn: u64, start: u64) -> Answer
@@ -37,7 +37,7 @@ pub fn accepted(a: Answer) -> bool
 }
 
 // Own means that both transaction and start are the call's.
-pub fn owns(l: Intent, txn: u64, start: u64) -> bool
+pub fn owns(l: LockView, txn: u64, start: u64) -> bool
     ensures { λ r. ⌜ ((area : Bytes) → r ≡ owns txn start (lockIn area l)) ⌝ }
 {
     if l.txn != txn {

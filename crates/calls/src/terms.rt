@@ -1,18 +1,12 @@
-// What a commit and a one-step batch say of their transaction.
+// The test that a commit and a one-step batch make of their terms.
 ghost use mathlib.Core.Path.{_≡_};
-ghost use Rattle.rules.specs.Commit.{endingStep};
-ghost use Rattle.calls.specs.Walks.{endingOf};
+ghost use Rattle.rules.specs.Commit.{commitTermsStep};
 use rules::Answer;
-
-pub struct Terms {
-    pub txn: u64,
-    pub start: u64,
-    pub commit: u64,
-}
+use rules::CommitTerms;
 
 // "3": "zero transaction, start ..; commit not above start"
-pub fn ending_step(terms: Terms) -> Answer
-    ensures { λ r. ⌜ r ≡ endingStep (endingOf terms) ⌝ }
+pub fn commit_terms_step(terms: CommitTerms) -> Answer
+    ensures { λ r. ⌜ r ≡ commitTermsStep terms ⌝ }
 {
     if terms.txn == 0 {
         return Answer::No(3);

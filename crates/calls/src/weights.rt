@@ -2,10 +2,10 @@
 ghost use mathlib.Core.Path.{_≡_};
 ghost use Rattle.laws.specs.Adds.{plus, minus};
 ghost use Rattle.calls.specs.Weights.{noWeight, Sums, LeftAsks, Refused};
+use changes::less;
+use changes::more;
 use rules::Answer;
 use rules::Load;
-use stretches::less;
-use stretches::more;
 
 // What an entry, or all of them, would add and free.
 pub struct Weight {
@@ -14,7 +14,7 @@ pub struct Weight {
 }
 
 // The answer, and what would be added and freed.
-pub struct Seen {
+pub struct Checked {
     pub answer: Answer,
     pub weight: Weight,
 }
@@ -35,11 +35,11 @@ pub fn no_weight() -> Weight
 }
 
 // "A refusal changes nothing"
-pub fn refusal(answer: Answer) -> Seen
+pub fn refusal(answer: Answer) -> Checked
     ensures { λ r. ⌜ Refused answer r ⌝ }
 {
     let none = no_weight();
-    Seen {
+    Checked {
         answer: answer,
         weight: none,
     }
@@ -61,7 +61,7 @@ pub fn plus_weight(a: Weight, b: Weight) -> Weight
     }
 }
 
-// The load of the box that the whole call would leave, from the store as it came. "Room that was freed counts as free at once."
+// The load of the box that the whole call would leave, from the store before the call. "Room that was freed counts as free at once."
 pub fn left_load(load: Load, w: Weight) -> Load
     requires { ⌜ LeftAsks load w ⌝ }
     ensures { λ r. ⌜ r ≡ minus (plus load (w .added)) (w .freed) ⌝ }

@@ -1,4 +1,5 @@
-pub mod KeyLaws
+-- The laws of `commits`, in the order in which they build on each other.
+pub mod CommitKeyLaws
 pub mod NewLaws
-pub mod PassLaws
-pub mod BatchLaws
+pub mod CommitPassLaws
+pub mod CommitBatchLaws

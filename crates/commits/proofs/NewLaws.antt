@@ -12,7 +12,8 @@ use Rattle.rules.specs.declared.answers.Answer.the-variants.{Accepted}
 use Rattle.rules.specs.declared.records.Record.{Record}
 use Rattle.rules.specs.Box.{Box, recordsOf}
 use Rattle.rules.specs.Room.{loadOf}
-use Rattle.rules.specs.Commit.{Ending, withStart, commitKey, commitKeys, applyCommit, applyCommits}
+use Rattle.rules.specs.declared.terms.CommitTerms.{CommitTerms}
+use Rattle.rules.specs.Commit.{withStart, commitKey, commitKeys, applyCommit, applyCommits}
 use Rattle.laws.specs.Adds.{lockLoad, recordLoad, ofLock, ifNew, ifLocked, commitAdds, commitFrees}
 use Rattle.laws.proofs.StepLaws.{then-left, then-right, or-false-left, or-false-right}
 use Rattle.laws.proofs.LoadLaws.{load-fields}
@@ -20,7 +21,7 @@ use Rattle.laws.proofs.CommitLaws.{CommitWay, commit-replay, commit-first, comm
 use Rattle.commits.specs.Checks.{isNew, someNew}
 
 -- "equal commit, accepted and unchanged"
-old-same : (h : Ending) (b : Box) (k : Key) → isNew h b k ≡ false → applyCommit h k b ≡ b
+old-same : (h : CommitTerms) (b : Box) (k : Key) → isNew h b k ≡ false → applyCommit h k b ≡ b
 old-same h b k n = go (withStart (h .start) (recordsOf k (b .lines))) refl n
   where
     go : (o : Option Record) → withStart (h .start) (recordsOf k (b .lines)) ≡ o → not (isSome o) ≡ false → applyCommit h k b ≡ b
@@ -28,7 +29,7 @@ old-same h b k n = go (withStart (h .start) (recordsOf k (b .lines))) refl n
     go (some w) e n = commit-old h k b w e
 
 -- the lock of a new key goes
-new-fewer : (h : Ending) (b : Box) (k : Key) → commitKey h b k ≡ Accepted → isNew h b k ≡ true → loadOf (applyCommit h k b) .locks < loadOf b .locks
+new-fewer : (h : CommitTerms) (b : Box) (k : Key) → commitKey h b k ≡ Accepted → isNew h b k ≡ true → loadOf (applyCommit h k b) .locks < loadOf b .locks
 unfolding commitAdds commitFrees ifNew ifLocked ofLock
 new-fewer h b k p n = go (commit-way h b k p)
   where
@@ -41,12 +42,12 @@ new-fewer h b k p n = go (commit-way h b k p)
 
 -- ---- the batch
 
-pub all-old : (h : Ending) (b : Box) (ks : List Key) → someNew h b ks ≡ false → applyCommits h ks b ≡ b
+pub all-old : (h : CommitTerms) (b : Box) (ks : List Key) → someNew h b ks ≡ false → applyCommits h ks b ≡ b
 unfolding someNew applyCommits
 all-old h b [] n = refl
 all-old h b (k ∷ ks) n = ap (applyCommits h ks) (old-same h b k (or-false-left _ _ n)) ∙ all-old h b ks (or-false-right (isNew h b k) _ n)
 
-pub some-fewer : (h : Ending) (b : Box) (ks : List Key) → commitKeys h b ks ≡ Accepted → someNew h b ks ≡ true → loadOf (applyCommits h ks b) .locks < loadOf b .locks
+pub some-fewer : (h : CommitTerms) (b : Box) (ks : List Key) → commitKeys h b ks ≡ Accepted → someNew h b ks ≡ true → loadOf (applyCommits h ks b) .locks < loadOf b .locks
 unfolding someNew commitKeys applyCommits
 some-fewer h b [] p n = absurd (false≢true n)
 some-fewer h b (k ∷ ks) p n = go (isNew h b k) refl n (some-fewer h b ks (then-right (commitKey h b k) _ p))

@@ -6,44 +6,44 @@ ghost use Rattle.seqs.specs.Tables.{shown};
 ghost use Rattle.forms.specs.Places.{keyAt};
 ghost use Rattle.rules.specs.declared.answers.Answer.the-variants.{Accepted};
 ghost use Rattle.rules.specs.Answers.{_▸_, need};
-ghost use Rattle.rules.specs.Commit.{endingStep, commitBatch};
-ghost use Rattle.lines.specs.View.{boxOf};
-ghost use Rattle.lines.specs.Made.{Made};
+ghost use Rattle.rules.specs.Commit.{commitTermsStep, commitBatch};
+ghost use Rattle.store.specs.View.{boxOf};
+ghost use Rattle.store.specs.Made.{Made};
 ghost use Rattle.calls.specs.Settled.{Settled};
-ghost use Rattle.calls.specs.Walks.{endingOf, AllAsks};
+ghost use Rattle.calls.specs.Entries.{AllAsks};
 ghost use Rattle.commits.specs.Passes.{allDone};
 use crate::passes::check_all;
-use applies::Deed;
+use actions::Action;
 use calls::Changed;
-use calls::Terms;
 use forms::Entry;
-use lines::AREA;
-use lines::Store;
 use rules::Answer;
+use rules::CommitTerms;
+use store::AREA;
+use store::Store;
 
 // The steps of a batch that is in form and not empty, its head passed: "per key: ..", and the applying pass. There is no 11. Where nothing
 // changes no key is applied.
 fn commit_all(
     store: Store,
     area: &mut [u8],
-    terms: Terms,
+    terms: CommitTerms,
     batch: &[u8],
     n: usize,
     list: [Entry; 32],
 ) -> Changed
-    requires { ⌜ (AllAsks store (now area) (now batch) n list) × (endingStep (endingOf terms) ≡ Accepted) ⌝ }
-    ensures { λ r. ⌜ Settled store (now (area .entry)) (allDone (endingOf terms) (shown (keyAt (now (batch .entry))) n list) (boxOf store (now (area .entry)))) r (now (area .exit)) ⌝ }
+    requires { ⌜ (AllAsks store (now area) (now batch) n list) × (commitTermsStep terms ≡ Accepted) ⌝ }
+    ensures { λ r. ⌜ Settled store (now (area .entry)) (allDone terms (shown (keyAt (now (batch .entry))) n list) (boxOf store (now (area .entry)))) r (now (area .exit)) ⌝ }
 {
     let v = check_all(store, area, terms, batch, n, list);
     let answer = v.answer;
-    let deed = Deed::Commit {
+    let action = Action::Commit {
         txn: terms.txn,
         start: terms.start,
         commit: terms.commit,
     };
     let m = calls::only_if(v.moves, n);
     let none = &batch[0..0];
-    let applied = calls::apply_all(store, area, deed, none, batch, m, list);
+    let applied = calls::apply_all(store, area, action, none, batch, m, list);
     Changed {
         store: applied,
         answer: answer,
@@ -51,8 +51,8 @@ fn commit_all(
 }
 
 // "6, 5; 3", of a batch that was decoded
-fn head_step(ok: bool, n: usize, terms: Terms) -> Answer
-    ensures { λ r. ⌜ r ≡ need ok 6 ▸ need (not (eqb n 0)) 5 ▸ endingStep (endingOf terms) ⌝ }
+fn head_step(ok: bool, n: usize, terms: CommitTerms) -> Answer
+    ensures { λ r. ⌜ r ≡ need ok 6 ▸ need (not (eqb n 0)) 5 ▸ commitTermsStep terms ⌝ }
 {
     if !ok {
         return Answer::No(6);
@@ -60,7 +60,7 @@ fn head_step(ok: bool, n: usize, terms: Terms) -> Answer
     if n == 0 {
         return Answer::No(5);
     }
-    calls::ending_step(terms)
+    calls::commit_terms_step(terms)
 }
 
 // "6, 5; 3; per key: .."
@@ -77,7 +77,7 @@ pub fn commit_intents_batch(
 {
     let entries = forms::keys_of(batch);
     let n = entries.count;
-    let terms = Terms {
+    let terms = CommitTerms {
         txn: txn,
         start: start,
         commit: commit,

@@ -1,26 +1,25 @@
 // The check of one key: look it up, and judge it by what was found. That records are sound, that a start has one line of a key, and that a
-// Put line carries a row in form and a Delete none is the store's own: no step tests it (KeyLaws: the definition passes there).
+// Put line carries a row in form and a Delete none is the store's own: no step tests it (CommitKeyLaws: the definition passes there).
 ghost use mathlib.Core.Path.{_≡_};
 ghost use Rattle.forms.specs.Bytes.{Bytes};
 ghost use Rattle.rules.specs.Commit.{commitKey};
-ghost use Rattle.lines.specs.View.{boxOf};
-ghost use Rattle.lines.specs.Made.{Built};
-ghost use Rattle.lines.specs.Looks.{recordIn, lockedBy};
-ghost use Rattle.calls.specs.Walks.{endingOf};
+ghost use Rattle.store.specs.View.{boxOf};
+ghost use Rattle.store.specs.Made.{Built};
+ghost use Rattle.store.specs.KeyStates.{recordIn, lockedBy};
 ghost use Rattle.commits.specs.Checks.{recordSteps, lockSteps, isNew, Judged};
-use calls::Terms;
-use calls::Verdict;
-use lines::Found;
-use lines::Locked;
-use lines::Store;
-use lines::Written;
-use lines::look;
+use calls::BatchVerdict;
 use rules::Answer;
+use rules::CommitTerms;
 use rules::Kind;
+use store::Found;
+use store::Locked;
+use store::RecordView;
+use store::Store;
+use store::look_up;
 
 // "Rollback, 8; other commit, 8; equal commit, accepted and unchanged"
-fn check_record(w: Written, terms: Terms) -> Answer
-    ensures { λ r. ⌜ r ≡ recordSteps (endingOf terms) (recordIn w) ⌝ }
+fn check_record(w: RecordView, terms: CommitTerms) -> Answer
+    ensures { λ r. ⌜ r ≡ recordSteps terms (recordIn w) ⌝ }
 {
     let kind = w.kind;
     if calls::same_kind(kind, Kind::Rollback) {
@@ -33,14 +32,14 @@ fn check_record(w: Written, terms: Terms) -> Answer
 }
 
 // "None: no lock, 8; another's lock, 7; newest stamp at or above commit, 8"
-fn check_lock(lock: Locked, newer: bool, terms: Terms) -> Answer
-    ensures { λ r. ⌜ ((area : Bytes) → r ≡ lockSteps (endingOf terms) newer (lockedBy area lock)) ⌝ }
+fn check_lock(lock: Locked, newer: bool, terms: CommitTerms) -> Answer
+    ensures { λ r. ⌜ ((area : Bytes) → r ≡ lockSteps terms newer (lockedBy area lock)) ⌝ }
 {
     match lock {
         Locked::Nobody => Answer::No(8),
         Locked::By(l) => {
             if !calls::owns(l, terms.txn, terms.start) {
-                return lines::held_by(l);
+                return store::held_by(l);
             }
             if !newer {
                 return Answer::No(8);
@@ -51,33 +50,33 @@ fn check_lock(lock: Locked, newer: bool, terms: Terms) -> Answer
 }
 
 // "per key: 1; ..; the lowest-stamped record with this start, if any: ..; None: .." Only a key without that record changes.
-pub fn check_key(store: Store, area: &[u8], terms: Terms, key: &[u8]) -> Verdict
+pub fn check_key(store: Store, area: &[u8], terms: CommitTerms, key: &[u8]) -> BatchVerdict
     requires { ⌜ Built store (now area) ⌝ }
-    ensures { λ r. ⌜ Judged (commitKey (endingOf terms) (boxOf store (now (area .entry))) (now (key .entry))) (isNew (endingOf terms) (boxOf store (now (area .entry))) (now (key .entry))) r ⌝ }
+    ensures { λ r. ⌜ Judged (commitKey terms (boxOf store (now (area .entry))) (now (key .entry))) (isNew terms (boxOf store (now (area .entry))) (now (key .entry))) r ⌝ }
 {
     if !forms::key_in_form(key) {
-        return Verdict {
+        return BatchVerdict {
             answer: Answer::No(1),
             moves: false,
         };
     }
     let lines = store.lines;
     let load = store.load;
-    let found = look(lines, load, store.top, area, key, terms.start, terms.commit);
+    let found = look_up(lines, load, store.top, area, key, terms.start, terms.commit);
     let history = found.history;
-    let with = history.with;
-    match with {
+    let started = history.started;
+    match started {
         Found::Is(w) => {
             let answer = check_record(w, terms);
-            Verdict {
+            BatchVerdict {
                 answer: answer,
                 moves: false,
             }
         }
         Found::Nothing => {
             let lock = found.lock;
-            let answer = check_lock(lock, history.newer, terms);
-            Verdict {
+            let answer = check_lock(lock, history.above, terms);
+            BatchVerdict {
                 answer: answer,
                 moves: calls::accepted(answer),
             }

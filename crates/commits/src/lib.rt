@@ -1,4 +1,4 @@
-// "Commit": a checking pass over the store as it came, and an applying pass, after a repack where the area wants one. There is no 11: a record
+// "Commit": a checking pass over the store before the call, and an applying pass, after a repack where the area wants one. There is no 11: a record
 // takes the lock's place, and live bytes fall by the primary, so a commit never needs room (`commits-room` of laws' CommitLaws). The single
 // form is a batch of one.
 pub mod batch;

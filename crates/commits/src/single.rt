@@ -1,12 +1,12 @@
 // Commit of a single key: a batch of one.
 ghost use Rattle.rules.specs.Commit as rule;
-ghost use Rattle.lines.specs.View.{boxOf};
-ghost use Rattle.lines.specs.Made.{Made};
+ghost use Rattle.store.specs.View.{boxOf};
+ghost use Rattle.store.specs.Made.{Made};
 ghost use Rattle.calls.specs.Settled.{Settled};
 use crate::batch::commit_intents_batch;
 use calls::Changed;
-use lines::AREA;
-use lines::Store;
+use store::AREA;
+use store::Store;
 
 // "the single form disappears as a step of its own and is a batch of one"
 pub fn commit_intent(

@@ -15,23 +15,23 @@ use Rattle.rules.specs.Box.{fresh}
 use Rattle.rules.specs.Room.{loadOf, sumOf}
 use Rattle.rules.specs.Calls.{Done}
 use Rattle.rules.specs.Page.{Bounds, Limits}
-use Rattle.rules.specs.Prewrite.{Head}
-use Rattle.rules.specs.Commit.{Ending}
-use Rattle.rules.specs.Written.{Written}
+use Rattle.rules.specs.Prewrite.{PrewriteTerms}
+use Rattle.rules.specs.declared.terms.CommitTerms.{CommitTerms}
+use Rattle.rules.specs.Call.{Changing, Call}
+use Rattle.rules.specs.Written.{Written, WroteAs}
 use Rattle.laws.proofs.StepLaws.{answered}
-use Rattle.lines.specs.declared.store.Store.{Store}
-use Rattle.lines.specs.declared.store.Slot.{Slot}
-use Rattle.lines.specs.View.{boxOf, noSlot}
-use Rattle.lines.specs.Made.{Made, FreshStore}
+use Rattle.store.specs.declared.table.Store.{Store}
+use Rattle.store.specs.declared.table.Slot.{Slot}
+use Rattle.store.specs.View.{boxOf, noSlot}
+use Rattle.store.specs.Made.{Made, FreshStore}
 use Rattle.calls.specs.declared.changed.Changed.{Changed}
 use Rattle.calls.specs.Settled.{Settled}
-use Rattle.reads.specs.declared.seen.Seen.{Seen}
-use Rattle.reads.specs.declared.seen.Pointed.{Pointed}
+use Rattle.reads.specs.declared.seen.RowSeen.{RowSeen}
+use Rattle.reads.specs.declared.seen.LockSeen.{LockSeen}
 use Rattle.reads.proofs.PartLaws.{one-reply, one-row, one-lock, one-primary}
-use Rattle.pages.specs.declared.calls.Paged.{Paged}
-use Rattle.pages.specs.Paged.{PagedAs}
+use Rattle.rules.specs.declared.written.Wrote.{Wrote}
 use Rattle.pages.proofs.PageLaws.{one-answer, one-count, one-buffer}
-use Rattle.demands.specs.Calls.{starting, reading, pointing, handingRow, handingPrimary, paging, pagingIntents, pagingConflicts, prewritingBatch, committingBatch, rollingBackBatch, oneStepping, restoring, counting, marking}
+use Rattle.demands.specs.Calls.{starting, calling, handingRow, handingPrimary}
 use Rattle.demands.specs.Calls.{Sort, Lent, boxIn, Given, started, seen, pointed, handed, paged, changed, stepped, counted, marked, rowIn, lockIn, chains, highest, answerIn, countIn, shownIn, partIn, after, Same, Once, OneOutcome, OneRefusal}
 use Rattle.demands.proofs.Refusals.{refusals}
 
@@ -67,7 +67,7 @@ pub settled-once : {st : Store} {area : Bytes} {d : Done} {r q : Changed} {area�
 settled-once s t = record { answer = s .answer-is .case-is ∙ sym (t .answer-is .case-is); box = s .shown ∙ sym (t .shown) }
 
 module _ (w : Lent) where
-  page-same : {x : Written} {r q : Paged} {out out′ : Bytes} → PagedAs x r out → PagedAs x q out′ → Same w (paged r out) (paged q out′)
+  page-same : {x : Written} {r q : Wrote} {out out′ : Bytes} → WroteAs x r out → WroteAs x q out′ → Same w (paged r out) (paged q out′)
   page-same {r = r} {q = q} {out = out} {out′ = out′} a b = same w (paged r out) (paged q out′) (one-answer a b) (one-count a b) refl refl refl (one-buffer a b)
 
   changed-same : {r q : Changed} {area area′ : Bytes} → Alike r area q area′ → Same w (changed r area) (changed q area′)
@@ -79,78 +79,78 @@ module _ (w : Lent) where
   pub fresh-once : Once w starting
   fresh-once (started s) (started t) a b = same w (started s) (started t) refl refl refl refl (a .shown ∙ sym (b .shown)) refl
 
-  pub read-once : (k : Key) (m : ℕ) → Once w (reading k m)
+  pub read-once : (k : Key) (m : ℕ) → Once w (calling (Call.Read k m))
   read-once k m (seen s x) (seen t y) a b =
       let p = a .0 .seen-as in
       let q = b .0 .seen-as in
       let e = one-reply p q in
       same w (seen s x) (seen t y) (ap answerOf e) (a .0 .count-is ∙ sym (b .0 .count-is)) (ap rowIn e) (one-row p q (a .1) (b .1)) refl refl
 
-  pub intent-once : (k : Key) (m : ℕ) → Once w (pointing k m)
+  pub intent-once : (k : Key) (m : ℕ) → Once w (calling (Call.OneIntent k m))
   intent-once k m (pointed s x) (pointed t y) a b = let e = one-lock (a .0) (b .0) in same w (pointed s x) (pointed t y) (ap answerOf e) refl (ap lockIn e) (one-primary (a .0) (b .0) (a .1) (b .1)) refl refl
 
-  pub row-once : (s : Seen) → Once w (handingRow s)
+  pub row-once : (s : RowSeen) → Once w (handingRow s)
   row-once s (handed x) (handed y) a b = same w (handed x) (handed y) refl refl refl (a .is ∙ sym (b .is)) refl refl
 
-  pub primary-once : (p : Pointed) → Once w (handingPrimary p)
+  pub primary-once : (p : LockSeen) → Once w (handingPrimary p)
   primary-once p (handed x) (handed y) a b = same w (handed x) (handed y) refl refl refl (a .is ∙ sym (b .is)) refl refl
 
-  pub page-once : (a : Bounds) (m : ℕ) (l : Limits) → Once w (paging a m l)
+  pub page-once : (a : Bounds) (m : ℕ) (l : Limits) → Once w (calling (Call.Page a m l))
   page-once a m l (paged r x) (paged t y) p o = page-same w p o
 
-  pub intents-once : (a : Bounds) (l : ℕ) → Once w (pagingIntents a l)
+  pub intents-once : (a : Bounds) (l : ℕ) → Once w (calling (Call.IntentPage a l))
   intents-once a l (paged r x) (paged t y) p o = page-same w p o
 
-  pub conflicts-once : (a : Bounds) (m : ℕ) (l : Limits) → Once w (pagingConflicts a m l)
+  pub conflicts-once : (a : Bounds) (m : ℕ) (l : Limits) → Once w (calling (Call.ConflictingIntents a m l))
   conflicts-once a m l (paged r x) (paged t y) p o = page-same w p o
 
-  pub prewrites-once : (h : Head) (s : Bytes) → Once w (prewritingBatch h s)
+  pub prewrites-once : (h : PrewriteTerms) (s : Bytes) → Once w (calling (Call.Change (Changing.Prewrite h s)))
   prewrites-once h s (changed r x) (changed t y) a b = changed-same w (settled-once a b)
 
-  pub commits-once : (h : Ending) (s : Bytes) → Once w (committingBatch h s)
+  pub commits-once : (h : CommitTerms) (s : Bytes) → Once w (calling (Call.Change (Changing.Commit h s)))
   commits-once h s (changed r x) (changed t y) a b = changed-same w (settled-once a b)
 
-  pub rollbacks-once : (txn start : ℕ) (s : Bytes) → Once w (rollingBackBatch txn start s)
+  pub rollbacks-once : (txn start : ℕ) (s : Bytes) → Once w (calling (Call.Change (Changing.Rollback txn start s)))
   rollbacks-once txn start s (changed r x) (changed t y) a b = changed-same w (settled-once a b)
 
-  pub step-once : (h : Ending) (s : Bytes) → Once w (oneStepping h s)
+  pub step-once : (h : CommitTerms) (s : Bytes) → Once w (calling (Call.Change (Changing.OneStep h s)))
   step-once h s (stepped r x) (stepped t y) a b =
       let o = settled-once (a .settled) (b .settled) in
       same w (stepped r x) (stepped t y) (o .answer) (a .count-is ∙ sym (b .count-is)) refl refl (o .box) refl
 
-  pub restore-once : (s : Bytes) → Once w (restoring s)
+  pub restore-once : (s : Bytes) → Once w (calling (Call.Restore s))
   restore-once s (changed r x) (changed t y) a b = changed-same w (record { answer = a .answer-is .case-is ∙ sym (b .answer-is .case-is); box = a .shown ∙ sym (b .shown) })
 
-  pub stats-once : Once w counting
+  pub stats-once : Once w (calling Call.Statistics)
   stats-once (counted s) (counted t) a b = same w (counted s) (counted t) refl refl (ap chains (a ∙ sym b)) refl refl refl
 
-  pub marks-once : Once w marking
+  pub marks-once : Once w (calling Call.Marks)
   marks-once (marked s) (marked t) a b = same w (marked s) (marked t) refl refl (ap highest (a ∙ sym b)) refl refl refl
 
 -- ---- all calls
 
 pub one-outcome : OneOutcome
-one-outcome _ w starting = fresh-once w
-one-outcome _ w (reading key m) = read-once w key m
-one-outcome _ w (pointing key m) = intent-once w key m
-one-outcome _ w (handingRow s) = row-once w s
-one-outcome _ w (handingPrimary p) = primary-once w p
-one-outcome _ w (paging a m n) = page-once w a m n
-one-outcome _ w (pagingIntents a n) = intents-once w a n
-one-outcome _ w (pagingConflicts a m n) = conflicts-once w a m n
-one-outcome _ w (prewritingBatch h s) = prewrites-once w h s
-one-outcome _ w (committingBatch h s) = commits-once w h s
-one-outcome _ w (rollingBackBatch txn start s) = rollbacks-once w txn start s
-one-outcome _ w (oneStepping h s) = step-once w h s
-one-outcome _ w (restoring s) = restore-once w s
-one-outcome _ w counting = stats-once w
-one-outcome _ w marking = marks-once w
+one-outcome w starting = fresh-once w
+one-outcome w (calling (Call.Read key m)) = read-once w key m
+one-outcome w (calling (Call.OneIntent key m)) = intent-once w key m
+one-outcome w (handingRow s) = row-once w s
+one-outcome w (handingPrimary p) = primary-once w p
+one-outcome w (calling (Call.Page a m n)) = page-once w a m n
+one-outcome w (calling (Call.IntentPage a n)) = intents-once w a n
+one-outcome w (calling (Call.ConflictingIntents a m n)) = conflicts-once w a m n
+one-outcome w (calling (Call.Change (Changing.Prewrite h s))) = prewrites-once w h s
+one-outcome w (calling (Call.Change (Changing.Commit h s))) = commits-once w h s
+one-outcome w (calling (Call.Change (Changing.Rollback txn start s))) = rollbacks-once w txn start s
+one-outcome w (calling (Call.Change (Changing.OneStep h s))) = step-once w h s
+one-outcome w (calling (Call.Restore s)) = restore-once w s
+one-outcome w (calling Call.Statistics) = stats-once w
+one-outcome w (calling Call.Marks) = marks-once w
 
 -- ---- what is open, and where
 
 -- refused, nothing is open: store, area and buffer are those that were lent
 pub one-refusal : OneRefusal
-one-refusal o w c g q k l n = refusals o w c g k n .left ∙ sym (refusals o w c q l (λ e. n (one-outcome o w c g q k l .answer .case-is ∙ e)) .left)
+one-refusal w c g q k l n = refusals w c g k n .left ∙ sym (refusals w c q l (λ e. n (one-outcome w c g q k l .answer .case-is ∙ e)) .left)
 
 -- "accepted and unchanged": of the seven changing calls nothing is open either, where the box is as it was
 pub still-once : {st : Store} {area : Bytes} {d : Done} {r q : Changed} {area₁ area₂ : Bytes} → Settled st area d r area₁ → Settled st area d q area₂ → d .box ≡ boxOf st area → (r .store ≡ q .store) × (area₁ ≡ area₂)

@@ -13,25 +13,25 @@ use Rattle.rules.specs.Answers as answers
 use Rattle.rules.specs.Answers.{Reply, answerOf}
 use Rattle.rules.specs.Read.{examine}
 use Rattle.rules.specs.Page.{Page}
-use Rattle.rules.specs.Written.{Written, pageBytes, writeIf, written, keyRowBytes, keyLockBytes, scanPage, scanIntentPage, scanConflictingIntents}
+use Rattle.rules.specs.Written.{Written, pageBytes, writeIf, written, keyRowBytes, keyLockBytes, scanPage, scanIntentPage, scanConflictingIntents, WroteAs}
 use Rattle.rules.specs.Page.{page, intentPage, conflictPage}
+use Rattle.rules.specs.Call.{Changing, Call}
 use Rattle.laws.proofs.SettleLaws.{oneStep-refused}
 use Rattle.ledger.proofs.Unmet.{read-count}
-use Rattle.lines.specs.declared.store.Store.{Store}
-use Rattle.lines.proofs.TidyLaws.{built-tidy}
+use Rattle.store.specs.declared.table.Store.{Store}
+use Rattle.store.proofs.TidyLaws.{built-tidy}
 use Rattle.calls.specs.declared.changed.Changed.{Changed}
 use Rattle.calls.specs.Settled.{Untouched}
-use Rattle.reads.specs.declared.seen.Seen.{Seen}
-use Rattle.reads.specs.declared.seen.Seen.the-variants as reads
+use Rattle.reads.specs.declared.seen.RowSeen.{RowSeen}
+use Rattle.reads.specs.declared.seen.RowSeen.the-variants as reads
 use Rattle.reads.specs.declared.seen.Reading.{Reading}
-use Rattle.reads.specs.declared.seen.Pointed.{Pointed}
-use Rattle.reads.specs.declared.seen.Pointed.the-variants as points
+use Rattle.reads.specs.declared.seen.LockSeen.{LockSeen}
+use Rattle.reads.specs.declared.seen.LockSeen.the-variants as points
 use Rattle.reads.specs.Seen.{seenIn, ReadAs}
 use Rattle.reads.specs.Parts.{rowPart, RowPart, PrimaryPart}
-use Rattle.pages.specs.declared.calls.Paged.{Paged}
-use Rattle.pages.specs.Paged.{PagedAs}
+use Rattle.rules.specs.declared.written.Wrote.{Wrote}
 use Rattle.demands.specs.Calls.{Lent, boxIn, started, seen, pointed, handed, paged, changed, stepped, counted, marked, nothing, rowIn, answerIn, Unchanged, Refusals}
-use Rattle.demands.specs.Calls.{starting, reading, pointing, handingRow, handingPrimary, paging, pagingIntents, pagingConflicts, prewritingBatch, committingBatch, rollingBackBatch, oneStepping, restoring, counting, marking}
+use Rattle.demands.specs.Calls.{starting, calling, handingRow, handingPrimary}
 
 -- ---- a page
 
@@ -51,7 +51,7 @@ written-refused f (answers.shown p) buffer n = go (leb (length (pageBytes f p)) 
     go false n = record { count = refl; buffer-is = refl }
 
 module _ (w : Lent) where
-  page-left : {A : Type 0} (f : A → Bytes) (reply : Reply (Page A)) (r : Paged) (out : Bytes) → PagedAs (written f reply (w .buffer)) r out → (r .answer ≡ Accepted → ⊥) → Unchanged w (paged r out)
+  page-left : {A : Type 0} (f : A → Bytes) (reply : Reply (Page A)) (r : Wrote) (out : Bytes) → WroteAs (written f reply (w .buffer)) r out → (r .answer ≡ Accepted → ⊥) → Unchanged w (paged r out)
   page-left f reply r out p n =
       let b = written-refused f reply (w .buffer) (λ e. n (p .answer-is .case-is ∙ e)) in
       record {
@@ -74,7 +74,7 @@ module _ (w : Lent) where
 
   -- ---- a read, and an intent at a point: the store is as it was by their types, and no row is shown
 
-  no-row : (s : Seen) → (answerOf (seenIn (w .area) s) ≡ Accepted → ⊥) → (rowIn (seenIn (w .area) s) ≡ nothing) × (rowPart (w .area) s ≡ [])
+  no-row : (s : RowSeen) → (answerOf (seenIn (w .area) s) ≡ Accepted → ⊥) → (rowIn (seenIn (w .area) s) ≡ nothing) × (rowPart (w .area) s ≡ [])
   no-row reads.Nothing n = absurd (n refl)
   no-row (reads.Row at len) n = absurd (n refl)
   no-row (reads.Refused a) n = (refl, refl)
@@ -91,7 +91,7 @@ module _ (w : Lent) where
         part = p .is ∙ z .1;
       }
 
-  intent-left : (s : Pointed) (part : Bytes) → PrimaryPart (w .area) s part → (answerIn w (pointed s part) ≡ Accepted → ⊥) → Unchanged w (pointed s part)
+  intent-left : (s : LockSeen) (part : Bytes) → PrimaryPart (w .area) s part → (answerIn w (pointed s part) ≡ Accepted → ⊥) → Unchanged w (pointed s part)
   intent-left points.Nothing part p n = absurd (n refl)
   intent-left (points.Lock i) part p n = absurd (n refl)
   intent-left (points.Refused a) part p n = record { left = refl; box = refl; count = λ _. refl; shown = refl; part = p .is }
@@ -101,18 +101,18 @@ module _ (w : Lent) where
 -- `fresh`, `row_of`, `primary_of` and the figures refuse nothing
 pub refusals : Refusals
 unfolding scanPage scanIntentPage scanConflictingIntents
-refusals _ w starting (started s) p n = absurd (n refl)
-refusals _ w (reading k m) (seen r part) p n = read-left w k m r part (p .0) (p .1) n
-refusals _ w (pointing k m) (pointed s part) p n = intent-left w s part (p .1) n
-refusals _ w (handingRow s) (handed part) p n = absurd (n refl)
-refusals _ w (handingPrimary s) (handed part) p n = absurd (n refl)
-refusals _ w (paging a m l) (paged r out) p n = page-left w keyRowBytes (page a m l (boxIn w)) r out p n
-refusals _ w (pagingIntents a l) (paged r out) p n = page-left w keyLockBytes (intentPage a l (boxIn w)) r out p n
-refusals _ w (pagingConflicts a m l) (paged r out) p n = page-left w keyLockBytes (conflictPage a m l (boxIn w)) r out p n
-refusals _ w (prewritingBatch h s) (changed r area) p n = changed-left w r area (p .refused n)
-refusals _ w (committingBatch h s) (changed r area) p n = changed-left w r area (p .refused n)
-refusals _ w (rollingBackBatch txn start s) (changed r area) p n = changed-left w r area (p .refused n)
-refusals _ w (oneStepping h s) (stepped r area) p n =
+refusals w starting (started s) p n = absurd (n refl)
+refusals w (calling (Call.Read k m)) (seen r part) p n = read-left w k m r part (p .0) (p .1) n
+refusals w (calling (Call.OneIntent k m)) (pointed s part) p n = intent-left w s part (p .1) n
+refusals w (handingRow s) (handed part) p n = absurd (n refl)
+refusals w (handingPrimary s) (handed part) p n = absurd (n refl)
+refusals w (calling (Call.Page a m l)) (paged r out) p n = page-left w keyRowBytes (page a m l (boxIn w)) r out p n
+refusals w (calling (Call.IntentPage a l)) (paged r out) p n = page-left w keyLockBytes (intentPage a l (boxIn w)) r out p n
+refusals w (calling (Call.ConflictingIntents a m l)) (paged r out) p n = page-left w keyLockBytes (conflictPage a m l (boxIn w)) r out p n
+refusals w (calling (Call.Change (Changing.Prewrite h s))) (changed r area) p n = changed-left w r area (p .refused n)
+refusals w (calling (Call.Change (Changing.Commit h s))) (changed r area) p n = changed-left w r area (p .refused n)
+refusals w (calling (Call.Change (Changing.Rollback txn start s))) (changed r area) p n = changed-left w r area (p .refused n)
+refusals w (calling (Call.Change (Changing.OneStep h s))) (stepped r area) p n =
     let l = both w (r .store) area (p .settled .refused n) in
     record {
       left = l;
@@ -121,6 +121,6 @@ refusals _ w (oneStepping h s) (stepped r area) p n =
       shown = refl;
       part = refl;
     }
-refusals _ w (restoring s) (changed r area) p n = changed-left w r area (p .refused n)
-refusals _ w counting (counted s) p n = absurd (n refl)
-refusals _ w marking (marked m) p n = absurd (n refl)
+refusals w (calling (Call.Restore s)) (changed r area) p n = changed-left w r area (p .refused n)
+refusals w (calling Call.Statistics) (counted s) p n = absurd (n refl)
+refusals w (calling Call.Marks) (marked m) p n = absurd (n refl)

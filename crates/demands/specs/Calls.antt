@@ -6,7 +6,6 @@ use Prim.Native.Nat.{ℕ}
 use mathlib.Core.Path.{_≡_}
 use mathlib.Core.List.{[]}
 use Rattle.forms.specs.Bytes.{Bytes}
-use Rattle.forms.specs.Key.{Key}
 use Rattle.forms.specs.Row.{Row}
 use Rattle.rules.specs.declared.answers.Answer.{Answer}
 use Rattle.rules.specs.declared.answers.Answer.the-variants.{Accepted}
@@ -17,31 +16,40 @@ use Rattle.rules.specs.Answers.{Answered, Reply, answerOf}
 use Rattle.rules.specs.Box.{Box, Lock}
 use Rattle.rules.specs.Read.{examine}
 use Rattle.rules.specs.Intent.{intentAt}
-use Rattle.rules.specs.Page.{Bounds, Limits}
-use Rattle.rules.specs.Written.{scanPage, scanIntentPage, scanConflictingIntents}
-use Rattle.rules.specs.Prewrite.{Head, prewriteBatch}
-use Rattle.rules.specs.Commit.{Ending, commitBatch}
+use Rattle.rules.specs.Call.{Changing, Call}
+use Rattle.rules.specs.Written.{scanPage, scanIntentPage, scanConflictingIntents, WroteAs}
+use Rattle.rules.specs.Prewrite.{prewriteBatch}
+use Rattle.rules.specs.Commit.{commitBatch}
 use Rattle.rules.specs.Rollback.{rollbackBatch}
 use Rattle.rules.specs.OneStep.{oneStep}
 use Rattle.rules.specs.Restore.{restore}
 use Rattle.rules.specs.Figures.{stats, marks}
-use Rattle.lines.specs.declared.store.Store.{Store}
-use Rattle.lines.specs.View.{boxOf}
-use Rattle.lines.specs.Made.{Made, FreshStore}
+use Rattle.store.specs.declared.table.Store.{Store}
+use Rattle.store.specs.View.{boxOf}
+use Rattle.store.specs.Made.{Made, FreshStore}
 use Rattle.calls.specs.declared.changed.Changed.{Changed}
 use Rattle.calls.specs.Settled.{Settled}
-use Rattle.reads.specs.declared.seen.Seen.{Seen}
+use Rattle.reads.specs.declared.seen.RowSeen.{RowSeen}
 use Rattle.reads.specs.declared.seen.Reading.{Reading}
-use Rattle.reads.specs.declared.seen.Pointed.{Pointed}
+use Rattle.reads.specs.declared.seen.LockSeen.{LockSeen}
 use Rattle.reads.specs.Seen.{seenIn, ReadAs, pointedIn, PointedAs}
 use Rattle.reads.specs.Parts.{RowPart, PrimaryPart}
-use Rattle.pages.specs.declared.calls.Paged.{Paged}
-use Rattle.pages.specs.Paged.{PagedAs}
+use Rattle.rules.specs.declared.written.Wrote.{Wrote}
 use Rattle.onesteps.specs.declared.batch.Stepped.{Stepped}
 use Rattle.onesteps.specs.Counts.{Counts}
 use Rattle.restores.specs.Replaced.{Replaced}
 
 -- ---- the calls
+
+-- a public call with its arguments, but for what it is lent
+pub data Public : Type 0 where
+  -- fresh
+  starting : Public
+  -- a call of document 01. prewrite, commit_intent and rollback_intent are their batches at the bytes of a batch of one.
+  calling : Call → Public
+  -- row_of and primary_of, of any answer, not only of one that a read gave
+  handingRow : RowSeen → Public
+  handingPrimary : LockSeen → Public
 
 -- what sort of thing a call gives back
 pub data Sort : Type 0 where
@@ -55,32 +63,22 @@ pub data Sort : Type 0 where
   someStats : Sort
   someMarks : Sort
 
--- a call with its arguments, but for what it is lent; above each the function's name
-pub data Public : Sort → Type 0 where
-  -- fresh
-  starting : Public aStore
-  -- read, and intent_for_read: a key and a moment
-  reading : Key → ℕ → Public aRow
-  pointing : Key → ℕ → Public aLock
-  -- row_of and primary_of, of any answer, not only of one that a read gave
-  handingRow : Seen → Public aPart
-  handingPrimary : Pointed → Public aPart
-  -- scan_page, scan_intent_page, scan_conflicting_intents
-  paging : Bounds → ℕ → Limits → Public aPage
-  pagingIntents : Bounds → ℕ → Public aPage
-  pagingConflicts : Bounds → ℕ → Limits → Public aPage
-  -- prewrite_batch, commit_intents_batch, rollback_intents_batch; a batch is its bytes, in form or not. prewrite, commit_intent and
-  -- rollback_intent are these at the bytes of a batch of one (`oneMutation`, `oneKey` of forms).
-  prewritingBatch : Head → Bytes → Public aChange
-  committingBatch : Ending → Bytes → Public aChange
-  rollingBackBatch : ℕ → ℕ → Bytes → Public aChange
-  -- commit_batch
-  oneStepping : Ending → Bytes → Public aStep
-  -- restore
-  restoring : Bytes → Public aChange
-  -- stats, allocator_high_water_marks
-  counting : Public someStats
-  marking : Public someMarks
+abbrev pub gives : Public → Sort
+gives starting = aStore
+gives (calling (Call.Read k m)) = aRow
+gives (calling (Call.Page a m l)) = aPage
+gives (calling (Call.IntentPage a l)) = aPage
+gives (calling (Call.ConflictingIntents a m l)) = aPage
+gives (calling (Call.OneIntent k m)) = aLock
+gives (calling (Call.Change (Changing.Prewrite h s))) = aChange
+gives (calling (Call.Change (Changing.Commit h s))) = aChange
+gives (calling (Call.Change (Changing.Rollback txn start s))) = aChange
+gives (calling (Call.Change (Changing.OneStep h s))) = aStep
+gives (calling (Call.Restore s)) = aChange
+gives (calling Call.Statistics) = someStats
+gives (calling Call.Marks) = someMarks
+gives (handingRow s) = aPart
+gives (handingPrimary p) = aPart
 
 -- what a call is made on and may write to: the store, the area in which it keeps its bytes, and the buffer lent for a page. A call that
 -- writes no page is lent no such buffer, and has any here. Every other slice (keys, rows, batches, bounds, an image) is lent as `&` alone, and
@@ -99,11 +97,11 @@ pub data Given : Sort → Type 0 where
   started : Store → Given aStore
   -- a read's answer with its count, and the part that `row_of` hands back of it; an intent at a point, and the part that `primary_of` hands back
   seen : Reading → Bytes → Given aRow
-  pointed : Pointed → Bytes → Given aLock
+  pointed : LockSeen → Bytes → Given aLock
   -- a part
   handed : Bytes → Given aPart
   -- a page's answer and count, and the buffer
-  paged : Paged → Bytes → Given aPage
+  paged : Wrote → Bytes → Given aPage
   -- store and answer, and the area; a one-step batch gives its count too
   changed : Changed → Bytes → Given aChange
   stepped : Stepped → Bytes → Given aStep
@@ -194,26 +192,26 @@ after w (marked m) = w
 -- ---- the promises
 
 -- the call, made on `w`, gave this, and kept its promise
-abbrev pub Kept : {o : Sort} → Lent → Public o → Given o → Type 0
+abbrev pub Kept : Lent → (c : Public) → Given (gives c) → Type 0
 -- `fresh` promises it of every area of 131,072 bytes
 Kept w starting (started s) = FreshStore s (w .area)
-Kept w (reading k m) (seen r part) = ReadAs (examine k m (boxIn w)) (w .area) r × RowPart (w .area) (r .seen) part
-Kept w (pointing k m) (pointed p part) = PointedAs (intentAt k m (boxIn w)) (w .area) p × PrimaryPart (w .area) p part
+Kept w (calling (Call.Read k m)) (seen r part) = ReadAs (examine k m (boxIn w)) (w .area) r × RowPart (w .area) (r .seen) part
+Kept w (calling (Call.Page a m l)) (paged r out) = WroteAs (scanPage a m l (boxIn w) (w .buffer)) r out
+Kept w (calling (Call.IntentPage a l)) (paged r out) = WroteAs (scanIntentPage a l (boxIn w) (w .buffer)) r out
+Kept w (calling (Call.ConflictingIntents a m l)) (paged r out) = WroteAs (scanConflictingIntents a m l (boxIn w) (w .buffer)) r out
+Kept w (calling (Call.OneIntent k m)) (pointed p part) = PointedAs (intentAt k m (boxIn w)) (w .area) p × PrimaryPart (w .area) p part
+Kept w (calling (Call.Change (Changing.Prewrite h s))) (changed r area) = Settled (w .store) (w .area) (prewriteBatch h s (boxIn w)) r area
+Kept w (calling (Call.Change (Changing.Commit h s))) (changed r area) = Settled (w .store) (w .area) (commitBatch h s (boxIn w)) r area
+Kept w (calling (Call.Change (Changing.Rollback txn start s))) (changed r area) = Settled (w .store) (w .area) (rollbackBatch txn start s (boxIn w)) r area
+Kept w (calling (Call.Change (Changing.OneStep h s))) (stepped r area) = Counts (w .store) (w .area) (oneStep h s (boxIn w)) r area
+Kept w (calling (Call.Restore s)) (changed r area) = Replaced (w .store) (w .area) (restore s (boxIn w)) r area
+Kept w (calling Call.Statistics) (counted s) = s ≡ stats (boxIn w)
+Kept w (calling Call.Marks) (marked m) = m ≡ marks (boxIn w)
 Kept w (handingRow s) (handed part) = RowPart (w .area) s part
 Kept w (handingPrimary p) (handed part) = PrimaryPart (w .area) p part
-Kept w (paging a m l) (paged r out) = PagedAs (scanPage a m l (boxIn w) (w .buffer)) r out
-Kept w (pagingIntents a l) (paged r out) = PagedAs (scanIntentPage a l (boxIn w) (w .buffer)) r out
-Kept w (pagingConflicts a m l) (paged r out) = PagedAs (scanConflictingIntents a m l (boxIn w) (w .buffer)) r out
-Kept w (prewritingBatch h s) (changed r area) = Settled (w .store) (w .area) (prewriteBatch h s (boxIn w)) r area
-Kept w (committingBatch h s) (changed r area) = Settled (w .store) (w .area) (commitBatch h s (boxIn w)) r area
-Kept w (rollingBackBatch txn start s) (changed r area) = Settled (w .store) (w .area) (rollbackBatch txn start s (boxIn w)) r area
-Kept w (oneStepping h s) (stepped r area) = Counts (w .store) (w .area) (oneStep h s (boxIn w)) r area
-Kept w (restoring s) (changed r area) = Replaced (w .store) (w .area) (restore s (boxIn w)) r area
-Kept w counting (counted s) = s ≡ stats (boxIn w)
-Kept w marking (marked m) = m ≡ marks (boxIn w)
 
 -- the same of a call that is lent no buffer, whatever stands for one
-abbrev pub KeptOn : {o : Sort} → Store → Bytes → Public o → Given o → Type 0
+abbrev pub KeptOn : Store → Bytes → (c : Public) → Given (gives c) → Type 0
 KeptOn st area c g = (buffer : Bytes) → Kept (record { store = st; area = area; buffer = buffer }) c g
 
 -- ---- the demands
@@ -234,7 +232,7 @@ pub record Unchanged {o : Sort} (w : Lent) (g : Given o) : Type 0 where
 
 -- demand 1, its second half, of every public call
 abbrev pub Refusals : Type 0
-Refusals = (o : Sort) (w : Lent) (c : Public o) (g : Given o) → Kept w c g → (answerIn w g ≡ Accepted → ⊥) → Unchanged w g
+Refusals = (w : Lent) (c : Public) (g : Given (gives c)) → Kept w c g → (answerIn w g ≡ Accepted → ⊥) → Unchanged w g
 
 -- two outcomes have "number, holder, count, shown row, the store after it and the whole of each lent buffer" in common. The store is told by
 -- the box that it shows; where the stretches lie in the area, and the area's bytes outside them, are left open.
@@ -247,20 +245,20 @@ pub record Same {o : Sort} (w : Lent) (g q : Given o) : Type 0 where
   pub buffer : after w g .buffer ≡ after w q .buffer
 
 -- "its promise determines ..", "that no second answer fits": of a call
-abbrev pub Once : {o : Sort} → Lent → Public o → Type 0
-Once {o} w c = (g q : Given o) → Kept w c g → Kept w c q → Same w g q
+abbrev pub Once : Lent → Public → Type 0
+Once w c = (g q : Given (gives c)) → Kept w c g → Kept w c q → Same w g q
 
 -- of every public call
 abbrev pub OneOutcome : Type 0
-OneOutcome = (o : Sort) (w : Lent) (c : Public o) → Once w c
+OneOutcome = (w : Lent) (c : Public) → Once w c
 
 -- what `Same` leaves open is open only where a call was accepted: refused, store, area and buffer are the same to the last byte
 abbrev pub OneRefusal : Type 0
-OneRefusal = (o : Sort) (w : Lent) (c : Public o) (g q : Given o) → Kept w c g → Kept w c q → (answerIn w g ≡ Accepted → ⊥) → after w g ≡ after w q
+OneRefusal = (w : Lent) (c : Public) (g q : Given (gives c)) → Kept w c g → Kept w c q → (answerIn w g ≡ Accepted → ⊥) → after w g ≡ after w q
 
 -- "A made store stays made": whatever call kept its promise leaves it so, refused or not
 abbrev pub StaysMade : Type 0
-StaysMade = (o : Sort) (w : Lent) (c : Public o) (g : Given o) → Kept w c g → MadeIn w → MadeIn (after w g)
+StaysMade = (w : Lent) (c : Public) (g : Given (gives c)) → Kept w c g → MadeIn w → MadeIn (after w g)
 
 -- and `fresh` is how one begins: it asks nothing of a store before it
 abbrev pub StartsMade : Type 0

@@ -1,2 +1,3 @@
+-- The definitions of `demands`, in the order in which they build on each other.
 pub mod Demands
 pub mod Calls

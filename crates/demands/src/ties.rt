@@ -6,22 +6,23 @@ ghost use lib.ListN.{length};
 ghost use Rattle.forms.specs.Bytes.{Bytes};
 ghost use Rattle.forms.specs.Readers.{when};
 ghost use Rattle.forms.specs.Ones.{oneMutation, oneKey};
+ghost use Rattle.rules.specs.Call.{Changing, Call};
 ghost use Rattle.bounds.specs.Bounds.{boundsOf};
-ghost use Rattle.lines.specs.declared.store.Store.{Store};
-ghost use Rattle.lines.specs.Made.{Made};
+ghost use Rattle.store.specs.declared.table.Store.{Store};
+ghost use Rattle.store.specs.Made.{Made};
 ghost use Rattle.demands.specs.Calls.{Lent, Kept, KeptOn};
-ghost use Rattle.demands.specs.Calls.{starting, reading, pointing, handingRow, handingPrimary, paging, pagingIntents, pagingConflicts, prewritingBatch, committingBatch, rollingBackBatch, oneStepping, restoring, counting, marking};
+ghost use Rattle.demands.specs.Calls.{starting, calling, handingRow, handingPrimary};
 ghost use Rattle.demands.specs.Calls.{started, seen, pointed, handed, paged, changed, stepped, counted, marked};
 use mvcc::AREA;
 use mvcc::Changed;
+use mvcc::LockSeen;
 use mvcc::Marks;
-use mvcc::Paged;
-use mvcc::Pointed;
 use mvcc::Reading;
-use mvcc::Seen;
+use mvcc::RowSeen;
 use mvcc::Stats;
 use mvcc::Stepped;
 use mvcc::Store;
+use mvcc::Wrote;
 
 pub fn fresh() -> Store
     ensures { λ r. ⌜ ((w : Lent) → length (w .area) ≡ 131072 → Kept w starting (started r)) ⌝ }
@@ -32,27 +33,27 @@ pub fn fresh() -> Store
 // With whatever part `row_of` hands back of the answer.
 pub fn read(store: Store, area: &[u8; AREA], key: &[u8], moment: u64) -> Reading
     requires { ⌜ Made store (now area) ⌝ }
-    ensures { λ r. ⌜ ((buffer part : Bytes) → Kept (record { store = store; area = now (area .entry); buffer = buffer }) (handingRow (r .seen)) (handed part) → Kept (record { store = store; area = now (area .entry); buffer = buffer }) (reading (now (key .entry)) moment) (seen r part)) ⌝ }
+    ensures { λ r. ⌜ ((buffer part : Bytes) → Kept (record { store = store; area = now (area .entry); buffer = buffer }) (handingRow (r .seen)) (handed part) → Kept (record { store = store; area = now (area .entry); buffer = buffer }) (calling (Call.Read (now (key .entry)) moment)) (seen r part)) ⌝ }
 {
     mvcc::read(store, area, key, moment)
 }
 
 // With whatever part `primary_of` hands back of the answer.
-pub fn intent_for_read(store: Store, area: &[u8; AREA], key: &[u8], moment: u64) -> Pointed
+pub fn intent_for_read(store: Store, area: &[u8; AREA], key: &[u8], moment: u64) -> LockSeen
     requires { ⌜ Made store (now area) ⌝ }
-    ensures { λ r. ⌜ ((buffer part : Bytes) → Kept (record { store = store; area = now (area .entry); buffer = buffer }) (handingPrimary r) (handed part) → Kept (record { store = store; area = now (area .entry); buffer = buffer }) (pointing (now (key .entry)) moment) (pointed r part)) ⌝ }
+    ensures { λ r. ⌜ ((buffer part : Bytes) → Kept (record { store = store; area = now (area .entry); buffer = buffer }) (handingPrimary r) (handed part) → Kept (record { store = store; area = now (area .entry); buffer = buffer }) (calling (Call.OneIntent (now (key .entry)) moment)) (pointed r part)) ⌝ }
 {
     mvcc::intent_for_read(store, area, key, moment)
 }
 
 // It takes no store: any may stand for it.
-pub fn row_of(area: &[u8], answer: Seen) -> &[u8]
+pub fn row_of(area: &[u8], answer: RowSeen) -> &[u8]
     ensures { λ r. ⌜ ((store : Store) → KeptOn store (now (area .entry)) (handingRow answer) (handed (now r))) ⌝ }
 {
     mvcc::row_of(area, answer)
 }
 
-pub fn primary_of(area: &[u8], answer: Pointed) -> &[u8]
+pub fn primary_of(area: &[u8], answer: LockSeen) -> &[u8]
     ensures { λ r. ⌜ ((store : Store) → KeptOn store (now (area .entry)) (handingPrimary answer) (handed (now r))) ⌝ }
 {
     mvcc::primary_of(area, answer)
@@ -71,9 +72,9 @@ pub fn scan_page(
     resumes: bool,
     resume: &[u8],
     out: &mut [u8],
-) -> Paged
+) -> Wrote
     requires { ⌜ Made store (now area) ⌝ }
-    ensures { λ r. ⌜ Kept (record { store = store; area = now (area .entry); buffer = now (out .entry) }) (paging (boundsOf starts (now (start .entry)) ends (now (end .entry)) resumes (now (resume .entry))) moment (record { rows = rows; bytes = bytes })) (paged r (now (out .exit))) ⌝ }
+    ensures { λ r. ⌜ Kept (record { store = store; area = now (area .entry); buffer = now (out .entry) }) (calling (Call.Page (boundsOf starts (now (start .entry)) ends (now (end .entry)) resumes (now (resume .entry))) moment (record { rows = rows; bytes = bytes }))) (paged r (now (out .exit))) ⌝ }
 {
     mvcc::scan_page(
         store,
@@ -102,9 +103,9 @@ pub fn scan_intent_page(
     resumes: bool,
     resume: &[u8],
     out: &mut [u8],
-) -> Paged
+) -> Wrote
     requires { ⌜ Made store (now area) ⌝ }
-    ensures { λ r. ⌜ Kept (record { store = store; area = now (area .entry); buffer = now (out .entry) }) (pagingIntents (boundsOf starts (now (start .entry)) ends (now (end .entry)) resumes (now (resume .entry))) limit) (paged r (now (out .exit))) ⌝ }
+    ensures { λ r. ⌜ Kept (record { store = store; area = now (area .entry); buffer = now (out .entry) }) (calling (Call.IntentPage (boundsOf starts (now (start .entry)) ends (now (end .entry)) resumes (now (resume .entry))) limit)) (paged r (now (out .exit))) ⌝ }
 {
     mvcc::scan_intent_page(
         store,
@@ -133,9 +134,9 @@ pub fn scan_conflicting_intents(
     resumes: bool,
     resume: &[u8],
     out: &mut [u8],
-) -> Paged
+) -> Wrote
     requires { ⌜ Made store (now area) ⌝ }
-    ensures { λ r. ⌜ Kept (record { store = store; area = now (area .entry); buffer = now (out .entry) }) (pagingConflicts (boundsOf starts (now (start .entry)) ends (now (end .entry)) resumes (now (resume .entry))) moment (record { rows = locks; bytes = bytes })) (paged r (now (out .exit))) ⌝ }
+    ensures { λ r. ⌜ Kept (record { store = store; area = now (area .entry); buffer = now (out .entry) }) (calling (Call.ConflictingIntents (boundsOf starts (now (start .entry)) ends (now (end .entry)) resumes (now (resume .entry))) moment (record { rows = locks; bytes = bytes }))) (paged r (now (out .exit))) ⌝ }
 {
     mvcc::scan_conflicting_intents(
         store,
@@ -166,7 +167,7 @@ pub fn prewrite(
     row: &[u8],
 ) -> Changed
     requires { ⌜ Made store (now area) ⌝ }
-    ensures { λ r. ⌜ KeptOn store (now (area .entry)) (prewritingBatch (record { txn = txn; start = start; primary = now (primary .entry); ttl = ttl }) (oneMutation (record { key = now (key .entry); row = when put (now (row .entry)) }))) (changed r (now (area .exit))) ⌝ }
+    ensures { λ r. ⌜ KeptOn store (now (area .entry)) (calling (Call.Change (Changing.Prewrite (record { txn = txn; start = start; primary = now (primary .entry); ttl = ttl }) (oneMutation (record { key = now (key .entry); row = when put (now (row .entry)) }))))) (changed r (now (area .exit))) ⌝ }
 {
     mvcc::prewrite(store, area, txn, start, ttl, primary, key, put, row)
 }
@@ -181,7 +182,7 @@ pub fn prewrite_batch(
     batch: &[u8],
 ) -> Changed
     requires { ⌜ Made store (now area) ⌝ }
-    ensures { λ r. ⌜ KeptOn store (now (area .entry)) (prewritingBatch (record { txn = txn; start = start; primary = now (primary .entry); ttl = ttl }) (now (batch .entry))) (changed r (now (area .exit))) ⌝ }
+    ensures { λ r. ⌜ KeptOn store (now (area .entry)) (calling (Call.Change (Changing.Prewrite (record { txn = txn; start = start; primary = now (primary .entry); ttl = ttl }) (now (batch .entry))))) (changed r (now (area .exit))) ⌝ }
 {
     mvcc::prewrite_batch(store, area, txn, start, ttl, primary, batch)
 }
@@ -195,7 +196,7 @@ pub fn commit_intent(
     key: &[u8],
 ) -> Changed
     requires { ⌜ Made store (now area) ⌝ }
-    ensures { λ r. ⌜ KeptOn store (now (area .entry)) (committingBatch (record { txn = txn; start = start; commit = commit }) (oneKey (now (key .entry)))) (changed r (now (area .exit))) ⌝ }
+    ensures { λ r. ⌜ KeptOn store (now (area .entry)) (calling (Call.Change (Changing.Commit (record { txn = txn; start = start; commit = commit }) (oneKey (now (key .entry)))))) (changed r (now (area .exit))) ⌝ }
 {
     mvcc::commit_intent(store, area, txn, start, commit, key)
 }
@@ -209,7 +210,7 @@ pub fn commit_intents_batch(
     batch: &[u8],
 ) -> Changed
     requires { ⌜ Made store (now area) ⌝ }
-    ensures { λ r. ⌜ KeptOn store (now (area .entry)) (committingBatch (record { txn = txn; start = start; commit = commit }) (now (batch .entry))) (changed r (now (area .exit))) ⌝ }
+    ensures { λ r. ⌜ KeptOn store (now (area .entry)) (calling (Call.Change (Changing.Commit (record { txn = txn; start = start; commit = commit }) (now (batch .entry))))) (changed r (now (area .exit))) ⌝ }
 {
     mvcc::commit_intents_batch(store, area, txn, start, commit, batch)
 }
@@ -222,7 +223,7 @@ pub fn rollback_intent(
     key: &[u8],
 ) -> Changed
     requires { ⌜ Made store (now area) ⌝ }
-    ensures { λ r. ⌜ KeptOn store (now (area .entry)) (rollingBackBatch txn start (oneKey (now (key .entry)))) (changed r (now (area .exit))) ⌝ }
+    ensures { λ r. ⌜ KeptOn store (now (area .entry)) (calling (Call.Change (Changing.Rollback txn start (oneKey (now (key .entry)))))) (changed r (now (area .exit))) ⌝ }
 {
     mvcc::rollback_intent(store, area, txn, start, key)
 }
@@ -235,7 +236,7 @@ pub fn rollback_intents_batch(
     batch: &[u8],
 ) -> Changed
     requires { ⌜ Made store (now area) ⌝ }
-    ensures { λ r. ⌜ KeptOn store (now (area .entry)) (rollingBackBatch txn start (now (batch .entry))) (changed r (now (area .exit))) ⌝ }
+    ensures { λ r. ⌜ KeptOn store (now (area .entry)) (calling (Call.Change (Changing.Rollback txn start (now (batch .entry))))) (changed r (now (area .exit))) ⌝ }
 {
     mvcc::rollback_intents_batch(store, area, txn, start, batch)
 }
@@ -249,28 +250,28 @@ pub fn commit_batch(
     batch: &[u8],
 ) -> Stepped
     requires { ⌜ Made store (now area) ⌝ }
-    ensures { λ r. ⌜ KeptOn store (now (area .entry)) (oneStepping (record { txn = txn; start = start; commit = commit }) (now (batch .entry))) (stepped r (now (area .exit))) ⌝ }
+    ensures { λ r. ⌜ KeptOn store (now (area .entry)) (calling (Call.Change (Changing.OneStep (record { txn = txn; start = start; commit = commit }) (now (batch .entry))))) (stepped r (now (area .exit))) ⌝ }
 {
     mvcc::commit_batch(store, area, txn, start, commit, batch)
 }
 
 pub fn restore(store: Store, area: &mut [u8; AREA], image: &[u8]) -> Changed
     requires { ⌜ Made store (now area) ⌝ }
-    ensures { λ r. ⌜ KeptOn store (now (area .entry)) (restoring (now (image .entry))) (changed r (now (area .exit))) ⌝ }
+    ensures { λ r. ⌜ KeptOn store (now (area .entry)) (calling (Call.Restore (now (image .entry)))) (changed r (now (area .exit))) ⌝ }
 {
     mvcc::restore(store, area, image)
 }
 
 pub fn stats(store: Store, area: &[u8; AREA]) -> Stats
     requires { ⌜ Made store (now area) ⌝ }
-    ensures { λ r. ⌜ KeptOn store (now (area .entry)) counting (counted r) ⌝ }
+    ensures { λ r. ⌜ KeptOn store (now (area .entry)) (calling Call.Statistics) (counted r) ⌝ }
 {
     mvcc::stats(store, area)
 }
 
 pub fn allocator_high_water_marks(store: Store, area: &[u8; AREA]) -> Marks
     requires { ⌜ Made store (now area) ⌝ }
-    ensures { λ r. ⌜ KeptOn store (now (area .entry)) marking (marked r) ⌝ }
+    ensures { λ r. ⌜ KeptOn store (now (area .entry)) (calling Call.Marks) (marked r) ⌝ }
 {
     mvcc::allocator_high_water_marks(store, area)
 }

@@ -2,17 +2,20 @@
 // length, and the answers of all follow one another. Each answer is written as it comes.
 ghost use mathlib.Core.Path.{_≡_};
 ghost use lib.ListN.{length};
-ghost use Rattle.lines.specs.Made.{Made};
+ghost use Rattle.store.specs.Made.{Made};
 use libc::STDIN_FILENO;
 use libc::STDOUT_FILENO;
-use lines::AREA;
-use lines::Store;
 use rules::Answer;
+use store::AREA;
+use store::Store;
+
+mod streams;
+
 use streams::Next;
 
 // "A trace not in form gives one answer, number 6, with zeros and no payload"
 fn refuse(out: &mut [u8]) -> bool {
-    let n = driving::tell_plain(out, Answer::No(6));
+    let n = driving::tell_plain(out, Answer::No(6), 0);
     io::write_all(STDOUT_FILENO, &out[..n])
 }
 
@@ -46,7 +49,7 @@ fn answer_trace(trace: &[u8], out: &mut [u8]) -> bool {
         return refuse(out);
     }
     let mut area = [0u8; AREA];
-    let store = lines::fresh();
+    let store = store::fresh();
     answer_calls(store, trace, &mut area, out)
 }
 

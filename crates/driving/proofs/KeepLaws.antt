@@ -3,11 +3,11 @@
 use mathlib.Core.Path.{_≡_, refl}
 use lib.ListN.{length}
 use Rattle.forms.specs.Bytes.{Bytes}
-use Rattle.lines.specs.declared.store.Store.{Store}
-use Rattle.lines.specs.Made.{Made}
-use Rattle.showing.specs.declared.ran.Ran.{Ran}
-use Rattle.showing.specs.Ran.{RunCall}
-use Rattle.driving.proofs.RunLaws.{ran-made}
+use Rattle.store.specs.declared.table.Store.{Store}
+use Rattle.store.specs.Made.{Made}
+use Rattle.driving.specs.declared.ran.Ran.{Ran}
+use Rattle.driving.specs.Ran.{RunCall}
+use Rattle.driving.proofs.RunCallLaws.{ran-made}
 
 -- the store is one that a call may be run on, and the buffer is as long as it was
 pub record Keeps (out₀ : Bytes) (kept : Store) (area out : Bytes) : Type 0 where

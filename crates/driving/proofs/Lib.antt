@@ -1,2 +1,7 @@
-pub mod RunLaws
+-- The laws of `driving`, in the order in which they build on each other.
+pub mod TellLaws
+pub mod ReplyLaws
+pub mod PagingLaws
+pub mod ShowLaws
+pub mod RunCallLaws
 pub mod KeepLaws

@@ -1,168 +1,128 @@
-// The calls that change the store, run: a function for each op takes its arguments from where they lie in the call, and `tell_change` tells
-// the answer of each.
+// The calls that change the store, run: the public function of each is called with the arguments that lie in the call's bytes, and its answer is
+// told.
 ghost use Prim.Native.Nat.{_≤_};
 ghost use lib.ListN.{length};
-ghost use Rattle.forms.specs.Bytes.{bytesAt};
-ghost use Rattle.forms.specs.Ones.{oneKey};
-ghost use Rattle.traces.specs.Calls.{Call, oneEntry};
-ghost use Rattle.traces.specs.Places.{kindOf};
-ghost use Rattle.lines.specs.View.{boxOf};
-ghost use Rattle.showing.specs.Told.{told};
-ghost use Rattle.showing.specs.Ran.{RunAsks, RanAs, TellsChange, longest};
+ghost use Rattle.traces.specs.declared.op.Op.{Op};
+ghost use Rattle.traces.specs.Args.{callAs};
+ghost use Rattle.store.specs.View.{boxOf};
+ghost use Rattle.store.specs.Made.{Made};
+ghost use Rattle.driving.specs.Told.{told};
+ghost use Rattle.driving.specs.Changes.{changedBy};
+ghost use Rattle.driving.specs.Ran.{RunAsks, RanAs, DoneAs, TellsChange, longest};
+use crate::parts::part;
+use crate::ran::Ran;
+use crate::telling::tell_plain;
 use calls::Changed;
-use lines::AREA;
-use lines::Store;
-use showing::Ran;
+use store::AREA;
+use store::Store;
 use traces::Args;
+use traces::ChangeOp;
 
 // What a changing call gave back: its answer is told, without count and payload, and its store goes on.
-fn tell_change(done: Changed, out: &mut [u8]) -> Ran
+pub(crate) fn tell_change(done: Changed, out: &mut [u8]) -> Ran
     requires { ⌜ longest ≤ length (now out) ⌝ }
     ensures { λ r. ⌜ TellsChange done (now (out .entry)) r (now (out .exit)) ⌝ }
 {
     let answer = done.answer;
     let after = done.store;
-    let len = showing::tell_plain(out, answer);
+    let len = tell_plain(out, answer, 0);
     Ran {
         store: after,
         len: len,
     }
 }
 
-// "prewrite | transaction, start, time to live, kind, primary, key, row"
-pub(crate) fn run_prewrite(
+// The numbers are the transaction, the start, and the time to live or the commit.
+fn change(
+    store: Store,
+    area: &mut [u8; AREA],
+    op: ChangeOp,
+    first: u64,
+    second: u64,
+    third: u64,
+    primary: &[u8],
+    key: &[u8],
+    put: bool,
+    row: &[u8],
+    rest: &[u8],
+) -> Changed
+    requires { ⌜ Made store (now area) ⌝ }
+    ensures { λ r. ⌜ DoneAs (changedBy op first second third (now (primary .entry)) (now (key .entry)) put (now (row .entry)) (now (rest .entry)) (boxOf store (now (area .entry)))) r (now (area .exit)) ⌝ }
+{
+    match op {
+        ChangeOp::Prewrite => prewrites::prewrite(
+            store,
+            area,
+            first,
+            second,
+            third,
+            primary,
+            key,
+            put,
+            row,
+        ),
+        ChangeOp::PrewriteBatch => prewrites::prewrite_batch(
+            store,
+            area,
+            first,
+            second,
+            third,
+            primary,
+            rest,
+        ),
+        ChangeOp::Commit => commits::commit_intent(store, area, first, second, third, key),
+        ChangeOp::CommitBatch => commits::commit_intents_batch(
+            store,
+            area,
+            first,
+            second,
+            third,
+            rest,
+        ),
+        ChangeOp::Rollback => rollbacks::rollback_intent(store, area, first, second, key),
+        ChangeOp::RollbackBatch => rollbacks::rollback_intents_batch(
+            store,
+            area,
+            first,
+            second,
+            rest,
+        ),
+        ChangeOp::Restore => restores::restore(store, area, rest),
+    }
+}
+
+pub(crate) fn run_change(
     store: Store,
     area: &mut [u8; AREA],
     call: &[u8],
     args: Args,
+    op: ChangeOp,
     out: &mut [u8],
 ) -> Ran
     requires { ⌜ RunAsks store (now area) (now call) args (now out) ⌝ }
-    ensures { λ r. ⌜ RanAs (told (Call.PrewriteBatch (record { txn = args .one; start = args .two; primary = bytesAt (now (call .entry)) (args .primaryat) (args .primarylen); ttl = args .three }) (oneEntry (kindOf (args .put)) (bytesAt (now (call .entry)) (args .keyat) (args .keylen)) (bytesAt (now (call .entry)) (args .rowat) (args .rowlen)))) (boxOf store (now (area .entry)))) (now (out .entry)) r (now (area .exit)) (now (out .exit)) ⌝ }
+    ensures { λ r. ⌜ RanAs (told (callAs (Op.Changes op) (now (call .entry)) args) (args .buffer) (boxOf store (now (area .entry)))) (now (out .entry)) r (now (area .exit)) (now (out .exit)) ⌝ }
 {
-    let p = args.primaryat;
-    let pend = p + args.primarylen;
-    let k = args.keyat;
-    let kend = k + args.keylen;
-    let r = args.rowat;
-    let rend = r + args.rowlen;
-    let done = prewrites::prewrite(
+    let primary = part(call, args.primaryat, args.primarylen);
+    let key = part(call, args.keyat, args.keylen);
+    let row = part(call, args.rowat, args.rowlen);
+    let rest = part(call, args.restat, args.restlen);
+    let done = change(
         store,
         area,
-        args.one,
-        args.two,
-        args.three,
-        &call[p..pend],
-        &call[k..kend],
+        op,
+        args.first,
+        args.second,
+        args.third,
+        primary,
+        key,
         args.put,
-        &call[r..rend],
+        row,
+        rest,
     );
     tell_change(done, out)
 }
 
-// "prewrite of a batch | transaction, start, time to live, primary, batch"
-pub(crate) fn run_prewrites(
-    store: Store,
-    area: &mut [u8; AREA],
-    call: &[u8],
-    args: Args,
-    out: &mut [u8],
-) -> Ran
-    requires { ⌜ RunAsks store (now area) (now call) args (now out) ⌝ }
-    ensures { λ r. ⌜ RanAs (told (Call.PrewriteBatch (record { txn = args .one; start = args .two; primary = bytesAt (now (call .entry)) (args .primaryat) (args .primarylen); ttl = args .three }) (bytesAt (now (call .entry)) (args .restat) (args .restlen))) (boxOf store (now (area .entry)))) (now (out .entry)) r (now (area .exit)) (now (out .exit)) ⌝ }
-{
-    let p = args.primaryat;
-    let pend = p + args.primarylen;
-    let at = args.restat;
-    let end = at + args.restlen;
-    let done = prewrites::prewrite_batch(
-        store,
-        area,
-        args.one,
-        args.two,
-        args.three,
-        &call[p..pend],
-        &call[at..end],
-    );
-    tell_change(done, out)
-}
-
-// "commit | transaction, start, commit, key"
-pub(crate) fn run_commit(
-    store: Store,
-    area: &mut [u8; AREA],
-    call: &[u8],
-    args: Args,
-    out: &mut [u8],
-) -> Ran
-    requires { ⌜ RunAsks store (now area) (now call) args (now out) ⌝ }
-    ensures { λ r. ⌜ RanAs (told (Call.CommitBatch (record { txn = args .one; start = args .two; commit = args .three }) (oneKey (bytesAt (now (call .entry)) (args .keyat) (args .keylen)))) (boxOf store (now (area .entry)))) (now (out .entry)) r (now (area .exit)) (now (out .exit)) ⌝ }
-{
-    let at = args.keyat;
-    let end = at + args.keylen;
-    let done = commits::commit_intent(store, area, args.one, args.two, args.three, &call[at..end]);
-    tell_change(done, out)
-}
-
-// "commit of a key batch | transaction, start, commit, batch"
-pub(crate) fn run_commits(
-    store: Store,
-    area: &mut [u8; AREA],
-    call: &[u8],
-    args: Args,
-    out: &mut [u8],
-) -> Ran
-    requires { ⌜ RunAsks store (now area) (now call) args (now out) ⌝ }
-    ensures { λ r. ⌜ RanAs (told (Call.CommitBatch (record { txn = args .one; start = args .two; commit = args .three }) (bytesAt (now (call .entry)) (args .restat) (args .restlen))) (boxOf store (now (area .entry)))) (now (out .entry)) r (now (area .exit)) (now (out .exit)) ⌝ }
-{
-    let at = args.restat;
-    let end = at + args.restlen;
-    let done = commits::commit_intents_batch(
-        store,
-        area,
-        args.one,
-        args.two,
-        args.three,
-        &call[at..end],
-    );
-    tell_change(done, out)
-}
-
-// "rollback | transaction, start, key"
-pub(crate) fn run_rollback(
-    store: Store,
-    area: &mut [u8; AREA],
-    call: &[u8],
-    args: Args,
-    out: &mut [u8],
-) -> Ran
-    requires { ⌜ RunAsks store (now area) (now call) args (now out) ⌝ }
-    ensures { λ r. ⌜ RanAs (told (Call.RollbackBatch (args .one) (args .two) (oneKey (bytesAt (now (call .entry)) (args .keyat) (args .keylen)))) (boxOf store (now (area .entry)))) (now (out .entry)) r (now (area .exit)) (now (out .exit)) ⌝ }
-{
-    let at = args.keyat;
-    let end = at + args.keylen;
-    let done = rollbacks::rollback_intent(store, area, args.one, args.two, &call[at..end]);
-    tell_change(done, out)
-}
-
-// "rollback of a key batch | transaction, start, batch"
-pub(crate) fn run_rollbacks(
-    store: Store,
-    area: &mut [u8; AREA],
-    call: &[u8],
-    args: Args,
-    out: &mut [u8],
-) -> Ran
-    requires { ⌜ RunAsks store (now area) (now call) args (now out) ⌝ }
-    ensures { λ r. ⌜ RanAs (told (Call.RollbackBatch (args .one) (args .two) (bytesAt (now (call .entry)) (args .restat) (args .restlen))) (boxOf store (now (area .entry)))) (now (out .entry)) r (now (area .exit)) (now (out .exit)) ⌝ }
-{
-    let at = args.restat;
-    let end = at + args.restlen;
-    let done = rollbacks::rollback_intents_batch(store, area, args.one, args.two, &call[at..end]);
-    tell_change(done, out)
-}
-
-// "one-step batch | transaction, start, commit, batch"
+// "The count is the number of entries": a one-step batch tells it.
 pub(crate) fn run_step(
     store: Store,
     area: &mut [u8; AREA],
@@ -171,33 +131,15 @@ pub(crate) fn run_step(
     out: &mut [u8],
 ) -> Ran
     requires { ⌜ RunAsks store (now area) (now call) args (now out) ⌝ }
-    ensures { λ r. ⌜ RanAs (told (Call.OneStep (record { txn = args .one; start = args .two; commit = args .three }) (bytesAt (now (call .entry)) (args .restat) (args .restlen))) (boxOf store (now (area .entry)))) (now (out .entry)) r (now (area .exit)) (now (out .exit)) ⌝ }
+    ensures { λ r. ⌜ RanAs (told (callAs Op.OneStep (now (call .entry)) args) (args .buffer) (boxOf store (now (area .entry)))) (now (out .entry)) r (now (area .exit)) (now (out .exit)) ⌝ }
 {
-    let at = args.restat;
-    let end = at + args.restlen;
-    let done = onesteps::commit_batch(store, area, args.one, args.two, args.three, &call[at..end]);
+    let rest = part(call, args.restat, args.restlen);
+    let done = onesteps::commit_batch(store, area, args.first, args.second, args.third, rest);
     let answer = done.answer;
     let after = done.store;
-    let len = showing::tell_count(out, answer, done.count as u64);
+    let len = tell_plain(out, answer, done.count as u64);
     Ran {
         store: after,
         len: len,
     }
-}
-
-// "restore | image"
-pub(crate) fn run_restore(
-    store: Store,
-    area: &mut [u8; AREA],
-    call: &[u8],
-    args: Args,
-    out: &mut [u8],
-) -> Ran
-    requires { ⌜ RunAsks store (now area) (now call) args (now out) ⌝ }
-    ensures { λ r. ⌜ RanAs (told (Call.Restore (bytesAt (now (call .entry)) (args .restat) (args .restlen))) (boxOf store (now (area .entry)))) (now (out .entry)) r (now (area .exit)) (now (out .exit)) ⌝ }
-{
-    let at = args.restat;
-    let end = at + args.restlen;
-    let done = restores::restore(store, area, &call[at..end]);
-    tell_change(done, out)
 }

@@ -1,54 +1,31 @@
-// One call, run on a store: its bytes are read, and the function of its op runs it.
-ghost use Prim.Native.Nat.{_≤_};
-ghost use lib.ListN.{length};
+// One call, run on a store: its bytes are read, and the call that they say is run.
 ghost use Rattle.traces.specs.Args.{callOf};
-ghost use Rattle.lines.specs.View.{boxOf};
-ghost use Rattle.lines.specs.Made.{Made};
-ghost use Rattle.showing.specs.Told.{told, notRun};
-ghost use Rattle.showing.specs.Ran.{RunAsks, RanAs, RunCall, longest};
-use crate::changes::run_commit;
-use crate::changes::run_commits;
-use crate::changes::run_prewrite;
-use crate::changes::run_prewrites;
-use crate::changes::run_restore;
-use crate::changes::run_rollback;
-use crate::changes::run_rollbacks;
+ghost use Rattle.store.specs.View.{boxOf};
+ghost use Rattle.store.specs.Made.{Made};
+ghost use Rattle.driving.specs.Told.{toldIn};
+ghost use Rattle.driving.specs.Ran.{RunAsks, RanAs, RunCall};
+use crate::changes::run_change;
 use crate::changes::run_step;
-use lines::AREA;
-use lines::Store;
+use crate::changes::tell_change;
+use crate::ran::Ran;
+use crate::shows::run_shown;
+use calls::Changed;
 use rules::Answer;
-use showing::Ran;
+use store::AREA;
+use store::Store;
 use traces::Args;
 use traces::Op;
 
-// A call that is not run: 6, and the same store.
-fn not_run(store: Store, area: &[u8; AREA], out: &mut [u8]) -> Ran
-    requires { ⌜ (Made store (now area)) × (longest ≤ length (now out)) ⌝ }
-    ensures { λ r. ⌜ RanAs (notRun (boxOf store (now (area .entry)))) (now (out .entry)) r (now (area .entry)) (now (out .exit)) ⌝ }
-{
-    let len = showing::tell_plain(out, Answer::No(6));
-    Ran {
-        store: store,
-        len: len,
-    }
-}
-
-// The call that the arguments say, by its op: a function for each op that changes the store, and one for all that show something.
+// The call that the arguments say, by its op.
 fn run_args(store: Store, area: &mut [u8; AREA], call: &[u8], args: Args, out: &mut [u8]) -> Ran
     requires { ⌜ RunAsks store (now area) (now call) args (now out) ⌝ }
-    ensures { λ r. ⌜ RanAs (told (callOf (now (call .entry)) args) (boxOf store (now (area .entry)))) (now (out .entry)) r (now (area .exit)) (now (out .exit)) ⌝ }
+    ensures { λ r. ⌜ RanAs (toldIn (callOf (now (call .entry)) args) (boxOf store (now (area .entry)))) (now (out .entry)) r (now (area .exit)) (now (out .exit)) ⌝ }
 {
     let op = args.op;
     match op {
-        Op::Prewrite => run_prewrite(store, area, call, args, out),
-        Op::PrewriteBatch => run_prewrites(store, area, call, args, out),
-        Op::Commit => run_commit(store, area, call, args, out),
-        Op::CommitBatch => run_commits(store, area, call, args, out),
-        Op::Rollback => run_rollback(store, area, call, args, out),
-        Op::RollbackBatch => run_rollbacks(store, area, call, args, out),
+        Op::Shows(show) => run_shown(store, area, call, args, show, out),
+        Op::Changes(change) => run_change(store, area, call, args, change, out),
         Op::OneStep => run_step(store, area, call, args, out),
-        Op::Restore => run_restore(store, area, call, args, out),
-        _ => showing::run_shown(store, area, call, args, out),
     }
 }
 
@@ -69,7 +46,13 @@ pub fn run_call(store: Store, area: &mut [u8; AREA], call: &[u8], out: &mut [u8]
     }
     let args = traces::args_of(call);
     if !args.ok {
-        return not_run(store, area, out);
+        return tell_change(
+            Changed {
+                store: store,
+                answer: Answer::No(6),
+            },
+            out,
+        );
     }
     run_args(store, area, call, args, out)
 }

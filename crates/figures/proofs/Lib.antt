@@ -2,6 +2,6 @@
 pub mod CloseLaws
 pub mod Chains
 pub mod RunLaws
-pub mod RowLaws
+pub mod DefaultFigureLaws
 pub mod StatLaws
-pub mod MarkLaws
+pub mod HighWaterLaws

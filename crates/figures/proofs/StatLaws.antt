@@ -20,17 +20,17 @@ use Rattle.rules.specs.Room.{loadOf}
 use Rattle.rules.specs.Figures.{figures, stats}
 use Rattle.laws.proofs.Sorted.{fewer-drop, ordered-fewer}
 use Rattle.laws.proofs.BoxOrder.{order-lines}
-use Rattle.lines.specs.View.{placeOf, keyOf, lineIn, lineOf, rowIn, boxOf, noSlot}
-use Rattle.lines.specs.Made.{Built}
-use Rattle.lines.proofs.LookLaws.{slot-in}
-use Rattle.lines.specs.declared.store.Line.{Line}
-use Rattle.lines.specs.declared.store.Slot.{Slot}
-use Rattle.lines.specs.declared.store.Store.{Store}
+use Rattle.store.specs.View.{placeOf, keyOf, lineIn, lineOf, rowIn, boxOf, noSlot}
+use Rattle.store.specs.Made.{Built}
+use Rattle.store.proofs.LookUpLaws.{slot-in}
+use Rattle.store.specs.declared.table.Line.{Line}
+use Rattle.store.specs.declared.table.Slot.{Slot}
+use Rattle.store.specs.declared.table.Store.{Store}
 use Rattle.figures.specs.declared.runs.Run.{Run}
-use Rattle.figures.specs.declared.runs.Seen.{Seen}
+use Rattle.figures.specs.declared.runs.Runs.{Runs}
 use Rattle.figures.specs.Walks.{noRun, ended, Few, nextRun, ifRow, rowsIn, recordsIn, Sight, addLine, keyAt, runOf, sightOf, sightIn, NextLine, LineCounted}
 use Rattle.figures.proofs.RunLaws.{run-figures, run-few}
-use Rattle.figures.proofs.RowLaws.{record-keys, stored-keys}
+use Rattle.figures.proofs.DefaultFigureLaws.{record-keys, stored-keys}
 
 -- ---- one line more
 
@@ -43,7 +43,7 @@ record-one : (x : box.Line) → recordsIn x ≤ 1
 record-one (box.Standing l) = omega arith
 record-one (box.Finished w) = omega arith
 
-pub line-counted : {area : Bytes} {seen : Seen} {s : Slot} (v : NextLine area seen s) {x : Line} {t : Bool} {at n : ℕ} {a b : Run} → at ≡ placeOf s → s .line ≡ x
+pub line-counted : {area : Bytes} {seen : Runs} {s : Slot} (v : NextLine area seen s) {x : Line} {t : Bool} {at n : ℕ} {a b : Run} → at ≡ placeOf s → s .line ≡ x
     → t ≡ eqBytes (bytesAt area (seen .at) (seen .len)) (keyOf area s) → n ≡ rowsIn (lineIn area (placeOf s + s .len) x)
     → a ≡ nextRun t n (seen .rows) → b ≡ nextRun t (recordsIn (lineIn area (placeOf s + s .len) x)) (seen .records)
     → LineCounted area seen s (record { at = at; len = s .len; rows = a; records = b })
@@ -55,7 +55,7 @@ cons e es = refl
 
 -- ---- the loop: the lines from i on have been passed
 
-pub record LinesPassed (area : Bytes) (slots : List Slot) (n i : ℕ) (seen : Seen) : Type 0 where
+pub record LinesPassed (area : Bytes) (slots : List Slot) (n i : ℕ) (seen : Runs) : Type 0 where
   pub down : Down sightOf (shown (lineOf area) n slots) n i (sightIn area seen)
   pub within : seen .at + seen .len ≤ length area
 
@@ -65,12 +65,12 @@ module _ {st : Store} {area : Bytes} (m : Built st area) where
   lines-start e = subst (λ (r : Run). LinesPassed area (st .lines) (st .load .lines) (st .load .lines) (record { at = 0; len = 0; rows = r; records = r })) (sym e)
       (record { down = down-start (m .lines) (lineOf area) sightOf refl; within = omega arith })
 
-  module _ {i : ℕ} {seen : Seen} (w : LinesPassed area (st .lines) (st .load .lines) i seen) where
+  module _ {i : ℕ} {seen : Runs} (w : LinesPassed area (st .lines) (st .load .lines) i seen) where
     few : (n : box.Line → ℕ) → ((x : box.Line) → n x ≤ 1) → {r : Run} → r ≡ runOf n (drop i (boxOf st area .lines)) → Few (r .long) (r .closed)
     few n one e =
         let es = boxOf st area .lines in
         subst (λ (r : Run). Few (r .long) (r .closed)) (sym e)
-        (run-few n one (drop i es) (ordered-fewer box.before (fewer-drop i es) (order-lines (boxOf st area) (m .kept .sorted))) (omega (arith, length-drop i es, shown-length (m .lines) (lineOf area), m .lines .few)))
+        (run-few n one (drop i es) (ordered-fewer box.before (fewer-drop i es) (order-lines (boxOf st area) (m .kept .sorted))) (omega (arith, length-drop i es, shown-length (m .lines) (lineOf area), m .lines .count-fits)))
 
     pub few-rows : Few (seen .rows .long) (seen .rows .closed)
     few-rows = few rowsIn (λ x. row-one (kindIn x)) (ap (λ (s : Sight). s .rows) (w .down .is))
@@ -81,7 +81,7 @@ module _ {st : Store} {area : Bytes} (m : Built st area) where
     pub lines-ready : 0 < i → NextLine area seen (getD (st .lines) (i - 1) noSlot)
     lines-ready h = record { before-in = w .within; key-in = omega (arith, slot-in m (i - 1) (omega (arith, w .down .low))); rows = few-rows; records = few-records }
 
-    pub lines-more : {q : Seen} → 0 < i → LineCounted area seen (getD (st .lines) (i - 1) noSlot) q → LinesPassed area (st .lines) (st .load .lines) (i - 1) q
+    pub lines-more : {q : Runs} → 0 < i → LineCounted area seen (getD (st .lines) (i - 1) noSlot) q → LinesPassed area (st .lines) (st .load .lines) (i - 1) q
     lines-more h k = record { down = down-more (m .lines) (lineOf area) sightOf addLine cons (w .down) h (k .is); within = k .within }
 
     pub stats-end : {f g : Figures} → i ≤ 0 → f ≡ ended (seen .rows .long) (seen .rows .closed) → g ≡ ended (seen .records .long) (seen .records .closed)

@@ -15,10 +15,10 @@ use Rattle.rules.specs.declared.figures.Figures.{Figures}
 use Rattle.rules.specs.declared.figures.Marks.{Marks}
 use Rattle.rules.specs.Box.{Line, Standing, Finished, KeyLine, kindIn}
 use Rattle.rules.specs.Figures.{sucIf, lineTxn, lineStamp, largest}
-use Rattle.lines.specs.View.{placeOf, lineOf}
-use Rattle.lines.specs.declared.store.Slot.{Slot}
+use Rattle.store.specs.View.{placeOf, lineOf}
+use Rattle.store.specs.declared.table.Slot.{Slot}
 use Rattle.figures.specs.declared.runs.Run.{Run}
-use Rattle.figures.specs.declared.runs.Seen.{Seen}
+use Rattle.figures.specs.declared.runs.Runs.{Runs}
 
 -- ---- a run ends
 
@@ -97,17 +97,17 @@ abbrev pub sightOf : List KeyLine → Sight
 sightOf es = record { key = keyAt es; rows = runOf rowsIn es; records = runOf recordsIn es }
 
 -- what the code keeps
-abbrev pub sightIn : Bytes → Seen → Sight
+abbrev pub sightIn : Bytes → Runs → Sight
 sightIn area q = record { key = bytesAt area (q .at) (q .len); rows = q .rows; records = q .records }
 
 -- what one line more asks: both keys lie in the area, and the counts are few
-pub record NextLine (area : Bytes) (seen : Seen) (s : Slot) : Type 0 where
+pub record NextLine (area : Bytes) (seen : Runs) (s : Slot) : Type 0 where
   pub before-in : seen .at + seen .len ≤ length area
   pub key-in : placeOf s + s .len ≤ length area
   pub rows : Few (seen .rows .long) (seen .rows .closed)
   pub records : Few (seen .records .long) (seen .records .closed)
 
-pub record LineCounted (area : Bytes) (seen : Seen) (s : Slot) (q : Seen) : Type 0 where
+pub record LineCounted (area : Bytes) (seen : Runs) (s : Slot) (q : Runs) : Type 0 where
   pub is : sightIn area q ≡ addLine (lineOf area s) (sightIn area seen)
   pub within : q .at + q .len ≤ length area
 

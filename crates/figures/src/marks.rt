@@ -1,28 +1,20 @@
 // "High-water marks: largest lock transaction, largest stamp or start of any kind, each 0 if none." A default's start is its line's, so the
 // lines tell.
 ghost use mathlib.Core.Path.{_≡_};
-ghost use Prim.Native.Nat.{_+_, _≤_, max};
+ghost use Prim.Native.Nat.{_+_, _≤_};
 ghost use lib.ListN.{length};
 ghost use Rattle.rules.specs.Figures.{marks};
-ghost use Rattle.lines.specs.View.{placeOf, boxOf, lineOf};
-ghost use Rattle.lines.specs.Made.{Made};
+ghost use Rattle.store.specs.View.{placeOf, boxOf, lineOf};
+ghost use Rattle.store.specs.Made.{Made};
 ghost use Rattle.figures.specs.Walks.{addMark};
-use lines::AREA;
-use lines::Line;
-use lines::Slot;
-use lines::Store;
-use lines::place_of;
-use lines::views::eight_at;
+use forms::larger;
 use rules::Marks;
-
-fn larger(a: u64, b: u64) -> u64
-    ensures { λ r. ⌜ r ≡ max a b ⌝ }
-{
-    if a < b {
-        return b;
-    }
-    a
-}
+use store::AREA;
+use store::Line;
+use store::Slot;
+use store::Store;
+use store::place_of;
+use store::views::eight_at;
 
 // One line more.
 fn mark_line(m: Marks, s: Slot, area: &[u8]) -> Marks

@@ -8,7 +8,7 @@ pub struct Run {
 }
 
 // The key before, which is the `len` bytes of the area from `at`, and the runs of rows and of records. Before the first key the length is 0.
-pub struct Seen {
+pub struct Runs {
     pub at: usize,
     pub len: usize,
     pub rows: Run,

@@ -3,20 +3,20 @@
 ghost use mathlib.Core.Path.{_≡_};
 ghost use Prim.Native.Nat.{_≤_};
 ghost use Rattle.rules.specs.Figures.{stats};
-ghost use Rattle.lines.specs.View.{boxOf};
-ghost use Rattle.lines.specs.Made.{Made};
+ghost use Rattle.store.specs.View.{boxOf};
+ghost use Rattle.store.specs.Made.{Made};
 ghost use Rattle.figures.specs.Walks.{ifRow, NextLine, LineCounted};
-use crate::runs::Seen;
+use crate::runs::Runs;
 use crate::walks::close;
 use crate::walks::next_run;
 use crate::walks::no_run;
-use lines::AREA;
-use lines::Line;
-use lines::Slot;
-use lines::Store;
-use lines::place_of;
 use rules::Kind;
 use rules::Stats;
+use store::AREA;
+use store::Line;
+use store::Slot;
+use store::Store;
+use store::place_of;
 
 // Only a Put has a row.
 fn if_row(kind: Kind) -> usize
@@ -30,7 +30,7 @@ fn if_row(kind: Kind) -> usize
 }
 
 // One line more.
-fn one_line(seen: Seen, s: Slot, area: &[u8]) -> Seen
+fn one_line(seen: Runs, s: Slot, area: &[u8]) -> Runs
     requires { ⌜ NextLine (now area) seen s ⌝ }
     ensures { λ q. ⌜ LineCounted (now (area .entry)) seen s q ⌝ }
 {
@@ -49,7 +49,7 @@ fn one_line(seen: Seen, s: Slot, area: &[u8]) -> Seen
             let row = if_row(kind);
             let rows = next_run(old_rows, same, row);
             let records = next_run(old_records, same, 0);
-            Seen {
+            Runs {
                 at: at,
                 len: len,
                 rows: rows,
@@ -61,7 +61,7 @@ fn one_line(seen: Seen, s: Slot, area: &[u8]) -> Seen
             let row = if_row(kind);
             let rows = next_run(old_rows, same, row);
             let records = next_run(old_records, same, 1);
-            Seen {
+            Runs {
                 at: at,
                 len: len,
                 rows: rows,
@@ -79,7 +79,7 @@ pub fn stats(store: Store, area: &[u8; AREA]) -> Stats
     let lines = store.lines;
     let load = store.load;
     let none = no_run();
-    let mut seen = Seen {
+    let mut seen = Runs {
         at: 0,
         len: 0,
         rows: none,

@@ -1,11 +1,12 @@
 // Runs of equal keys: which class a run falls in when it ends, and what one line more changes.
 ghost use mathlib.Core.Path.{_≡_};
 ghost use mathlib.Core.Bool.{_&&_};
-ghost use Prim.Native.Nat.{_≤_, max};
+ghost use Prim.Native.Nat.{_≤_};
 ghost use lib.Dec.{leb};
 ghost use Rattle.rules.specs.Figures.{sucIf};
 ghost use Rattle.figures.specs.Walks.{Few, ended, noRun, nextRun};
 use crate::runs::Run;
+use forms::longer;
 use rules::Figures;
 
 // One more, where `n` is from `a` to `e`.
@@ -20,15 +21,6 @@ fn from_to(a: usize, e: usize, n: usize, count: usize) -> usize
         return count;
     }
     count + 1
-}
-
-fn longer(n: usize, m: usize) -> usize
-    ensures { λ r. ⌜ r ≡ max n m ⌝ }
-{
-    if n < m {
-        return m;
-    }
-    n
 }
 
 // A run of `n` keys ends: "chains of 1, 2 to 4, 5 to 16 and above 16, and the longest". One of none is no run.

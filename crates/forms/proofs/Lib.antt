@@ -1,13 +1,14 @@
+-- The laws of `forms`, in the order in which they build on each other.
 pub mod Orders
 pub mod CompareLaws
 pub mod SameLaws
-pub mod ReadLaws
+pub mod ReaderLaws
 pub mod NumberLaws
-pub mod KeyLaws
+pub mod WriterLaws
+pub mod KeyFormLaws
 pub mod RowLaws
-pub mod EntryLaws
-pub mod JudgeLaws
-pub mod BatchLaws
+pub mod BatchEntryLaws
+pub mod ReadAllLaws
+pub mod DecodeLaws
 pub mod AscendLaws
-pub mod AppendLaws
 pub mod OneLaws

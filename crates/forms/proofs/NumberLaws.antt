@@ -1,4 +1,4 @@
--- Numbers over every width: what the bytes of a number say, how large they can be, and the loops that read and write them.
+-- Numbers over every width: what the bytes of a number say, how large they can be, and the loop that reads them.
 -- Assumes nothing.
 use Prim.Native.Nat.{ℕ, zero, suc, _+_, _-_, _*_, _/_, _%_, _^_, _≤_, _<_}
 use native.Mathlib.Omega.{arith}
@@ -8,19 +8,18 @@ use mathlib.Core.Path.{_≡_, refl, sym, _∙_, ap, ap₂, subst}
 use mathlib.Core.Bool.{Bool, true, false, not, false≢true}
 use mathlib.Core.List.{[], _∷_, _++_, append-assoc, append-nil}
 use mathlib.Core.Option.{Option, none, some}
-use lib.ListN.{length, getD, set, take, drop, length-append, length-set}
-use lib.Seq.{drop-cons, length-front, length-take-le}
+use lib.ListN.{length, getD, take, drop, length-append}
+use lib.Seq.{drop-cons}
 use lib.Dec.{leb}
 use borrow.Author.Tests.{le-leb, lt-leb, leb-true, leb-false, not-true, not-false}
-use Rattle.seqs.proofs.Parts.{drop-set}
 use Rattle.forms.specs.Bytes.{Bytes}
 use Rattle.forms.specs.Readers.{Read, readOn, _>>=_, just}
 use Rattle.forms.specs.Numbers.{numberFrom, number, digits, numberOf, widthOf}
-use Rattle.forms.specs.Places.{found, NumberAt, putIf, PutNumber}
+use Rattle.forms.specs.Places.{found, NumberAt}
 use Rattle.forms.specs.declared.number.Number.{Number}
 use Rattle.forms.specs.declared.number.Width.{Width}
 use Rattle.forms.specs.declared.number.Width.the-variants.{Two, Four, Eight}
-use Rattle.forms.proofs.ReadLaws.{after, stretch-at}
+use Rattle.forms.proofs.ReaderLaws.{after, stretch-at}
 
 pub width-some : (w : Width) → 0 < widthOf w
 width-some Two = omega arith
@@ -206,57 +205,3 @@ module _ {w : ℕ} {s : Bytes} {at : ℕ} {n : Number} (v : NumberAt w s at n) w
 
   pub number-long : not (n .ok) ≡ false → w ≤ length s - at
   number-long h = leb-true w (length s - at) (sym number-ok ∙ not-false (n .ok) h)
-
--- ---- `put_number`: the writing loop; what is left to write stands before i
-
-pub record Writing (w value : ℕ) (s : Bytes) (i v : ℕ) (out : Bytes) : Type 0 where
-  pub to : i ≤ w
-  pub within : w ≤ length s
-  pub long : length out ≡ length s
-  pub is : digits w value ++ drop w s ≡ digits i v ++ drop i out
-
-pub writing-start : (w value : ℕ) (s : Bytes) → w ≤ length s → Writing w value s w value s
-writing-start w value s l = record { to = omega arith; within = l; long = refl; is = refl }
-
-module _ {w value : ℕ} {s : Bytes} {i v : ℕ} {out : Bytes} (u : Writing w value s i v out) where
-  pub writing-more : 0 < i → Writing w value s (i - 1) (v / 256) (set out (i - 1) (v % 256))
-  unfolding digits
-  writing-more h =
-      let e : i ≡ suc (i - 1) = omega arith in
-      record {
-        to = omega (arith, u .to);
-        within = u .within;
-        long = length-set out (i - 1) (v % 256) ∙ u .long;
-        is =
-            u .is ∙ ap (λ (n : ℕ). digits n v ++ drop n out) e ∙ append-assoc (digits (i - 1) (v / 256)) (v % 256 ∷ []) (drop (suc (i - 1)) out)
-            ∙ ap (λ (r : Bytes). digits (i - 1) (v / 256) ++ r) (sym (drop-set out (i - 1) (v % 256) (omega (arith, u .to, u .within, u .long))));
-      }
-
-  pub writing-end : i ≤ 0 → PutNumber w value s true out
-  unfolding digits
-  writing-end h =
-      let z : i ≡ 0 = omega arith in
-      record {
-        fits = sym (le-leb w (length s) (u .within));
-        is =
-            sym (u .is ∙ ap (λ (n : ℕ). digits n v ++ drop n out) z)
-            ∙ ap (λ (n : ℕ). digits w value ++ drop n s) (sym (length-digits w value));
-      }
-
-pub put-none : (w value : ℕ) (s : Bytes) → length s < w → PutNumber w value s false s
-put-none w value s h = record { fits = sym (lt-leb w (length s) h); is = refl }
-
--- what a write leaves: a buffer as long, whose front is the number's bytes
-module _ {w v : ℕ} {s : Bytes} {b : Bool} {t : Bytes} (u : PutNumber w v s b t) where
-  pub put-length : length t ≡ length s
-  put-length = ap length (u .is) ∙ go b (u .fits)
-    where
-      go : (b : Bool) → b ≡ leb w (length s) → length (putIf b (digits w v) s) ≡ length s
-      go true e =
-          let l : w ≤ length s = leb-true _ _ (sym e) in
-          length-front s (digits w v) (length (digits w v)) (length-digits w v ∙ sym (length-take-le w s l) ∙ ap (λ (n : ℕ). length (take n s)) (sym (length-digits w v)))
-      go false e = refl
-
-  pub put-good : w ≤ length s → t ≡ digits w v ++ drop w s
-  put-good l =
-      u .is ∙ ap (λ (b : Bool). putIf b (digits w v) s) (u .fits ∙ le-leb w (length s) l) ∙ ap (λ (n : ℕ). digits w v ++ drop n s) (length-digits w v)

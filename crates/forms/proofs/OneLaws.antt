@@ -2,7 +2,7 @@
 -- empty, which is neither a key nor a row. Assumes nothing.
 use Prim.Native.Nat.{ℕ, _+_, _≤_, _<_}
 use native.Mathlib.Omega.{arith}
-use mathlib.Core.Path.{_≡_, refl, sym, ap, _∙_, subst}
+use mathlib.Core.Path.{_≡_, refl, sym, ap, _∙_}
 use mathlib.Core.Bool.{Bool, true, false, not, true≢false, false≢true}
 use mathlib.Core.List.{[], _∷_, _++_, append-nil}
 use mathlib.Core.Option.{Option, none, some}
@@ -14,15 +14,15 @@ use Rattle.forms.specs.Bytes.{Bytes, pieceBytes}
 use Rattle.forms.specs.Key.{Key}
 use Rattle.forms.specs.Row.{Row}
 use Rattle.forms.specs.Readers.{Reader, readOn, _>>=_, just, when, byte, stretch, piece, times, ended, whole}
-use Rattle.forms.specs.Numbers.{numberFrom}
+use Rattle.forms.specs.Numbers.{numberFrom, digits}
 use Rattle.forms.specs.Batch.{Mutation, keyIn, ofKind, mutation, above, ascend, ifAscend, batchOf, mutations, keys}
 use Rattle.forms.specs.Places.{entries}
 use Rattle.forms.specs.Ones.{orEmpty, fitted, fittedRow, fittedEntry, kindBytes, oneMutation, oneKey}
-use Rattle.forms.specs.Appends.{Appended, Grown}
-use Rattle.forms.proofs.ReadLaws.{after}
-use Rattle.forms.proofs.JudgeLaws.{entries-more}
-use Rattle.forms.proofs.BatchLaws.{batch-few}
-use Rattle.forms.proofs.AppendLaws.{grown-append, grown-then}
+use Rattle.forms.specs.Writers.{Laid, PieceAsks}
+use Rattle.forms.proofs.ReaderLaws.{after}
+use Rattle.forms.proofs.ReadAllLaws.{entries-more}
+use Rattle.forms.proofs.DecodeLaws.{batch-few}
+use Rattle.forms.proofs.WriterLaws.{laid-as, laid-then}
 
 -- ---- what fits
 
@@ -88,38 +88,33 @@ pub fitting-all : (s : Bytes) → length s ≤ 255 → length s ≡ length (fitt
 fitting-all s h = sym (ap length (fits-stays s (le-leb (length s) 255 h)))
 
 module _ (s : Bytes) {n : ℕ} (e : n ≡ length (fitted s)) where
-  pub piece-short : n ≤ 255
-  piece-short = omega (arith, fitted-short s)
-
   front : take n s ≡ fitted s
   front = ap (λ (k : ℕ). take k s) e ∙ fitted-take s
 
   pub piece-long : length (take n s) ≡ n
   piece-long = ap length front ∙ sym e
 
-  pub piece-grown : {out mid out′ : Bytes} {at from : ℕ} → Grown at (n ∷ []) out from mid → at + 256 ≤ length out → Appended mid from (take n s) out′ → Grown at (pieceBytes (fitted s)) out (from + n) out′
-  piece-grown {out} {mid} {out′} {at} {from} byte room v = subst (λ (b : Bytes). Grown at b out (from + n) out′) all (grown-then byte there)
-    where
-      there : Grown from (take n s) mid (from + n) out′
-      there = subst (λ (k : ℕ). Grown from (take n s) mid (from + k) out′) piece-long (grown-append v (omega (arith, piece-long, byte .long, byte .next, piece-short)))
+  pub piece-asks : {at : ℕ} {out : Bytes} → at + 256 ≤ length out → PieceAsks (take n s) (length (take n s) + 1) at out
+  piece-asks h = record { short = omega (arith, piece-long, fitted-short s); room = omega (arith, piece-long, fitted-short s) }
 
-      all : n ∷ take n s ≡ pieceBytes (fitted s)
-      all = cc (front, e)
+  pub piece-laid : {at r : ℕ} {out out′ : Bytes} → Laid at (length (take n s) + 1) (pieceBytes (take n s)) out r out′ → Laid at (length (fitted s) + 1) (pieceBytes (fitted s)) out r out′
+  piece-laid v = rw front at v
 
-module _ (k : Key) {s t u v : Bytes} {a b c : ℕ} (one : Grown 0 (0 ∷ []) s a t) (two : Grown a (1 ∷ []) t b u) (three : Grown b (pieceBytes (fitted k)) u c v) where
-  pub key-grown : Grown 0 (oneKey k) s c v
-  unfolding oneKey
-  key-grown = grown-then (grown-then one two) three
+module _ (k : Key) {s t u : Bytes} {a b : ℕ} (one : Laid 0 2 (digits 2 1) s a t) (two : Laid a (length (fitted k) + 1) (pieceBytes (fitted k)) t b u) where
+  pub key-laid : Laid 0 (length (oneKey k)) (oneKey k) s b u
+  unfolding oneKey digits
+  key-laid = laid-as (laid-then one two) refl
 
-  pub key-room : 515 ≤ length s → c + 257 ≤ length v
-  key-room h = omega (arith, fitted-short k, one .next, two .next, three .next, one .long, two .long, three .long)
+  pub key-room : 515 ≤ length s → b + 257 ≤ length u
+  key-room h = omega (arith, fitted-short k)
 
-  pub delete-grown : (put : Bool) (r : Row) {e : ℕ} {w : Bytes} → not put ≡ true → Grown c (2 ∷ []) v e w → Grown 0 (oneMutation (record { key = k; row = when put r })) s e w
-  unfolding oneMutation
-  delete-grown true r h four = absurd (false≢true h)
-  delete-grown false r h four = grown-then (grown-then one two) (grown-then three four)
+  pub delete-laid : (put : Bool) (r : Row) {d : ℕ} {w : Bytes} → not put ≡ true → Laid b 1 (2 ∷ []) u d w → Laid 0 (length (oneMutation (record { key = k; row = when put r }))) (oneMutation (record { key = k; row = when put r })) s d w
+  unfolding oneMutation digits
+  delete-laid true r h three = absurd (false≢true h)
+  delete-laid false r h three = laid-as (laid-then one (laid-then two three)) refl
 
-  pub put-grown : (put : Bool) (r : Row) {d e : ℕ} {w x : Bytes} → not put ≡ false → Grown c (1 ∷ []) v d w → Grown d (pieceBytes (fitted r)) w e x → Grown 0 (oneMutation (record { key = k; row = when put r })) s e x
-  unfolding oneMutation
-  put-grown true r h four five = grown-then (grown-then one two) (grown-then three (grown-then four five))
-  put-grown false r h four five = absurd (true≢false h)
+  pub put-laid : (put : Bool) (r : Row) {c d : ℕ} {w x : Bytes} → not put ≡ false → Laid b 1 (1 ∷ []) u c w → Laid c (length (fitted r) + 1) (pieceBytes (fitted r)) w d x
+      → Laid 0 (length (oneMutation (record { key = k; row = when put r }))) (oneMutation (record { key = k; row = when put r })) s d x
+  unfolding oneMutation digits
+  put-laid true r h three four = laid-as (laid-then one (laid-then two (laid-then three four))) refl
+  put-laid false r h three four = absurd (true≢false h)

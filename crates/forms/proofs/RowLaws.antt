@@ -16,7 +16,7 @@ use Rattle.forms.specs.Row.{Row, integers, texts, fields, rowForm}
 use Rattle.forms.specs.Places.{restOf, RestAt, PartAt}
 use Rattle.forms.specs.declared.part.Part.{Part}
 use Rattle.forms.specs.declared.row.Rest.{Rest}
-use Rattle.forms.proofs.ReadLaws.{after, byte-none, byte-at, stretch-good, stretch-short, upTo-none, upTo-many, upTo-good, readMore, times-bad, times-more, isEmpty, end-at, reads-bad, reads-good, part-reads}
+use Rattle.forms.proofs.ReaderLaws.{after, byte-none, byte-at, stretch-good, stretch-short, upTo-none, upTo-many, upTo-good, readMore, times-bad, times-more, isEmpty, end-at, reads-bad, reads-good, part-reads}
 
 abbrev noRest : Rest
 noRest = record { ok = false; at = 0 }
@@ -169,11 +169,11 @@ module _ (s : Bytes) (l : 2 ≤ length s) (h : length s ≤ 255) where
 
 -- "Length 2 to 255"
 pub record RowBounds (r : Row) : Type 0 where
-  pub long : 2 ≤ length r
+  pub length-is : 2 ≤ length r
   pub short : length r ≤ 255
 
 pub row-bounds : (r : Row) → rowForm r ≡ true → RowBounds r
 unfolding rowForm
 row-bounds r h =
     let g : leb 2 (length r) && leb (length r) 255 ≡ true = and-left _ _ h in
-    record { long = leb-true _ _ (and-left _ _ g); short = leb-true _ _ (and-right (leb 2 (length r)) _ g) }
+    record { length-is = leb-true _ _ (and-left _ _ g); short = leb-true _ _ (and-right (leb 2 (length r)) _ g) }

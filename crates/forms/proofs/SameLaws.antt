@@ -12,7 +12,7 @@ use Rattle.forms.proofs.Orders.{eqBytes-refl, eqBytes-true}
 
 -- as long, and the same from n on
 pub record Alike (a b : List ℕ) (n : ℕ) : Type 0 where
-  pub long : length a ≡ length b
+  pub length-is : length a ≡ length b
   pub low : n ≤ length a
   pub rest : drop n a ≡ drop n b
 
@@ -21,7 +21,7 @@ module _ (a b : List ℕ) where
   alike-start e =
       let h : length a ≤ length a = omega arith in
       let g : length b ≤ length a = omega arith in
-      record { long = e; low = h; rest = drop-of-length-le a h ∙ sym (drop-of-length-le b g) }
+      record { length-is = e; low = h; rest = drop-of-length-le a h ∙ sym (drop-of-length-le b g) }
 
   pub unlike : (a ≡ b → ⊥) → false ≡ eqBytes a b
   unlike n = go (eqBytes a b) refl
@@ -33,11 +33,11 @@ module _ (a b : List ℕ) where
   module _ {n : ℕ} (v : Alike a b n) where
     pub alike-more : 0 < n → getD a (n - 1) 0 ≡ getD b (n - 1) 0 → Alike a b (n - 1)
     alike-more h e = record {
-      long = v .long;
+      length-is = v .length-is;
       low = omega (arith, v .low);
       rest =
           drop-cons a (n - 1) 0 (omega (arith, v .low)) ∙ ap₂ (λ (x : ℕ) (l : List ℕ). x ∷ l) e tail
-          ∙ sym (drop-cons b (n - 1) 0 (omega (arith, v .low, v .long)));
+          ∙ sym (drop-cons b (n - 1) 0 (omega (arith, v .low, v .length-is)));
     }
       where
         next : suc (n - 1) ≡ n

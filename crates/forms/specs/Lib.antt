@@ -1,3 +1,4 @@
+-- The definitions of `forms`, in the order in which they build on each other.
 pub mod Bytes
 pub mod Readers
 pub mod Numbers
@@ -5,5 +6,5 @@ pub mod Key
 pub mod Row
 pub mod Batch
 pub mod Ones
-pub mod Appends
+pub mod Writers
 pub mod Places

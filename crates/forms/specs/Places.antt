@@ -3,14 +3,14 @@
 use Prim.Native.Nat.{ℕ, _+_, _≤_, _<_, _^_}
 use mathlib.Core.Path.{_≡_}
 use mathlib.Core.Bool.{Bool, true, false, not}
-use mathlib.Core.List.{List, [], _∷_, _++_}
+use mathlib.Core.List.{List}
 use mathlib.Core.Option.{Option, none, some}
 use lib.ListN.{length, drop, replicate}
-use lib.Dec.{leb, eqb}
+use lib.Dec.{eqb}
 use Rattle.seqs.specs.Tables.{Table, shown}
 use Rattle.forms.specs.Bytes.{Bytes, bytesAt, ltBytes}
 use Rattle.forms.specs.Readers.{Read, Reader, when, times, piece, whole}
-use Rattle.forms.specs.Numbers.{number, numberOf, digits}
+use Rattle.forms.specs.Numbers.{numberOf}
 use Rattle.forms.specs.Key.{Key}
 use Rattle.forms.specs.Row.{integers, texts}
 use Rattle.forms.specs.Batch.{Mutation, keyIn, mutation, above, ascend}
@@ -30,15 +30,6 @@ found s ok x next = when ok (record { got = x; rest = drop next s })
 pub record NumberAt (w : ℕ) (s : Bytes) (at : ℕ) (r : Number) : Type 0 where
   pub is : numberOf w (drop at s) ≡ found s (r .ok) (r .value) (at + w)
   pub small : r .value < 256 ^ w
-
--- the front of s written over
-abbrev pub putIf : Bool → Bytes → Bytes → Bytes
-putIf true b s = b ++ drop (length b) s
-putIf false b s = s
-
-pub record PutNumber (w v : ℕ) (s : Bytes) (r : Bool) (s′ : Bytes) : Type 0 where
-  pub fits : r ≡ leb w (length s)
-  pub is : s′ ≡ putIf r (digits w v) s
 
 -- ---- a length byte and its bytes
 

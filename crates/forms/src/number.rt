@@ -1,7 +1,7 @@
-// "Numbers are big-endian": read at a place and written at the front of a buffer, at 2, 4 and 8 bytes, proved once over the width.
+// "Numbers are big-endian": read at a place, at 2, 4 and 8 bytes, proved once over the width.
 ghost use mathlib.Core.Path.{_≡_};
 ghost use Rattle.forms.specs.Numbers.{widthOf};
-ghost use Rattle.forms.specs.Places.{NumberAt, PutNumber};
+ghost use Rattle.forms.specs.Places.{NumberAt};
 
 // The widths that the forms use.
 pub enum Width {
@@ -50,22 +50,4 @@ pub fn number_at(s: &[u8], at: usize, width: Width) -> Number
         i += 1;
     }
     Number { ok: true, value }
-}
-
-// Writes the number's lowest bytes over the front of the buffer; a buffer that is too short stays as it was.
-pub fn put_number(out: &mut [u8], width: Width, value: u64) -> bool
-    ensures { λ r. ⌜ PutNumber (widthOf width) value (now (out .entry)) r (now (out .exit)) ⌝ }
-{
-    let w = bytes_in(width);
-    if out.len() < w {
-        return false;
-    }
-    let mut i = w;
-    let mut v = value;
-    while 0 < i {
-        i -= 1;
-        out[i] = (v % 256) as u8;
-        v = v / 256;
-    }
-    true
 }

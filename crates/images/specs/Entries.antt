@@ -18,20 +18,20 @@ use Rattle.forms.specs.declared.part.Part.{Part}
 use Rattle.images.specs.declared.entries.Section.{Section}
 use Rattle.images.specs.declared.entries.Section.the-variants.{Default, Lock, Write}
 use Rattle.images.specs.declared.entries.Tail.{Tail}
-use Rattle.images.specs.declared.entries.Entry.{Entry}
+use Rattle.images.specs.declared.entries.ImageEntry.{ImageEntry}
 
 -- an entry as it stands; the kind is the number that stands there
 pub record Raw : Type 0 where
   pub key : Key
-  pub one : ℕ
+  pub first : ℕ
   pub piece : Bytes
-  pub two : ℕ
-  pub three : ℕ
+  pub second : ℕ
+  pub third : ℕ
   pub kind : ℕ
 
 pub record End : Type 0 where
-  pub two : ℕ
-  pub three : ℕ
+  pub second : ℕ
+  pub third : ℕ
   pub kind : ℕ
 
 abbrev pub hasPiece : Section → Bool
@@ -54,10 +54,10 @@ tailFrom = do
   b ← numberOf 8
   c ← numberOf 8
   n ← byte
-  just (record { two = b; three = c; kind = n })
+  just (record { second = b; third = c; kind = n })
 
 abbrev pub noEnd : End
-noEnd = record { two = 0; three = 0; kind = 0 }
+noEnd = record { second = 0; third = 0; kind = 0 }
 
 unfoldable pub entryFrom : Section → Reader Raw
 entryFrom section = do
@@ -65,10 +65,10 @@ entryFrom section = do
   n ← numberOf 8
   p ← orElse (hasPiece section) piece []
   t ← orElse (hasTail section) tailFrom noEnd
-  just (record { key = k; one = n; piece = p; two = t .two; three = t .three; kind = t .kind })
+  just (record { key = k; first = n; piece = p; second = t .second; third = t .third; kind = t .kind })
 
 abbrev pub noRaw : Raw
-noRaw = record { key = []; one = 0; piece = []; two = 0; three = 0; kind = 0 }
+noRaw = record { key = []; first = 0; piece = []; second = 0; third = 0; kind = 0 }
 
 abbrev pub rawOr : Option (Read Raw) → Raw
 rawOr none = noRaw
@@ -87,7 +87,7 @@ pub record PieceAt (section : Section) (s : Bytes) (at : ℕ) (r : Part) : Type 
   pub from : not (r .ok) ≡ false → (at ≤ r .at) × (r .at ≤ at + 1)
 
 abbrev pub endOf : Tail → End
-endOf t = record { two = t .two; three = t .three; kind = t .kind }
+endOf t = record { second = t .second; third = t .third; kind = t .kind }
 
 pub record TailAt (has : Bool) (s : Bytes) (at : ℕ) (r : Tail) : Type 0 where
   pub is : orElse has tailFrom noEnd (drop at s) ≡ found s (r .ok) (endOf r) (r .next)
@@ -95,27 +95,27 @@ pub record TailAt (has : Bool) (s : Bytes) (at : ℕ) (r : Tail) : Type 0 where
   pub from : not (r .ok) ≡ false → (at ≤ r .next) × (r .next ≤ at + 17)
 
 abbrev pub noTail : Tail
-noTail = record { ok = false; two = 0; three = 0; kind = 0; next = 0 }
+noTail = record { ok = false; second = 0; third = 0; kind = 0; next = 0 }
 
-abbrev pub rawOf : Bytes → Entry → Raw
+abbrev pub rawOf : Bytes → ImageEntry → Raw
 rawOf s e = record {
   key = bytesAt s (e .at) (e .len);
-  one = e .one;
-  piece = bytesAt s (e .pat) (e .plen);
-  two = e .two;
-  three = e .three;
+  first = e .first;
+  piece = bytesAt s (e .pieceat) (e .piecelen);
+  second = e .second;
+  third = e .third;
   kind = e .kind;
 }
 
-pub record EntryAt (section : Section) (s : Bytes) (at : ℕ) (r : Entry) : Type 0 where
+pub record EntryAt (section : Section) (s : Bytes) (at : ℕ) (r : ImageEntry) : Type 0 where
   pub is : entryFrom section (drop at s) ≡ found s (r .ok) (rawOf s r) (r .next)
   pub raw : rawOf s r ≡ rawAt section s at
   pub key-in : r .at + r .len ≤ length s
-  pub piece-in : r .pat + r .plen ≤ length s
+  pub piece-in : r .pieceat + r .piecelen ≤ length s
   pub next-in : r .next ≤ length s
   pub key-small : r .len ≤ 255
-  pub piece-small : r .plen ≤ 255
-  pub from : not (r .ok) ≡ false → (at + (r .len + r .plen) + 9 ≤ r .next) × (r .next ≤ at + (r .len + r .plen) + 27)
+  pub piece-small : r .piecelen ≤ 255
+  pub from : not (r .ok) ≡ false → (at + (r .len + r .piecelen) + 9 ≤ r .next) × (r .next ≤ at + (r .len + r .piecelen) + 27)
 
-abbrev pub noEntry : Entry
-noEntry = record { ok = false; at = 0; len = 0; one = 0; pat = 0; plen = 0; two = 0; three = 0; kind = 0; next = 0 }
+abbrev pub noEntry : ImageEntry
+noEntry = record { ok = false; at = 0; len = 0; first = 0; pieceat = 0; piecelen = 0; second = 0; third = 0; kind = 0; next = 0 }

@@ -36,8 +36,8 @@ fn piece_at(s: &[u8], at: usize, section: Section) -> Part
 // The end of a lock or a write: two numbers, a kind, and where the next entry begins; not ok, and zeros, where there is none in form.
 pub struct Tail {
     pub ok: bool,
-    pub two: u64,
-    pub three: u64,
+    pub second: u64,
+    pub third: u64,
     pub kind: u8,
     pub next: usize,
 }
@@ -47,8 +47,8 @@ fn no_tail() -> Tail
 {
     Tail {
         ok: false,
-        two: 0,
-        three: 0,
+        second: 0,
+        third: 0,
         kind: 0,
         next: 0,
     }
@@ -57,12 +57,12 @@ fn no_tail() -> Tail
 fn numbers_at(s: &[u8], at: usize) -> Tail
     ensures { λ r. ⌜ TailAt true (now (s .entry)) at r ⌝ }
 {
-    let two = number_at(s, at, Width::Eight);
-    if !two.ok {
+    let second = number_at(s, at, Width::Eight);
+    if !second.ok {
         return no_tail();
     }
-    let three = number_at(s, at + 8, Width::Eight);
-    if !three.ok {
+    let third = number_at(s, at + 8, Width::Eight);
+    if !third.ok {
         return no_tail();
     }
     let b = at + 16;
@@ -71,8 +71,8 @@ fn numbers_at(s: &[u8], at: usize) -> Tail
     }
     Tail {
         ok: true,
-        two: two.value,
-        three: three.value,
+        second: second.value,
+        third: third.value,
         kind: s[b],
         next: b + 1,
     }
@@ -86,8 +86,8 @@ fn tail_at(s: &[u8], at: usize, section: Section) -> Tail
     match section {
         Section::Default => Tail {
             ok: true,
-            two: 0,
-            three: 0,
+            second: 0,
+            third: 0,
             kind: 0,
             next: at,
         },
@@ -98,37 +98,37 @@ fn tail_at(s: &[u8], at: usize, section: Section) -> Tail
 
 // An entry: where its key and its piece lie, the number after its key, the two after its piece, its kind, and where the next entry begins;
 // not ok, and zeros, where there is none in form.
-pub struct Entry {
+pub struct ImageEntry {
     pub ok: bool,
     pub at: usize,
     pub len: usize,
-    pub one: u64,
-    pub pat: usize,
-    pub plen: usize,
-    pub two: u64,
-    pub three: u64,
+    pub first: u64,
+    pub pieceat: usize,
+    pub piecelen: usize,
+    pub second: u64,
+    pub third: u64,
     pub kind: u8,
     pub next: usize,
 }
 
-pub fn no_entry() -> Entry
+pub fn no_entry() -> ImageEntry
     ensures { λ r. ⌜ r ≡ noEntry ⌝ }
 {
-    Entry {
+    ImageEntry {
         ok: false,
         at: 0,
         len: 0,
-        one: 0,
-        pat: 0,
-        plen: 0,
-        two: 0,
-        three: 0,
+        first: 0,
+        pieceat: 0,
+        piecelen: 0,
+        second: 0,
+        third: 0,
         kind: 0,
         next: 0,
     }
 }
 
-pub fn entry_at(s: &[u8], at: usize, section: Section) -> Entry
+pub fn entry_at(s: &[u8], at: usize, section: Section) -> ImageEntry
     ensures { λ r. ⌜ EntryAt section (now (s .entry)) at r ⌝ }
 {
     let k = part_at(s, at);
@@ -148,15 +148,15 @@ pub fn entry_at(s: &[u8], at: usize, section: Section) -> Entry
     if !t.ok {
         return no_entry();
     }
-    Entry {
+    ImageEntry {
         ok: true,
         at: k.at,
         len: k.len,
-        one: n.value,
-        pat: p.at,
-        plen: p.len,
-        two: t.two,
-        three: t.three,
+        first: n.value,
+        pieceat: p.at,
+        piecelen: p.len,
+        second: t.second,
+        third: t.third,
         kind: t.kind,
         next: t.next,
     }

@@ -1,5 +1,5 @@
--- A batch in two passes: every entry is checked on the box as it came, and then each is applied in its turn. Said once, over a check that
--- depends only on what stands at the entry's key, and an apply that changes nothing at another key: what was allowed on the box as it came
+-- A batch in two passes: every entry is checked on the box before the call, and then each is applied in its turn. Said once, over a check that
+-- depends only on what stands at the entry's key, and an apply that changes nothing at another key: what was allowed on the box before the call
 -- is allowed in its turn, and what one entry keeps the whole batch keeps. Assumes nothing.
 use Prim.Native.Nat.{ℕ}
 use mathlib.Core.Path.{_≡_, refl, _∙_}
@@ -16,7 +16,7 @@ use Rattle.rules.specs.Box.{Box}
 use Rattle.laws.proofs.StepLaws.{then-left, then-right}
 use Rattle.laws.proofs.FrameLaws.{Same, same-refl, same-trans, Apart, ascend-apart, ascend-rest}
 
--- every entry on the box as it came
+-- every entry on the box before the call
 unfoldable pub checkAll : {A : Type 0} → (Box → A → Answer) → Box → List A → Answer
 checkAll check b [] = Accepted
 checkAll check b (x ∷ xs) = check b x ▸ checkAll check b xs

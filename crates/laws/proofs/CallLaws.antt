@@ -13,8 +13,9 @@ use Rattle.rules.specs.Answers.{_▸_, need}
 use Rattle.rules.specs.Box.{Box, fresh}
 use Rattle.rules.specs.Room.{roomFor, fits, loadOf, sumOf}
 use Rattle.rules.specs.Calls.{nonEmpty, zeroStep}
-use Rattle.rules.specs.Prewrite.{Head, headStep, prewriteEntries, prewriteRoom, prewriteSteps, applyPrewrites, prewriteAll, prewriteBatch}
-use Rattle.rules.specs.Commit.{Ending, commitSteps, applyCommits, commitAll, commitBatch}
+use Rattle.rules.specs.Prewrite.{PrewriteTerms, prewriteTermsStep, prewriteEntries, prewriteRoom, prewriteSteps, applyPrewrites, prewriteAll, prewriteBatch}
+use Rattle.rules.specs.declared.terms.CommitTerms.{CommitTerms}
+use Rattle.rules.specs.Commit.{commitSteps, applyCommits, commitAll, commitBatch}
 use Rattle.rules.specs.Rollback.{rollbackKeys, rollbackRoom, rollbackSteps, applyRollbacks, rollbackAll, rollbackBatch}
 use Rattle.rules.specs.OneStep.{stepEntries, newestStep, stepNew, applySteps, stepApplied, stepArguments, allApplied, someApplied, stepDone, stepAll, oneStep, ofCounted}
 use Rattle.laws.proofs.StepLaws.{then-left, then-right, need-true}
@@ -32,10 +33,10 @@ fresh-room = refl
 
 -- ---- what the steps of a call say where they pass
 
-pub prewrite-steps : (h : Head) (ms : List Mutation) (b : Box) → prewriteSteps h ms b ≡ Accepted → (headStep h ≡ Accepted) × (prewriteEntries h b ms ≡ Accepted) × (roomFor (applyPrewrites h ms b) ≡ true)
+pub prewrite-steps : (h : PrewriteTerms) (ms : List Mutation) (b : Box) → prewriteSteps h ms b ≡ Accepted → (prewriteTermsStep h ≡ Accepted) × (prewriteEntries h b ms ≡ Accepted) × (roomFor (applyPrewrites h ms b) ≡ true)
 unfolding prewriteSteps prewriteRoom
 prewrite-steps h ms b p =
-    let q = then-right (headStep h) _ p in
+    let q = then-right (prewriteTermsStep h) _ p in
     (then-left _ _ p, then-left _ _ q, need-true _ _ (then-right (prewriteEntries h b ms) _ q))
 
 pub rollback-steps : (txn start : ℕ) (ks : List Key) (b : Box) → rollbackSteps txn start ks b ≡ Accepted → (zeroStep txn start ≡ Accepted) × (rollbackKeys txn start b ks ≡ Accepted) × (roomFor (applyRollbacks start ks b) ≡ true)
@@ -44,7 +45,7 @@ rollback-steps txn start ks b p =
     let q = then-right (zeroStep txn start) _ p in
     (then-left _ _ p, then-left _ _ q, need-true _ _ (then-right (rollbackKeys txn start b ks) _ q))
 
-pub step-new : (h : Ending) (ms : List Mutation) (b : Box) → stepNew h ms b ≡ Accepted → (stepEntries h b ms ≡ Accepted) × (newestStep h b ms ≡ Accepted) × (roomFor (applySteps h ms b) ≡ true)
+pub step-new : (h : CommitTerms) (ms : List Mutation) (b : Box) → stepNew h ms b ≡ Accepted → (stepEntries h b ms ≡ Accepted) × (newestStep h b ms ≡ Accepted) × (roomFor (applySteps h ms b) ≡ true)
 unfolding stepNew
 step-new h ms b p =
     let q = then-right (stepEntries h b ms) _ p in
@@ -52,8 +53,8 @@ step-new h ms b p =
 
 -- ---- the order
 
--- what holds of the box as it came, and of the box of a first application, holds after a one-step call
-pub stepDone-keeps : (P : Box → Type 0) (h : Ending) (ms : List Mutation) (b : Box) → P b → (stepArguments h ms b ≡ Accepted → stepNew h ms b ≡ Accepted → P (applySteps h ms b)) → P (stepDone h ms b .box)
+-- what holds of the box before the call, and of the box of a first application, holds after a one-step call
+pub stepDone-keeps : (P : Box → Type 0) (h : CommitTerms) (ms : List Mutation) (b : Box) → P b → (stepArguments h ms b ≡ Accepted → stepNew h ms b ≡ Accepted → P (applySteps h ms b)) → P (stepDone h ms b .box)
 unfolding stepDone stepApplied
 stepDone-keeps P h ms b p q = then-keeps P (stepArguments h ms b) b (stepApplied (allApplied h b ms) h ms b) p (λ a. go a (allApplied h b ms))
   where
@@ -61,7 +62,7 @@ stepDone-keeps P h ms b p q = then-keeps P (stepArguments h ms b) b (stepApplied
     go a true = p
     go a false = settle-keeps P (need (not (someApplied h b ms)) 9 ▸ stepNew h ms b) (applySteps h ms b) b p (λ r. q a (then-right (need (not (someApplied h b ms)) 9) _ r))
 
-pub oneStep-keeps : (P : Box → Type 0) (h : Ending) (s : Bytes) (b : Box) → P b → ((ms : List Mutation) → mutations s ≡ some ms → P (stepDone h ms b .box)) → P (oneStep h s b .done .box)
+pub oneStep-keeps : (P : Box → Type 0) (h : CommitTerms) (s : Bytes) (b : Box) → P b → ((ms : List Mutation) → mutations s ≡ some ms → P (stepDone h ms b .box)) → P (oneStep h s b .done .box)
 unfolding oneStep ofCounted stepAll
 oneStep-keeps P h s b p q = go (mutations s) refl
   where
@@ -71,19 +72,19 @@ oneStep-keeps P h s b p q = go (mutations s) refl
 
 -- ---- the room
 
-pub prewriteAll-room : (h : Head) (ms : List Mutation) (b : Box) → roomFor b ≡ true → roomFor (prewriteAll h ms b .box) ≡ true
+pub prewriteAll-room : (h : PrewriteTerms) (ms : List Mutation) (b : Box) → roomFor b ≡ true → roomFor (prewriteAll h ms b .box) ≡ true
 unfolding prewriteAll
 prewriteAll-room h ms b r = settle-keeps HasRoom (need (nonEmpty ms) 5 ▸ prewriteSteps h ms b) (applyPrewrites h ms b) b r (λ p. prewrite-steps h ms b (then-right (need (nonEmpty ms) 5) _ p) .2)
 
-pub prewriteBatch-room : (h : Head) (s : Bytes) (b : Box) → roomFor b ≡ true → roomFor (prewriteBatch h s b .box) ≡ true
+pub prewriteBatch-room : (h : PrewriteTerms) (s : Bytes) (b : Box) → roomFor b ≡ true → roomFor (prewriteBatch h s b .box) ≡ true
 unfolding prewriteBatch
 prewriteBatch-room h s b r = ofBatch-keeps HasRoom (mutations s) (prewriteAll h) b r (λ ms e. prewriteAll-room h ms b r)
 
-pub commitAll-room : (h : Ending) (ks : List Key) (b : Box) → roomFor b ≡ true → roomFor (commitAll h ks b .box) ≡ true
+pub commitAll-room : (h : CommitTerms) (ks : List Key) (b : Box) → roomFor b ≡ true → roomFor (commitAll h ks b .box) ≡ true
 unfolding commitAll
 commitAll-room h ks b r = settle-keeps HasRoom (need (nonEmpty ks) 5 ▸ commitSteps h ks b) (applyCommits h ks b) b r (λ p. commits-room h ks b r)
 
-pub commitBatch-room : (h : Ending) (s : Bytes) (b : Box) → roomFor b ≡ true → roomFor (commitBatch h s b .box) ≡ true
+pub commitBatch-room : (h : CommitTerms) (s : Bytes) (b : Box) → roomFor b ≡ true → roomFor (commitBatch h s b .box) ≡ true
 unfolding commitBatch
 commitBatch-room h s b r = ofBatch-keeps HasRoom (keys s) (commitAll h) b r (λ ks e. commitAll-room h ks b r)
 
@@ -96,5 +97,5 @@ module _ (txn start : ℕ) where
   unfolding rollbackBatch
   rollbackBatch-room s b r = ofBatch-keeps HasRoom (keys s) (rollbackAll txn start) b r (λ ks e. rollbackAll-room ks b r)
 
-pub oneStep-room : (h : Ending) (s : Bytes) (b : Box) → roomFor b ≡ true → roomFor (oneStep h s b .done .box) ≡ true
+pub oneStep-room : (h : CommitTerms) (s : Bytes) (b : Box) → roomFor b ≡ true → roomFor (oneStep h s b .done .box) ≡ true
 oneStep-room h s b r = oneStep-keeps HasRoom h s b r (λ ms e. stepDone-keeps HasRoom h ms b r (λ v p. step-new h ms b p .2))

@@ -18,7 +18,8 @@ use Rattle.rules.specs.Box.{Box, Lock, Finished, KeyLine, holderOf, recordsOf, 
 use Rattle.rules.specs.Room.{loadOf, roomFor}
 use Rattle.rules.specs.Sound.{allSound}
 use Rattle.rules.specs.Calls.{owns, allBelow, lockAt, kindReady, stampedAt, recordFor}
-use Rattle.rules.specs.Commit.{Ending, withStart, putHasRow, commitLock, commitStep, commitKey, commitKeys, commitTo, applyCommit, applyCommits}
+use Rattle.rules.specs.declared.terms.CommitTerms.{CommitTerms}
+use Rattle.rules.specs.Commit.{withStart, putHasRow, commitLock, commitStep, commitKey, commitKeys, commitTo, applyCommit, applyCommits}
 use Rattle.laws.specs.Adds.{plus, recordLoad, ofLock, linesLoad, ifNew, ifLocked, commitAdds, commitFrees}
 use Rattle.laws.proofs.StepLaws.{then-left, then-right, need-true, own-true, and-left, and-right, not-true}
 use Rattle.laws.proofs.BoxOrder.{ordered-record, ordered-dropLock, order-lines, order-defaults, in-order}
@@ -29,17 +30,17 @@ use Rattle.laws.proofs.LoadLaws.{load-eq, load-fields, plus-none, none-
 use Rattle.laws.proofs.BatchLaws as batch
 
 -- the box where a key's lock is committed
-abbrev pub committed : Ending → Key → Lock → Box → Box
+abbrev pub committed : CommitTerms → Key → Lock → Box → Box
 committed h k l b = record { lines = insertLine (record { key = k; line = Finished (recordFor (l .start) (h .commit) (l .kind)) }) (dropLock k (b .lines)); defaults = b .defaults }
 
 -- ---- what the steps of a key say where they pass
 
-pub record CommitPassed (h : Ending) (b : Box) (k : Key) : Type 0 where
+pub record CommitPassed (h : CommitTerms) (b : Box) (k : Key) : Type 0 where
   pub key : keyForm k ≡ true
   pub sound : allSound (recordsOf k (b .lines)) ≡ true
   pub step : commitStep h (recordsOf k (b .lines)) (rowOf k (h .start) (b .defaults)) (lockOf k (b .lines)) (withStart (h .start) (recordsOf k (b .lines))) ≡ Accepted
 
-pub commit-passed : (h : Ending) (b : Box) (k : Key) → commitKey h b k ≡ Accepted → CommitPassed h b k
+pub commit-passed : (h : CommitTerms) (b : Box) (k : Key) → commitKey h b k ≡ Accepted → CommitPassed h b k
 unfolding commitKey
 commit-passed h b k p =
     let p₁ = then-right (need (keyForm k) 1) _ p in
@@ -50,13 +51,13 @@ commit-passed h b k p =
     }
 
 -- either the key has its record already, and nothing changes; or its own lock stands, and is committed
-pub data CommitWay (h : Ending) (b : Box) (k : Key) : Type 0 where
+pub data CommitWay (h : CommitTerms) (b : Box) (k : Key) : Type 0 where
   commit-replay : (w : Record) → withStart (h .start) (recordsOf k (b .lines)) ≡ some w → eqKind (w .kind) Rollback ≡ false → w .commit ≡ h .commit
       → lockAt (h .start) (lockOf k (b .lines)) ≡ false → putHasRow (w .kind) (rowOf k (h .start) (b .defaults)) ≡ true → applyCommit h k b ≡ b → CommitWay h b k
   commit-first : (l : Lock) → withStart (h .start) (recordsOf k (b .lines)) ≡ none → lockOf k (b .lines) ≡ some l → l .txn ≡ h .txn → l .start ≡ h .start
       → allBelow (h .commit) (recordsOf k (b .lines)) ≡ true → kindReady (l .kind) (rowOf k (h .start) (b .defaults)) ≡ true → applyCommit h k b ≡ committed h k l b → CommitWay h b k
 
-module _ (h : Ending) (b : Box) (k : Key) where
+module _ (h : CommitTerms) (b : Box) (k : Key) where
   replayed : (w : Record) → withStart (h .start) (recordsOf k (b .lines)) ≡ some w
       → commitStep h (recordsOf k (b .lines)) (rowOf k (h .start) (b .defaults)) (lockOf k (b .lines)) (some w) ≡ Accepted → CommitWay h b k
   unfolding commitStep applyCommit commitTo
@@ -90,13 +91,13 @@ module _ (h : Ending) (b : Box) (k : Key) where
 
 -- ---- what a key's commit makes of the box
 
-pub commit-old : (h : Ending) (k : Key) (b : Box) (w : Record) → withStart (h .start) (recordsOf k (b .lines)) ≡ some w → applyCommit h k b ≡ b
+pub commit-old : (h : CommitTerms) (k : Key) (b : Box) (w : Record) → withStart (h .start) (recordsOf k (b .lines)) ≡ some w → applyCommit h k b ≡ b
 unfolding applyCommit commitTo
 commit-old h k b w e = rw e
 
 -- ---- other keys, and the rows of every key
 
-pub commit-only : (h : Ending) (t : ℕ) → batch.Only (λ (k : Key). k) t (applyCommit h)
+pub commit-only : (h : CommitTerms) (t : ℕ) → batch.Only (λ (k : Key). k) t (applyCommit h)
 unfolding applyCommit commitTo
 commit-only h t k b i a = go (withStart (h .start) (recordsOf k (b .lines))) (lockOf k (b .lines))
   where
@@ -105,13 +106,13 @@ commit-only h t k b i a = go (withStart (h .start) (recordsOf k (b .lines))) (lo
     go none none = same-refl b i t
     go none (some l) = same-replace b i t k (record { key = k; line = Finished (recordFor (l .start) (h .commit) (l .kind)) }) a a
 
-pub commit-depends : (h : Ending) → batch.Depends (λ (k : Key). k) (h .start) (commitKey h)
+pub commit-depends : (h : CommitTerms) → batch.Depends (λ (k : Key). k) (h .start) (commitKey h)
 unfolding commitKey
 commit-depends h b c k v = rw (v .records, v .lock, v .row)
 
 -- ---- its own key: the record has come, and the lock has gone
 
-module _ (h : Ending) (k : Key) (l : Lock) (b : Box) (o : inOrder b ≡ true) where
+module _ (h : CommitTerms) (k : Key) (l : Lock) (b : Box) (o : inOrder b ≡ true) where
   pub committed-records : allBelow (h .commit) (recordsOf k (b .lines)) ≡ true → recordsOf k (committed h k l b .lines) ≡ recordsOf k (b .lines) ++ (recordFor (l .start) (h .commit) (l .kind) ∷ [])
   committed-records a =
       records-new k (recordFor (l .start) (h .commit) (l .kind)) (dropLock k (b .lines)) (ordered-dropLock k (b .lines) (order-lines b o))
@@ -126,7 +127,7 @@ module _ (h : Ending) (k : Key) (l : Lock) (b : Box) (o : inOrder b ≡ true) wh
       in-order _ _ (ordered-record k (recordFor (l .start) (h .commit) (l .kind)) (dropLock k (b .lines)) (ap (stampedAt (h .commit)) (records-dropLock k k (b .lines)) ∙ below-stamped (h .commit) (recordsOf k (b .lines)) a)
       (ordered-dropLock k (b .lines) (order-lines b o))) (order-defaults b o)
 
-pub commit-order : (h : Ending) (k : Key) (b : Box) → commitKey h b k ≡ Accepted → inOrder b ≡ true → inOrder (applyCommit h k b) ≡ true
+pub commit-order : (h : CommitTerms) (k : Key) (b : Box) → commitKey h b k ≡ Accepted → inOrder b ≡ true → inOrder (applyCommit h k b) ≡ true
 commit-order h k b p o = go (commit-way h b k p)
   where
     go : CommitWay h b k → inOrder (applyCommit h k b) ≡ true
@@ -135,7 +136,7 @@ commit-order h k b p o = go (commit-way h b k p)
 
 -- ---- room: a line replaces a line, and live bytes fall by the primary
 
-pub commit-load : (h : Ending) (k : Key) (b : Box) → plus (loadOf b) (commitAdds h b k) ≡ plus (commitFrees h b k) (loadOf (applyCommit h k b))
+pub commit-load : (h : CommitTerms) (k : Key) (b : Box) → plus (loadOf b) (commitAdds h b k) ≡ plus (commitFrees h b k) (loadOf (applyCommit h k b))
 unfolding applyCommit commitTo commitAdds commitFrees ifNew ifLocked ofLock
 commit-load h k b = go (withStart (h .start) (recordsOf k (b .lines))) (lockOf k (b .lines)) refl
   where
@@ -150,7 +151,7 @@ commit-load h k b = go (withStart (h .start) (recordsOf k (b .lines))) (lockOf k
         let q = load-fields (load-parts (insertLine x (dropLock k (b .lines))) (b .defaults)) in
         load-eq (plus (loadOf b) (recordLoad k)) (plus (ofLock k (some l)) (loadOf (committed h k l b))) (omega arith)
 
-pub commit-less : (h : Ending) (k : Key) (b : Box) → AtMost (loadOf (applyCommit h k b)) (loadOf b)
+pub commit-less : (h : CommitTerms) (k : Key) (b : Box) → AtMost (loadOf (applyCommit h k b)) (loadOf b)
 unfolding commitAdds commitFrees ifNew ifLocked ofLock
 commit-less h k b = at-most-freed (loadOf b) (commitAdds h b k) (commitFrees h b k) (loadOf (applyCommit h k b)) (commit-load h k b) (go (withStart (h .start) (recordsOf k (b .lines))) (lockOf k (b .lines)))
   where
@@ -159,28 +160,28 @@ commit-less h k b = at-most-freed (loadOf b) (commitAdds h b k) (commitFrees h b
     go none none = omega arith
     go none (some l) = omega arith
 
-pub commits-less : (h : Ending) (ks : List Key) (b : Box) → AtMost (loadOf (applyCommits h ks b)) (loadOf b)
+pub commits-less : (h : CommitTerms) (ks : List Key) (b : Box) → AtMost (loadOf (applyCommits h ks b)) (loadOf b)
 unfolding applyCommits
 commits-less h [] b = at-most-refl (loadOf b)
 commits-less h (k ∷ ks) b = at-most-trans (commits-less h ks (applyCommit h k b)) (commit-less h k b)
 
-pub commits-room : (h : Ending) (ks : List Key) (b : Box) → roomFor b ≡ true → roomFor (applyCommits h ks b) ≡ true
+pub commits-room : (h : CommitTerms) (ks : List Key) (b : Box) → roomFor b ≡ true → roomFor (applyCommits h ks b) ≡ true
 unfolding roomFor
 commits-room h ks b r = fits-less (loadOf (applyCommits h ks b)) (loadOf b) (commits-less h ks b) r
 
 -- ---- the batch
 
-pub commitKeys-all : (h : Ending) (b : Box) (ks : List Key) → commitKeys h b ks ≡ batch.checkAll (commitKey h) b ks
+pub commitKeys-all : (h : CommitTerms) (b : Box) (ks : List Key) → commitKeys h b ks ≡ batch.checkAll (commitKey h) b ks
 unfolding commitKeys batch.checkAll
 commitKeys-all h b [] = refl
 commitKeys-all h b (k ∷ ks) = rw (commitKeys-all h b ks)
 
-pub applyCommits-all : (h : Ending) (ks : List Key) (b : Box) → applyCommits h ks b ≡ batch.applyAll (applyCommit h) ks b
+pub applyCommits-all : (h : CommitTerms) (ks : List Key) (b : Box) → applyCommits h ks b ≡ batch.applyAll (applyCommit h) ks b
 unfolding applyCommits batch.applyAll
 applyCommits-all h [] b = refl
 applyCommits-all h (k ∷ ks) b = applyCommits-all h ks (applyCommit h k b)
 
-module _ (h : Ending) where
+module _ (h : CommitTerms) where
   pub commit-still : (k : Key) (ks : List Key) (b : Box) → ascend (λ k. k) (k ∷ ks) ≡ true → commitKeys h b (k ∷ ks) ≡ Accepted → commitKeys h (applyCommit h k b) ks ≡ Accepted
   commit-still k ks b a p =
       commitKeys-all h (applyCommit h k b) ks

@@ -14,8 +14,9 @@ use Rattle.rules.specs.declared.records.Kind.the-variants.{Rollback}
 use Rattle.rules.specs.Answers.{need}
 use Rattle.rules.specs.Box.{Box, Lock, Standing, Finished, KeyLine, Default, recordsOf, lockOf, before, rowBefore, insertLine, insertDefault, dropLock, dropRow}
 use Rattle.rules.specs.Calls.{kindOf, recordFor, rowArgument, stampedAt}
-use Rattle.rules.specs.Prewrite.{Head, lockFor, storeIf, lockLine, unlessLocked, applyPrewrite}
-use Rattle.rules.specs.Commit.{Ending, withStart, commitTo, applyCommit}
+use Rattle.rules.specs.Prewrite.{PrewriteTerms, lockFor, storeIf, lockLine, unlessLocked, applyPrewrite}
+use Rattle.rules.specs.declared.terms.CommitTerms.{CommitTerms}
+use Rattle.rules.specs.Commit.{withStart, commitTo, applyCommit}
 use Rattle.rules.specs.Rollback.{rollbackTo, applyRollback}
 use Rattle.rules.specs.OneStep.{argumentsStep, replaceIf, applyStep}
 use Rattle.rules.specs.Restore.{allGood}
@@ -70,7 +71,7 @@ module _ (p : Key → Bool) where
 
   -- ---- one entry
 
-  pub prewrite-keys : (h : Head) (m : Mutation) (b : Box) → p (m .key) ≡ true → keysAll p b ≡ true → keysAll p (applyPrewrite h m b) ≡ true
+  pub prewrite-keys : (h : PrewriteTerms) (m : Mutation) (b : Box) → p (m .key) ≡ true → keysAll p b ≡ true → keysAll p (applyPrewrite h m b) ≡ true
   unfolding applyPrewrite unlessLocked lockLine
   prewrite-keys h m b q a = go (lockOf (m .key) (b .lines))
     where
@@ -80,7 +81,7 @@ module _ (p : Key → Bool) where
           (stores (m .key) (h .start) (m .row) (b .defaults) q (keys-defaults b a))
       go (some l) = a
 
-  pub commit-keys : (h : Ending) (k : Key) (b : Box) → p k ≡ true → keysAll p b ≡ true → keysAll p (applyCommit h k b) ≡ true
+  pub commit-keys : (h : CommitTerms) (k : Key) (b : Box) → p k ≡ true → keysAll p b ≡ true → keysAll p (applyCommit h k b) ≡ true
   unfolding applyCommit commitTo
   commit-keys h k b q a = go (withStart (h .start) (recordsOf k (b .lines))) (lockOf k (b .lines))
     where
@@ -99,7 +100,7 @@ module _ (p : Key → Bool) where
           keys-both _ _ (line-comes (record { key = k; line = Finished (recordFor start start Rollback) }) (dropLock k (b .lines)) q (lock-goes k (b .lines) (keys-lines b a)))
           (row-goes k start (b .defaults) (keys-defaults b a))
 
-  pub step-keys : (h : Ending) (m : Mutation) (b : Box) → p (m .key) ≡ true → keysAll p b ≡ true → keysAll p (applyStep h m b) ≡ true
+  pub step-keys : (h : CommitTerms) (m : Mutation) (b : Box) → p (m .key) ≡ true → keysAll p b ≡ true → keysAll p (applyStep h m b) ≡ true
   unfolding applyStep
   step-keys h m b q a =
       keys-both _ _ (line-comes (record { key = m .key; line = Finished (recordFor (h .start) (h .commit) (kindOf (m .row))) }) (dropLock (m .key) (b .lines)) q (lock-goes (m .key) (b .lines) (keys-lines b a)))

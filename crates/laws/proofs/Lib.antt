@@ -1,3 +1,4 @@
+-- The laws of `laws`, in the order in which they build on each other.
 pub mod StepLaws
 pub mod ChainLaws
 pub mod SettleLaws
@@ -17,9 +18,9 @@ pub mod DefaultPlaces
 pub mod CommitLaws
 pub mod RollbackLaws
 pub mod OneStepLaws
-pub mod RestoreLaws
+pub mod ImageBoxLaws
 pub mod CallLaws
 pub mod Unrolled
-pub mod ReadLaws
+pub mod NewestFirstLaws
 pub mod KeysLaws
 pub mod Singles

@@ -1,5 +1,5 @@
 -- Loads: what a line or a default adds when it comes and frees when it goes; that a load that is less fits; and the load of the box that a
--- whole batch leaves, from the box as it came, over every check and apply.
+-- whole batch leaves, from the box before the call, over every check and apply.
 -- Assumes nothing.
 use Prim.Native.Nat.{ℕ, _+_, _≤_}
 use native.Mathlib.Omega.{arith}
@@ -190,7 +190,7 @@ module _ (b : Box) where
       let r = load-fields (defaults-dropRow k s (b .defaults) o) in
       load-eq (plus (ofRow k (rowOf k s (b .defaults))) (loadOf (mk (b .lines) (dropRow k s (b .defaults))))) (loadOf b) (omega arith)
 
--- ---- the whole batch, from the box as it came
+-- ---- the whole batch, from the box before the call
 
 pub sums-same : {A : Type 0} (key : A → Key) (s : ℕ) (f : Box → A → Load) → ((b c : Box) (x : A) → Same b c (key x) s → f c x ≡ f b x)
     → (k : Key) (xs : List A) (b c : Box) → Apart key k xs → ((i : Key) → eqBytes i k ≡ false → Same b c i s) → sumLoads (f c) xs ≡ sumLoads (f b) xs

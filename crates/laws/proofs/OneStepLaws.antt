@@ -20,7 +20,7 @@ use Rattle.rules.specs.Box.{Box, Lock, Finished, KeyLine, Default, holderOf, re
 use Rattle.rules.specs.Room.{loadOf, fits, roomFor}
 use Rattle.rules.specs.Sound.{allSound}
 use Rattle.rules.specs.Calls.{kindOf, owns, allBelow, stampedAt, recordFor}
-use Rattle.rules.specs.Commit.{Ending}
+use Rattle.rules.specs.declared.terms.CommitTerms.{CommitTerms}
 use Rattle.rules.specs.OneStep.{stepLock, stepEntry, stepEntries, newestStep, replaceIf, applyStep, applySteps}
 use Rattle.laws.specs.Adds.{plus, minus, sumLoads, recordLoad, rowLoad, ofRow, replacedBy, defaultsLoad, stepAdds, stepFrees}
 use Rattle.laws.proofs.StepLaws.{then-left, then-right, then-both, need-true, own-true, and-left, and-right, and-false}
@@ -35,16 +35,16 @@ use Rattle.laws.proofs.BatchLaws as batch
 
 -- "per entry, another's lock 7, own lock of other kind 9, unsound record 9, record at or above start 8; then per entry newest at or above
 -- commit 8", of one entry
-unfoldable pub stepCheck : Ending → Box → Mutation → Answer
+unfoldable pub stepCheck : CommitTerms → Box → Mutation → Answer
 stepCheck h b m = stepEntry h b m ▸ need (allBelow (h .commit) (recordsOf (m .key) (b .lines))) 8
 
-pub record StepPassed (h : Ending) (b : Box) (m : Mutation) : Type 0 where
+pub record StepPassed (h : CommitTerms) (b : Box) (m : Mutation) : Type 0 where
   pub lock : stepLock h (kindOf (m .row)) (lockOf (m .key) (b .lines)) ≡ Accepted
   pub sound : allSound (recordsOf (m .key) (b .lines)) ≡ true
   pub below : allBelow (h .start) (recordsOf (m .key) (b .lines)) ≡ true
   pub newest : allBelow (h .commit) (recordsOf (m .key) (b .lines)) ≡ true
 
-pub step-passed : (h : Ending) (b : Box) (m : Mutation) → stepCheck h b m ≡ Accepted → StepPassed h b m
+pub step-passed : (h : CommitTerms) (b : Box) (m : Mutation) → stepCheck h b m ≡ Accepted → StepPassed h b m
 unfolding stepCheck stepEntry
 step-passed h b m p =
     let e = then-left _ (need (allBelow (h .commit) (recordsOf (m .key) (b .lines))) 8) p in
@@ -57,7 +57,7 @@ step-passed h b m p =
     }
 
 -- a lock that stands is the call's own, and of the entry's kind
-pub step-own : (h : Ending) (kind : Kind) (l : Lock) → stepLock h kind (some l) ≡ Accepted → (l .txn ≡ h .txn) × (l .start ≡ h .start) × (l .kind ≡ kind)
+pub step-own : (h : CommitTerms) (kind : Kind) (l : Lock) → stepLock h kind (some l) ≡ Accepted → (l .txn ≡ h .txn) × (l .start ≡ h .start) × (l .kind ≡ kind)
 unfolding stepLock
 step-own h kind l p =
     let o : owns (h .txn) (h .start) l ≡ true = own-true _ _ (then-left _ _ p) in
@@ -82,19 +82,19 @@ unfolding replaceIf
 replace-other i k t s none ds h = refl
 replace-other i k t s (some r) ds h = row-other i t (record { key = k; start = s; row = r }) (dropRow k s ds) h ∙ row-dropRow i t k s ds h
 
-pub step-only : (h : Ending) (t : ℕ) → batch.Only keyIn t (applyStep h)
+pub step-only : (h : CommitTerms) (t : ℕ) → batch.Only keyIn t (applyStep h)
 unfolding applyStep
 step-only h t m b i a =
     let v = same-replace b i t (m .key) (record { key = m .key; line = Finished (recordFor (h .start) (h .commit) (kindOf (m .row))) }) a a in
     record { records = v .records; lock = v .lock; row = replace-other i (m .key) t (h .start) (m .row) (b .defaults) (and-false (eqBytes i (m .key)) (eqb t (h .start)) a) }
 
-pub step-depends : (h : Ending) → batch.Depends keyIn (h .start) (stepCheck h)
+pub step-depends : (h : CommitTerms) → batch.Depends keyIn (h .start) (stepCheck h)
 unfolding stepCheck stepEntry
 step-depends h b c m v = rw (v .records, v .lock)
 
 -- ---- its own key: the record has come, the lock has gone, and a Put's row is stored
 
-module _ (h : Ending) (m : Mutation) (b : Box) where
+module _ (h : CommitTerms) (m : Mutation) (b : Box) where
   pub step-lock : inOrder b ≡ true → lockOf (m .key) (applyStep h m b .lines) ≡ none
   unfolding applyStep
   step-lock o = lock-record (m .key) (m .key) (recordFor (h .start) (h .commit) (kindOf (m .row))) (dropLock (m .key) (b .lines)) ∙ lock-gone (m .key) (b .lines) (order-lines b o)
@@ -159,23 +159,23 @@ module _ (h : Ending) (m : Mutation) (b : Box) where
       let q = load-fields (load-parts (insertLine x (dropLock (m .key) (b .lines))) (replaceIf (m .key) (h .start) (m .row) (b .defaults))) in
       load-eq (plus (loadOf b) (plus (recordLoad (m .key)) (ofRow (m .key) (m .row)))) _ (omega arith)
 
-stepFrees-same : (h : Ending) (b c : Box) (m : Mutation) → Same b c (m .key) (h .start) → stepFrees h c m ≡ stepFrees h b m
+stepFrees-same : (h : CommitTerms) (b c : Box) (m : Mutation) → Same b c (m .key) (h .start) → stepFrees h c m ≡ stepFrees h b m
 unfolding stepFrees
 stepFrees-same h b c m v = rw (v .lock, v .row)
 
 -- ---- the batch
 
-pub steps-check : (h : Ending) (b : Box) (ms : List Mutation) → stepEntries h b ms ≡ Accepted → newestStep h b ms ≡ Accepted → batch.checkAll (stepCheck h) b ms ≡ Accepted
+pub steps-check : (h : CommitTerms) (b : Box) (ms : List Mutation) → stepEntries h b ms ≡ Accepted → newestStep h b ms ≡ Accepted → batch.checkAll (stepCheck h) b ms ≡ Accepted
 unfolding stepEntries newestStep batch.checkAll stepCheck
 steps-check h b [] p q = refl
 steps-check h b (m ∷ ms) p q = then-both _ _ (then-both _ _ (then-left _ _ p) (then-left _ _ q)) (steps-check h b ms (then-right (stepEntry h b m) _ p) (then-right (need (allBelow (h .commit) (recordsOf (m .key) (b .lines))) 8) _ q))
 
-pub applySteps-all : (h : Ending) (ms : List Mutation) (b : Box) → applySteps h ms b ≡ batch.applyAll (applyStep h) ms b
+pub applySteps-all : (h : CommitTerms) (ms : List Mutation) (b : Box) → applySteps h ms b ≡ batch.applyAll (applyStep h) ms b
 unfolding applySteps batch.applyAll
 applySteps-all h [] b = refl
 applySteps-all h (m ∷ ms) b = applySteps-all h ms (applyStep h m b)
 
-module _ (h : Ending) where
+module _ (h : CommitTerms) where
   pub step-still : (m : Mutation) (ms : List Mutation) (b : Box) → ascend keyIn (m ∷ ms) ≡ true → batch.checkAll (stepCheck h) b (m ∷ ms) ≡ Accepted → batch.checkAll (stepCheck h) (applyStep h m b) ms ≡ Accepted
   step-still m ms b a p = batch.still-pass keyIn (h .start) (stepCheck h) (step-depends h) (applyStep h) (step-only h (h .start)) m ms b a p
 
@@ -194,7 +194,7 @@ module _ (h : Ending) where
   pub steps-other : (t : ℕ) (i : Key) (ms : List Mutation) (b : Box) → Apart keyIn i ms → Same b (applySteps h ms b) i t
   steps-other t i ms b f = rw (applySteps-all h ms b) (batch.batch-other keyIn t (applyStep h) (step-only h t) i ms b f)
 
-  -- the box that the whole batch leaves, from the box as it came
+  -- the box that the whole batch leaves, from the box before the call
   pub steps-load : (ms : List Mutation) (b : Box) → ascend keyIn ms ≡ true → batch.checkAll (stepCheck h) b ms ≡ Accepted → inOrder b ≡ true
       → plus (loadOf b) (sumLoads stepAdds ms) ≡ plus (sumLoads (stepFrees h b) ms) (loadOf (applySteps h ms b))
   steps-load ms b a p o =
@@ -202,7 +202,7 @@ module _ (h : Ending) where
       (batch-load keyIn (h .start) (stepCheck h) (step-depends h) (applyStep h) (step-only h (h .start)) (λ c. stepAdds) (stepFrees h) (λ c d m v. refl) (stepFrees-same h)
       (λ c. inOrder c ≡ true) (step-order h) (λ m c q. step-load h m c) ms b a p o)
 
-  -- "11", told from the box as it came
+  -- "11", told from the box before the call
   pub steps-room : (ms : List Mutation) (b : Box) → ascend keyIn ms ≡ true → batch.checkAll (stepCheck h) b ms ≡ Accepted → inOrder b ≡ true
       → roomFor (applySteps h ms b) ≡ fits (minus (plus (loadOf b) (sumLoads stepAdds ms)) (sumLoads (stepFrees h b) ms))
   unfolding roomFor

@@ -17,7 +17,7 @@ use Rattle.rules.specs.Answers.{need, needOwn}
 use Rattle.rules.specs.Box.{Box, Lock, Standing, Default, holderOf, recordsOf, lockOf, rowOf, inOrder, ordered, rowBefore, insertLine, insertDefault}
 use Rattle.rules.specs.Sound.{allSound}
 use Rattle.rules.specs.Calls.{kindOf, owns, allBelow, rowArgument, rowStands}
-use Rattle.rules.specs.Prewrite.{Head, lockStep, prewriteEntry, prewriteEntries, lockFor, sameLock, storeIf, lockLine, unlessLocked, applyPrewrite, applyPrewrites}
+use Rattle.rules.specs.Prewrite.{PrewriteTerms, lockStep, prewriteEntry, prewriteEntries, lockFor, sameLock, storeIf, lockLine, unlessLocked, applyPrewrite, applyPrewrites}
 use Rattle.laws.proofs.StepLaws.{then-left, then-right, need-true, own-true, and-left, and-right, none-there, and-false}
 use Rattle.laws.proofs.BoxOrder.{ordered-lock, ordered-default, order-lines, order-defaults, in-order}
 use Rattle.laws.proofs.KeyLaws.{lock-other, records-lock, lock-new, row-other}
@@ -27,14 +27,14 @@ use Rattle.laws.proofs.BatchLaws as batch
 
 -- ---- what the steps of an entry say where they pass
 
-pub record PrewritePassed (h : Head) (b : Box) (m : Mutation) : Type 0 where
+pub record PrewritePassed (h : PrewriteTerms) (b : Box) (m : Mutation) : Type 0 where
   pub key : keyForm (m .key) ≡ true
   pub row : rowArgument (m .row) ≡ true
   pub sound : allSound (recordsOf (m .key) (b .lines)) ≡ true
   pub below : allBelow (h .start) (recordsOf (m .key) (b .lines)) ≡ true
   pub lock : lockStep h (m .row) (rowOf (m .key) (h .start) (b .defaults)) (lockOf (m .key) (b .lines)) ≡ Accepted
 
-pub prewrite-passed : (h : Head) (b : Box) (m : Mutation) → prewriteEntry h b m ≡ Accepted → PrewritePassed h b m
+pub prewrite-passed : (h : PrewriteTerms) (b : Box) (m : Mutation) → prewriteEntry h b m ≡ Accepted → PrewritePassed h b m
 unfolding prewriteEntry
 prewrite-passed h b m p =
     let p₁ = then-right (need (keyForm (m .key)) 1) _ p in
@@ -49,13 +49,13 @@ prewrite-passed h b m p =
     }
 
 -- "a default without lock, 9"
-pub free-row : (h : Head) (row stored : Option Row) (o : Option Lock) → lockStep h row stored o ≡ Accepted → o ≡ none → stored ≡ none
+pub free-row : (h : PrewriteTerms) (row stored : Option Row) (o : Option Lock) → lockStep h row stored o ≡ Accepted → o ≡ none → stored ≡ none
 unfolding lockStep
 free-row h row stored none p e = none-there stored (need-true _ _ p)
 free-row h row stored (some l) p e = cc
 
 -- "own equal lock": it is the lock that the call would make
-pub own-lock : (h : Head) (row stored : Option Row) (l : Lock) → lockStep h row stored (some l) ≡ Accepted → l ≡ lockFor h (kindOf row)
+pub own-lock : (h : PrewriteTerms) (row stored : Option Row) (l : Lock) → lockStep h row stored (some l) ≡ Accepted → l ≡ lockFor h (kindOf row)
 unfolding lockStep
 own-lock h row stored l p =
     let o : owns (h .txn) (h .start) l ≡ true = own-true _ _ (then-left _ _ p) in
@@ -69,7 +69,7 @@ own-lock h row stored l p =
     same-lock l m a p s t k = λ i. record { txn = a i; primary = p i; start = s i; ttl = t i; kind = k i }
 
 -- "a Put whose stored row is missing or different, 9"
-pub own-row : (h : Head) (row stored : Option Row) (l : Lock) → lockStep h row stored (some l) ≡ Accepted → rowStands row stored ≡ true
+pub own-row : (h : PrewriteTerms) (row stored : Option Row) (l : Lock) → lockStep h row stored (some l) ≡ Accepted → rowStands row stored ≡ true
 unfolding lockStep
 own-row h row stored l p =
     let q : sameLock h (kindOf row) l && rowStands row stored ≡ true = need-true _ _ (then-right (needOwn (owns (h .txn) (h .start) l) (holderOf l)) _ p) in
@@ -78,12 +78,12 @@ own-row h row stored l p =
 -- ---- what an entry makes of the box
 
 -- "Each entry not yet locked gets a lock with the call's fields and the entry's kind, and a Put's row is stored at this start"
-pub prewrite-new : (h : Head) (m : Mutation) (b : Box) → lockOf (m .key) (b .lines) ≡ none
+pub prewrite-new : (h : PrewriteTerms) (m : Mutation) (b : Box) → lockOf (m .key) (b .lines) ≡ none
     → applyPrewrite h m b ≡ record { lines = insertLine (record { key = m .key; line = Standing (lockFor h (kindOf (m .row))) }) (b .lines); defaults = storeIf (m .key) (h .start) (m .row) (b .defaults) }
 unfolding applyPrewrite unlessLocked lockLine
 prewrite-new h m b e = rw e
 
-pub prewrite-old : (h : Head) (m : Mutation) (b : Box) (l : Lock) → lockOf (m .key) (b .lines) ≡ some l → applyPrewrite h m b ≡ b
+pub prewrite-old : (h : PrewriteTerms) (m : Mutation) (b : Box) (l : Lock) → lockOf (m .key) (b .lines) ≡ some l → applyPrewrite h m b ≡ b
 unfolding applyPrewrite unlessLocked
 prewrite-old h m b l e = rw e
 
@@ -103,7 +103,7 @@ store-other i k t s none ds h = refl
 store-other i k t s (some r) ds h = row-other i t (record { key = k; start = s; row = r }) ds h
 
 -- a row of another key or start stays
-pub prewrite-rows : (h : Head) (m : Mutation) (b : Box) (i : Key) (t : ℕ) → eqBytes i (m .key) && eqb t (h .start) ≡ false → rowOf i t (applyPrewrite h m b .defaults) ≡ rowOf i t (b .defaults)
+pub prewrite-rows : (h : PrewriteTerms) (m : Mutation) (b : Box) (i : Key) (t : ℕ) → eqBytes i (m .key) && eqb t (h .start) ≡ false → rowOf i t (applyPrewrite h m b .defaults) ≡ rowOf i t (b .defaults)
 unfolding applyPrewrite unlessLocked lockLine
 prewrite-rows h m b i t a = go (lockOf (m .key) (b .lines))
   where
@@ -112,7 +112,7 @@ prewrite-rows h m b i t a = go (lockOf (m .key) (b .lines))
     go (some l) = refl
 
 -- no key's records change
-pub prewrite-records : (h : Head) (m : Mutation) (b : Box) (i : Key) → recordsOf i (applyPrewrite h m b .lines) ≡ recordsOf i (b .lines)
+pub prewrite-records : (h : PrewriteTerms) (m : Mutation) (b : Box) (i : Key) → recordsOf i (applyPrewrite h m b .lines) ≡ recordsOf i (b .lines)
 unfolding applyPrewrite unlessLocked lockLine
 prewrite-records h m b i = go (lockOf (m .key) (b .lines))
   where
@@ -120,7 +120,7 @@ prewrite-records h m b i = go (lockOf (m .key) (b .lines))
     go none = records-lock i (m .key) (lockFor h (kindOf (m .row))) (b .lines)
     go (some l) = refl
 
-prewrite-locks : (h : Head) (m : Mutation) (b : Box) (i : Key) → eqBytes i (m .key) ≡ false → lockOf i (applyPrewrite h m b .lines) ≡ lockOf i (b .lines)
+prewrite-locks : (h : PrewriteTerms) (m : Mutation) (b : Box) (i : Key) → eqBytes i (m .key) ≡ false → lockOf i (applyPrewrite h m b .lines) ≡ lockOf i (b .lines)
 unfolding applyPrewrite unlessLocked lockLine
 prewrite-locks h m b i a = go (lockOf (m .key) (b .lines))
   where
@@ -128,16 +128,16 @@ prewrite-locks h m b i a = go (lockOf (m .key) (b .lines))
     go none = lock-other i (record { key = m .key; line = Standing (lockFor h (kindOf (m .row))) }) (b .lines) a
     go (some l) = refl
 
-pub prewrite-only : (h : Head) (t : ℕ) → batch.Only keyIn t (applyPrewrite h)
+pub prewrite-only : (h : PrewriteTerms) (t : ℕ) → batch.Only keyIn t (applyPrewrite h)
 prewrite-only h t m b i a = record { records = prewrite-records h m b i; lock = prewrite-locks h m b i a; row = prewrite-rows h m b i t (and-false (eqBytes i (m .key)) (eqb t (h .start)) a) }
 
-pub prewrite-depends : (h : Head) → batch.Depends keyIn (h .start) (prewriteEntry h)
+pub prewrite-depends : (h : PrewriteTerms) → batch.Depends keyIn (h .start) (prewriteEntry h)
 unfolding prewriteEntry
 prewrite-depends h b c m v = rw (v .records, v .lock, v .row)
 
 -- ---- its own key
 
-pub prewrite-lock : (h : Head) (b : Box) (m : Mutation) → prewriteEntry h b m ≡ Accepted → lockOf (m .key) (applyPrewrite h m b .lines) ≡ some (lockFor h (kindOf (m .row)))
+pub prewrite-lock : (h : PrewriteTerms) (b : Box) (m : Mutation) → prewriteEntry h b m ≡ Accepted → lockOf (m .key) (applyPrewrite h m b .lines) ≡ some (lockFor h (kindOf (m .row)))
 unfolding applyPrewrite unlessLocked lockLine
 prewrite-lock h b m p = go (lockOf (m .key) (b .lines)) refl (prewrite-passed h b m p .lock)
   where
@@ -153,7 +153,7 @@ unfolding storeIf
 store-order k s none ds n o = o
 store-order k s (some r) ds n o = ordered-default (record { key = k; start = s; row = r }) ds n o
 
-pub prewrite-order : (h : Head) (m : Mutation) (b : Box) → prewriteEntry h b m ≡ Accepted → inOrder b ≡ true → inOrder (applyPrewrite h m b) ≡ true
+pub prewrite-order : (h : PrewriteTerms) (m : Mutation) (b : Box) → prewriteEntry h b m ≡ Accepted → inOrder b ≡ true → inOrder (applyPrewrite h m b) ≡ true
 unfolding applyPrewrite unlessLocked lockLine
 prewrite-order h m b p o = go (lockOf (m .key) (b .lines)) refl (prewrite-passed h b m p .lock)
   where
@@ -165,18 +165,18 @@ prewrite-order h m b p o = go (lockOf (m .key) (b .lines)) refl (prewrite-passed
 
 -- ---- the batch
 
-pub prewriteEntries-all : (h : Head) (b : Box) (ms : List Mutation) → prewriteEntries h b ms ≡ batch.checkAll (prewriteEntry h) b ms
+pub prewriteEntries-all : (h : PrewriteTerms) (b : Box) (ms : List Mutation) → prewriteEntries h b ms ≡ batch.checkAll (prewriteEntry h) b ms
 unfolding prewriteEntries batch.checkAll
 prewriteEntries-all h b [] = refl
 prewriteEntries-all h b (m ∷ ms) = rw (prewriteEntries-all h b ms)
 
-pub applyPrewrites-all : (h : Head) (ms : List Mutation) (b : Box) → applyPrewrites h ms b ≡ batch.applyAll (applyPrewrite h) ms b
+pub applyPrewrites-all : (h : PrewriteTerms) (ms : List Mutation) (b : Box) → applyPrewrites h ms b ≡ batch.applyAll (applyPrewrite h) ms b
 unfolding applyPrewrites batch.applyAll
 applyPrewrites-all h [] b = refl
 applyPrewrites-all h (m ∷ ms) b = applyPrewrites-all h ms (applyPrewrite h m b)
 
-module _ (h : Head) where
-  -- what was allowed on the box as it came is allowed in its turn
+module _ (h : PrewriteTerms) where
+  -- what was allowed on the box before the call is allowed in its turn
   pub prewrite-still : (m : Mutation) (ms : List Mutation) (b : Box) → ascend keyIn (m ∷ ms) ≡ true → prewriteEntries h b (m ∷ ms) ≡ Accepted → prewriteEntries h (applyPrewrite h m b) ms ≡ Accepted
   prewrite-still m ms b a p =
       prewriteEntries-all h (applyPrewrite h m b) ms

@@ -11,7 +11,7 @@ use Rattle.forms.specs.Batch.{Mutation, keyIn, ascend}
 use Rattle.rules.specs.Box.{Box, Lock, Standing, Default, lockOf, insertLine}
 use Rattle.rules.specs.Room.{loadOf}
 use Rattle.rules.specs.Calls.{kindOf}
-use Rattle.rules.specs.Prewrite.{Head, lockFor, storeIf, lockLine, unlessLocked, applyPrewrite, applyPrewrites}
+use Rattle.rules.specs.Prewrite.{PrewriteTerms, lockFor, storeIf, lockLine, unlessLocked, applyPrewrite, applyPrewrites}
 use Rattle.laws.specs.Adds.{noLoad, plus, sumLoads, lockLoad, ofRow, defaultsLoad, prewriteAdds}
 use Rattle.laws.proofs.FrameLaws.{Same, ascend-apart, ascend-rest}
 use Rattle.laws.proofs.LoadLaws.{load-eq, load-fields, plus-none, none-plus, load-parts, lines-insert, defaults-insert, sums-same}
@@ -22,7 +22,7 @@ unfolding storeIf ofRow
 store-load k s none ds = sym (none-plus (defaultsLoad ds))
 store-load k s (some r) ds = defaults-insert (record { key = k; start = s; row = r }) ds
 
-lock-load : (h : Head) (m : Mutation) (b : Box) → loadOf (lockLine h m b) ≡ plus (loadOf b) (plus (lockLoad (m .key) (h .primary)) (ofRow (m .key) (m .row)))
+lock-load : (h : PrewriteTerms) (m : Mutation) (b : Box) → loadOf (lockLine h m b) ≡ plus (loadOf b) (plus (lockLoad (m .key) (h .primary)) (ofRow (m .key) (m .row)))
 unfolding lockLine
 lock-load h m b =
     let e = load-fields (load-parts (insertLine (record { key = m .key; line = Standing (lockFor h (kindOf (m .row))) }) (b .lines)) (storeIf (m .key) (h .start) (m .row) (b .defaults))) in
@@ -32,7 +32,7 @@ lock-load h m b =
     load-eq _ (plus (loadOf b) (plus (lockLoad (m .key) (h .primary)) (ofRow (m .key) (m .row)))) (omega arith)
 
 -- one entry
-pub prewrite-load : (h : Head) (m : Mutation) (b : Box) → loadOf (applyPrewrite h m b) ≡ plus (loadOf b) (prewriteAdds h b m)
+pub prewrite-load : (h : PrewriteTerms) (m : Mutation) (b : Box) → loadOf (applyPrewrite h m b) ≡ plus (loadOf b) (prewriteAdds h b m)
 unfolding applyPrewrite unlessLocked prewriteAdds
 prewrite-load h m b = go (lockOf (m .key) (b .lines))
   where
@@ -40,12 +40,12 @@ prewrite-load h m b = go (lockOf (m .key) (b .lines))
     go none = lock-load h m b
     go (some l) = sym (plus-none (loadOf b))
 
-pub prewriteAdds-same : (h : Head) (b c : Box) (m : Mutation) → Same b c (m .key) (h .start) → prewriteAdds h c m ≡ prewriteAdds h b m
+pub prewriteAdds-same : (h : PrewriteTerms) (b c : Box) (m : Mutation) → Same b c (m .key) (h .start) → prewriteAdds h c m ≡ prewriteAdds h b m
 unfolding prewriteAdds
 prewriteAdds-same h b c m v = rw (v .lock)
 
--- the box that the whole batch leaves, from the box as it came
-pub prewrites-load : (h : Head) (ms : List Mutation) (b : Box) → ascend keyIn ms ≡ true → loadOf (applyPrewrites h ms b) ≡ plus (loadOf b) (sumLoads (prewriteAdds h b) ms)
+-- the box that the whole batch leaves, from the box before the call
+pub prewrites-load : (h : PrewriteTerms) (ms : List Mutation) (b : Box) → ascend keyIn ms ≡ true → loadOf (applyPrewrites h ms b) ≡ plus (loadOf b) (sumLoads (prewriteAdds h b) ms)
 unfolding applyPrewrites sumLoads
 prewrites-load h [] b a = sym (plus-none (loadOf b))
 prewrites-load h (m ∷ ms) b a =

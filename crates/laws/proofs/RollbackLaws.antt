@@ -207,7 +207,7 @@ module _ (txn start : ℕ) where
       → (ks : List Key) (b : Box) → ascend (λ k. k) ks ≡ true → rollbackKeys txn start b ks ≡ Accepted → P b → P (applyRollbacks start ks b)
   rollbacks-keep P step ks b a p v = rollbacks-log (λ c done. P c) (λ k c done. step k c) ks b [] a p v
 
--- the box that the whole batch leaves, from the box as it came
+-- the box that the whole batch leaves, from the box before the call
 pub rollbacks-load : (start : ℕ) (ks : List Key) (b : Box) → ascend (λ k. k) ks ≡ true → inOrder b ≡ true
     → plus (loadOf b) (sumLoads (rollbackAdds start b) ks) ≡ plus (sumLoads (rollbackFrees start b) ks) (loadOf (applyRollbacks start ks b))
 unfolding _▸_

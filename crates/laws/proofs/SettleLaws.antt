@@ -15,8 +15,9 @@ use Rattle.rules.specs.declared.answers.Answer.the-variants.{Accepted, No, Held
 use Rattle.rules.specs.Answers.{_▸_, need}
 use Rattle.rules.specs.Box.{Box}
 use Rattle.rules.specs.Calls.{Done, settle, ofBatch, nonEmpty}
-use Rattle.rules.specs.Prewrite.{Head, prewriteAll, prewriteBatch, prewriteSteps, applyPrewrites}
-use Rattle.rules.specs.Commit.{Ending, commitAll, commitBatch, commitSteps, applyCommits}
+use Rattle.rules.specs.Prewrite.{PrewriteTerms, prewriteAll, prewriteBatch, prewriteSteps, applyPrewrites}
+use Rattle.rules.specs.declared.terms.CommitTerms.{CommitTerms}
+use Rattle.rules.specs.Commit.{commitAll, commitBatch, commitSteps, applyCommits}
 use Rattle.rules.specs.Rollback.{rollbackAll, rollbackBatch, rollbackSteps, applyRollbacks}
 use Rattle.rules.specs.OneStep.{oneStep, stepAll, stepDone, stepApplied, thenApplied, ofCounted, countIf, stepArguments, allApplied, someApplied, stepNew, applySteps}
 
@@ -72,19 +73,19 @@ ofBatch-none o call b e = rw e
 
 -- ---- each changing call: a refusal leaves the box
 
-pub prewriteAll-leaves : (h : Head) (ms : List Mutation) (b : Box) → Leaves b (prewriteAll h ms b)
+pub prewriteAll-leaves : (h : PrewriteTerms) (ms : List Mutation) (b : Box) → Leaves b (prewriteAll h ms b)
 unfolding prewriteAll
 prewriteAll-leaves h ms b = settle-leaves (need (nonEmpty ms) 5 ▸ prewriteSteps h ms b) (applyPrewrites h ms b) b
 
-pub prewriteBatch-leaves : (h : Head) (s : Bytes) (b : Box) → Leaves b (prewriteBatch h s b)
+pub prewriteBatch-leaves : (h : PrewriteTerms) (s : Bytes) (b : Box) → Leaves b (prewriteBatch h s b)
 unfolding prewriteBatch
 prewriteBatch-leaves h s b = ofBatch-leaves (mutations s) (prewriteAll h) b (λ ms. prewriteAll-leaves h ms b)
 
-pub commitAll-leaves : (h : Ending) (ks : List Key) (b : Box) → Leaves b (commitAll h ks b)
+pub commitAll-leaves : (h : CommitTerms) (ks : List Key) (b : Box) → Leaves b (commitAll h ks b)
 unfolding commitAll
 commitAll-leaves h ks b = settle-leaves (need (nonEmpty ks) 5 ▸ commitSteps h ks b) (applyCommits h ks b) b
 
-pub commitBatch-leaves : (h : Ending) (s : Bytes) (b : Box) → Leaves b (commitBatch h s b)
+pub commitBatch-leaves : (h : CommitTerms) (s : Bytes) (b : Box) → Leaves b (commitBatch h s b)
 unfolding commitBatch
 commitBatch-leaves h s b = ofBatch-leaves (keys s) (commitAll h) b (λ ks. commitAll-leaves h ks b)
 
@@ -111,7 +112,7 @@ then-keeps P Accepted b d p q = q refl
 then-keeps P (No n) b d p q = p
 then-keeps P (Held o) b d p q = p
 
-module _ (h : Ending) (ms : List Mutation) (b : Box) where
+module _ (h : CommitTerms) (ms : List Mutation) (b : Box) where
   applied-leaves : (t : Bool) → Leaves b (stepApplied t h ms b)
   unfolding stepApplied
   applied-leaves true = λ n. refl
@@ -121,7 +122,7 @@ module _ (h : Ending) (ms : List Mutation) (b : Box) where
   unfolding stepDone
   stepDone-leaves = then-leaves (stepArguments h ms b) b (stepApplied (allApplied h b ms) h ms b) (applied-leaves (allApplied h b ms))
 
-pub oneStep-leaves : (h : Ending) (s : Bytes) (b : Box) → Leaves b (oneStep h s b .done)
+pub oneStep-leaves : (h : CommitTerms) (s : Bytes) (b : Box) → Leaves b (oneStep h s b .done)
 unfolding oneStep ofCounted stepAll
 oneStep-leaves h s b = go (mutations s)
   where
@@ -136,7 +137,7 @@ refused-zero Accepted n r = absurd (r refl)
 refused-zero (No m) n r = refl
 refused-zero (Held o) n r = refl
 
-pub oneStep-refused : (h : Ending) (s : Bytes) (b : Box) → (oneStep h s b .done .answer ≡ Accepted → ⊥) → oneStep h s b .count ≡ 0
+pub oneStep-refused : (h : CommitTerms) (s : Bytes) (b : Box) → (oneStep h s b .done .answer ≡ Accepted → ⊥) → oneStep h s b .count ≡ 0
 unfolding oneStep ofCounted stepAll
 oneStep-refused h s b = go (mutations s)
   where

@@ -23,17 +23,18 @@ use Rattle.rules.specs.declared.answers.Answer.the-variants.{Accepted, No, Held
 use Rattle.rules.specs.Answers.{_▸_, need}
 use Rattle.rules.specs.Box.{Box}
 use Rattle.rules.specs.Calls.{Done, settle, ofBatch, zeroStep, rowArgument}
-use Rattle.rules.specs.Prewrite.{Head, headStep, prewriteEntry, prewriteEntries, prewriteRoom, prewriteSteps, applyPrewrite, applyPrewrites, prewriteAll, prewriteBatch, prewrite}
-use Rattle.rules.specs.Commit.{Ending, endingStep, commitKey, commitKeys, commitSteps, applyCommit, applyCommits, commitAll, commitBatch, commit}
+use Rattle.rules.specs.Prewrite.{PrewriteTerms, prewriteTermsStep, prewriteEntry, prewriteEntries, prewriteRoom, prewriteSteps, applyPrewrite, applyPrewrites, prewriteAll, prewriteBatch, prewrite}
+use Rattle.rules.specs.declared.terms.CommitTerms.{CommitTerms}
+use Rattle.rules.specs.Commit.{commitTermsStep, commitKey, commitKeys, commitSteps, applyCommit, applyCommits, commitAll, commitBatch, commit}
 use Rattle.rules.specs.Rollback.{rollbackKey, rollbackKeys, rollbackSteps, applyRollback, applyRollbacks, rollbackAll, rollbackBatch, rollback}
 use Rattle.laws.proofs.StepLaws.{then-right, and-false, and-false-right}
 
 -- ---- the single forms as document 01 has them: "the steps without 6 and 5"
 
-unfoldable pub prewriteAlone : Head → Mutation → Box → Done
+unfoldable pub prewriteAlone : PrewriteTerms → Mutation → Box → Done
 prewriteAlone h m b = settle (prewriteSteps h (m ∷ []) b) (applyPrewrite h m b) b
 
-unfoldable pub commitAlone : Ending → Key → Box → Done
+unfoldable pub commitAlone : CommitTerms → Key → Box → Done
 commitAlone h k b = settle (commitSteps h (k ∷ []) b) (applyCommit h k b) b
 
 unfoldable pub rollbackAlone : ℕ → ℕ → Key → Box → Done
@@ -92,14 +93,14 @@ unless-long s f = go (leb (length s) 255) refl
 
 -- ---- prewrite
 
-module _ (h : Head) (b : Box) where
-  key-ends : (m : Mutation) → keyForm (m .key) ≡ false → prewriteAlone h m b ≡ refused (headStep h ▸ No 1) b
+module _ (h : PrewriteTerms) (b : Box) where
+  key-ends : (m : Mutation) → keyForm (m .key) ≡ false → prewriteAlone h m b ≡ refused (prewriteTermsStep h ▸ No 1) b
   unfolding prewriteAlone prewriteSteps prewriteEntries prewriteEntry need _▸_
-  key-ends m e = rw e (ends (headStep h) 1 (applyPrewrite h m b) b)
+  key-ends m e = rw e (ends (prewriteTermsStep h) 1 (applyPrewrite h m b) b)
 
-  row-ends : (m : Mutation) → rowArgument (m .row) ≡ false → prewriteAlone h m b ≡ refused (headStep h ▸ need (keyForm (m .key)) 1 ▸ No 2) b
+  row-ends : (m : Mutation) → rowArgument (m .row) ≡ false → prewriteAlone h m b ≡ refused (prewriteTermsStep h ▸ need (keyForm (m .key)) 1 ▸ No 2) b
   unfolding prewriteAlone prewriteSteps prewriteEntries prewriteEntry need _▸_
-  row-ends m e = rw e (either (headStep h) (keyForm (m .key)) Accepted (prewriteRoom h (m ∷ []) b) (applyPrewrite h m b) b)
+  row-ends m e = rw e (either (prewriteTermsStep h) (keyForm (m .key)) Accepted (prewriteRoom h (m ∷ []) b) (applyPrewrite h m b) b)
 
   -- a batch of one takes the steps of its entry alone
   prewrite-entry : (m : Mutation) → prewrite h m b ≡ prewriteAlone h (fittedEntry m) b
@@ -127,32 +128,32 @@ module _ (h : Head) (b : Box) where
   prewrite-single m = prewrite-entry m ∙ row-same (fitted (m .key)) (m .row) ∙ key-same (m .key) (m .row)
 
   -- "a longer key is still 1": after 3, the primary and the time to live
-  pub prewrite-long-key : (m : Mutation) → leb (length (m .key)) 255 ≡ false → prewrite h m b ≡ refused (headStep h ▸ No 1) b
+  pub prewrite-long-key : (m : Mutation) → leb (length (m .key)) 255 ≡ false → prewrite h m b ≡ refused (prewriteTermsStep h ▸ No 1) b
   prewrite-long-key m e = prewrite-single m ∙ key-ends m (long-key (m .key) e)
 
   -- "and a longer row 2": after the key's 1, and before 9, 8 and 7
-  pub prewrite-long-row : (k : Key) (r : Row) → leb (length r) 255 ≡ false → prewrite h (record { key = k; row = some r }) b ≡ refused (headStep h ▸ need (keyForm k) 1 ▸ No 2) b
+  pub prewrite-long-row : (k : Key) (r : Row) → leb (length r) 255 ≡ false → prewrite h (record { key = k; row = some r }) b ≡ refused (prewriteTermsStep h ▸ need (keyForm k) 1 ▸ No 2) b
   prewrite-long-row k r e = prewrite-single (record { key = k; row = some r }) ∙ row-ends (record { key = k; row = some r }) (long-row r e)
 
   -- what an accepted call names is its own key and row
   pub prewrite-named : (m : Mutation) → prewrite h m b .answer ≡ Accepted → mutations (oneMutation m) ≡ some (m ∷ [])
   prewrite-named m p =
       one-mutation m
-      ∙ ap₂ (λ (k : Key) (o : Option Row). alone (record { key = k; row = o })) (unless-long (m .key) (λ e. never 1 (then-right (headStep h) _ (told (prewrite-long-key m e) p)))) (row (m .row) refl)
+      ∙ ap₂ (λ (k : Key) (o : Option Row). alone (record { key = k; row = o })) (unless-long (m .key) (λ e. never 1 (then-right (prewriteTermsStep h) _ (told (prewrite-long-key m e) p)))) (row (m .row) refl)
     where
       alone : Mutation → Option (List Mutation)
       alone x = some (x ∷ [])
 
       row : (o : Option Row) → m .row ≡ o → fittedRow o ≡ o
       row none q = refl
-      row (some r) q = ap some (unless-long r (λ e. never 2 (then-right _ _ (then-right (headStep h) _ (told (prewrite-single m ∙ row-ends m (ap rowArgument q ∙ long-row r e)) p)))))
+      row (some r) q = ap some (unless-long r (λ e. never 2 (then-right _ _ (then-right (prewriteTermsStep h) _ (told (prewrite-single m ∙ row-ends m (ap rowArgument q ∙ long-row r e)) p)))))
 
 -- ---- commit
 
-module _ (h : Ending) (b : Box) where
-  commit-ends : (k : Key) → keyForm k ≡ false → commitAlone h k b ≡ refused (endingStep h ▸ No 1) b
+module _ (h : CommitTerms) (b : Box) where
+  commit-ends : (k : Key) → keyForm k ≡ false → commitAlone h k b ≡ refused (commitTermsStep h ▸ No 1) b
   unfolding commitAlone commitSteps commitKeys commitKey need _▸_
-  commit-ends k e = rw e (ends (endingStep h) 1 (applyCommit h k b) b)
+  commit-ends k e = rw e (ends (commitTermsStep h) 1 (applyCommit h k b) b)
 
   commit-entry : (k : Key) → commit h k b ≡ commitAlone h (fitted k) b
   unfolding commit commitBatch ofBatch commitAll applyCommits commitAlone need _▸_
@@ -165,11 +166,11 @@ module _ (h : Ending) (b : Box) where
       go true e = rw (fits-stays k e)
       go false e = rw (long-empty k e) (commit-ends [] empty-key ∙ sym (commit-ends k (long-key k e)))
 
-  pub commit-long-key : (k : Key) → leb (length k) 255 ≡ false → commit h k b ≡ refused (endingStep h ▸ No 1) b
+  pub commit-long-key : (k : Key) → leb (length k) 255 ≡ false → commit h k b ≡ refused (commitTermsStep h ▸ No 1) b
   commit-long-key k e = commit-single k ∙ commit-ends k (long-key k e)
 
   pub commit-named : (k : Key) → commit h k b .answer ≡ Accepted → keys (oneKey k) ≡ some (k ∷ [])
-  commit-named k p = one-key k ∙ cc (unless-long k (λ e. never 1 (then-right (endingStep h) _ (told (commit-long-key k e) p))))
+  commit-named k p = one-key k ∙ cc (unless-long k (λ e. never 1 (then-right (commitTermsStep h) _ (told (commit-long-key k e) p))))
 
 -- ---- rollback
 

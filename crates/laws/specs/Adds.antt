@@ -1,4 +1,4 @@
--- Document 01, "Room": what an entry of a changing call adds to the load of a box, and what it frees, told from the box as it came. "Room
+-- Document 01, "Room": what an entry of a changing call adds to the load of a box, and what it frees, told from the box before the call. "Room
 -- that was freed counts as free at once." With `plus (loadOf b) added ≡ plus freed (loadOf after)` a program finds the room that the whole
 -- call would leave in one walk over its entries.
 -- Assumes nothing.
@@ -14,8 +14,9 @@ use Rattle.rules.specs.declared.records.Record.{Record}
 use Rattle.rules.specs.Box.{Box, Lock, KeyLine, Default, recordsOf, lockOf, rowOf}
 use Rattle.rules.specs.Room.{oneLock, lineBytes, lockCount, bytesOfLines, bytesOfDefaults}
 use Rattle.rules.specs.Calls.{stampedAt}
-use Rattle.rules.specs.Prewrite.{Head, unlessLocked}
-use Rattle.rules.specs.Commit.{Ending, withStart}
+use Rattle.rules.specs.Prewrite.{PrewriteTerms, unlessLocked}
+use Rattle.rules.specs.declared.terms.CommitTerms.{CommitTerms}
+use Rattle.rules.specs.Commit.{withStart}
 
 abbrev pub noLoad : Load
 noLoad = record { lines = 0; locks = 0; defaults = 0; bytes = 0 }
@@ -67,7 +68,7 @@ defaultsLoad ds = record { lines = 0; locks = 0; defaults = length ds; bytes = b
 
 -- ---- prewrite: an entry not yet locked adds its lock and a Put's row, and nothing is freed
 
-unfoldable pub prewriteAdds : Head → Box → Mutation → Load
+unfoldable pub prewriteAdds : PrewriteTerms → Box → Mutation → Load
 prewriteAdds h b m = unlessLocked (lockOf (m .key) (b .lines)) (plus (lockLoad (m .key) (h .primary)) (ofRow (m .key) (m .row))) noLoad
 
 -- ---- commit: a record for the lock, where the key has no record of this start
@@ -80,10 +81,10 @@ unfoldable pub ifLocked : Option Lock → Load → Load
 ifLocked none a = noLoad
 ifLocked (some l) a = a
 
-unfoldable pub commitAdds : Ending → Box → Key → Load
+unfoldable pub commitAdds : CommitTerms → Box → Key → Load
 commitAdds h b k = ifNew (withStart (h .start) (recordsOf k (b .lines))) (ifLocked (lockOf k (b .lines)) (recordLoad k))
 
-unfoldable pub commitFrees : Ending → Box → Key → Load
+unfoldable pub commitFrees : CommitTerms → Box → Key → Load
 commitFrees h b k = ifNew (withStart (h .start) (recordsOf k (b .lines))) (ofLock k (lockOf k (b .lines)))
 
 -- ---- rollback: a record, where the key has none of this stamp; its lock and row go
@@ -104,5 +105,5 @@ unfoldable pub replacedBy : Option Row → Load → Load
 replacedBy none a = noLoad
 replacedBy (some r) a = a
 
-unfoldable pub stepFrees : Ending → Box → Mutation → Load
+unfoldable pub stepFrees : CommitTerms → Box → Mutation → Load
 stepFrees h b m = plus (ofLock (m .key) (lockOf (m .key) (b .lines))) (replacedBy (m .row) (ofRow (m .key) (rowOf (m .key) (h .start) (b .defaults))))

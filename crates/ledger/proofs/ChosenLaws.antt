@@ -11,7 +11,7 @@ use Rattle.rules.specs.Box.{putIn, insertBy}
 use Rattle.rules.specs.Restore.{allGood, noneLike, noSecond}
 use Rattle.laws.proofs.StepLaws.{and-left, and-right, not-true, by-test}
 use Rattle.laws.proofs.Sorted.{In}
-use Rattle.laws.proofs.RestoreLaws.{placed}
+use Rattle.laws.proofs.ImageBoxLaws.{placed}
 use Rattle.ledger.specs.Ledger.{consIf, chosen}
 
 -- ---- one more or not
@@ -115,12 +115,12 @@ module _ {A B : Type 0} (p : A → Bool) (f : A → B) (like : A → A → Bool)
       by-test (λ t. consIf t (f y) (chosen p f ys) ≡ []) (p y) (λ q. absurd (true≢false (sym (alike x y h q) ∙ not-true _ (and-left _ _ n))))
       (λ q. none-chosen x ys h (and-right (not (like x y)) _ n))
 
-  pub few : (xs : List A) → noSecond like xs ≡ true → Few (chosen p f xs)
+  pub count-fits : (xs : List A) → noSecond like xs ≡ true → Few (chosen p f xs)
   unfolding noSecond chosen consIf
-  few [] n = inl refl
-  few (x ∷ xs) n =
+  count-fits [] n = inl refl
+  count-fits (x ∷ xs) n =
       by-test (λ t. Few (consIf t (f x) (chosen p f xs))) (p x) (λ q. inr (f x, ap (λ (ys : List B). f x ∷ ys) (none-chosen x xs q (and-left _ _ n))))
-      (λ q. few xs (and-right (noneLike like x xs) _ n))
+      (λ q. count-fits xs (and-right (noneLike like x xs) _ n))
 
   -- each at its place
   pub chosen-placed : (lt : A → A → Bool) (xs : List A) → noSecond like xs ≡ true → chosen p f (placed lt xs) ≡ chosen p f xs

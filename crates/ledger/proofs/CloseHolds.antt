@@ -16,8 +16,8 @@ use Rattle.rules.specs.Commit.{withStart}
 use Rattle.laws.proofs.Sorted.{In}
 use Rattle.laws.proofs.KeyLaws.{dropLock-none}
 use Rattle.ledger.specs.Ledger.{Named, ofKey, lastRow, orOlder, linesAt, rowsAt, kindIn, RowFits, present, Holds}
-use Rattle.ledger.proofs.LineLaws.{lock-in, record-in, drop-other, drop-same, no-lines}
-use Rattle.ledger.proofs.RowLaws.{self}
+use Rattle.ledger.proofs.PairLineLaws.{lock-in, record-in, drop-other, drop-same, no-lines}
+use Rattle.ledger.proofs.PairRowLaws.{self}
 use Rattle.ledger.proofs.PairLaws.{extend, has-one}
 use Rattle.ledger.proofs.PrewriteHolds.{lines-other, lines-new}
 

@@ -6,14 +6,15 @@ use Rattle.forms.specs.Key.{Key}
 use Rattle.rules.specs.declared.answers.Answer.the-variants.{Accepted}
 use Rattle.rules.specs.Box.{Box, Lock, Standing, Finished, lockOf}
 use Rattle.rules.specs.Calls.{recordFor}
-use Rattle.rules.specs.Commit.{Ending, commitKey, applyCommit}
+use Rattle.rules.specs.declared.terms.CommitTerms.{CommitTerms}
+use Rattle.rules.specs.Commit.{commitKey, applyCommit}
 use Rattle.laws.proofs.RecordLaws.{started-in}
 use Rattle.laws.proofs.CommitLaws.{committed, CommitWay, commit-replay, commit-first, commit-way}
 use Rattle.ledger.specs.Ledger.{Named, ofKey, orOlder, present, Holds}
 use Rattle.ledger.proofs.PairLaws.{extend}
 use Rattle.ledger.proofs.CloseHolds.{lock-at, record-at, one-line, unchanged, closed-other, closed-same}
 
-module _ (h : Ending) (b : Box) (k : Key) (log : List Named) where
+module _ (h : CommitTerms) (b : Box) (k : Key) (log : List Named) where
   replaced : (l : Lock) → Holds b log → lockOf k (b .lines) ≡ some l → l .start ≡ h .start → Holds (committed h k l b) (ofKey (h .start) k ∷ log)
   unfolding orOlder
   replaced l hs there p =

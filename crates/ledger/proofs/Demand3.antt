@@ -13,9 +13,10 @@ use Rattle.rules.specs.Box.{Box, Line, Standing, Finished, KeyLine}
 use Rattle.rules.specs.Room.{sumOf, oneLock, lockCount}
 use Rattle.rules.specs.Figures.{stats, figures, recordKeys, addFinished}
 use Rattle.laws.proofs.StepLaws.{by-test}
-use Rattle.ledger.specs.Ledger.{Call, Named, isAt, named, after, empty, startOf, lineIs, chosen, linesAt, consIf, Fate, absent, present, Holds, differentPairs, sucUnless, Demand3}
+use Rattle.rules.specs.Call.{Changing}
+use Rattle.ledger.specs.Ledger.{Named, isAt, named, Past, after, empty, startOf, lineIs, chosen, linesAt, consIf, Fate, absent, present, Holds, differentPairs, sucUnless, Demand3}
 use Rattle.ledger.proofs.ChosenLaws.{without, without-gone, without-stays, without-length}
-use Rattle.ledger.proofs.RowLaws.{self, pair-is, apart}
+use Rattle.ledger.proofs.PairRowLaws.{self, pair-is, apart}
 use Rattle.ledger.proofs.Pairs.{pairs}
 
 -- ---- each named pair has one line, and no other pair any
@@ -86,16 +87,16 @@ unfolding sumOf recordKeys
 parts [] = refl
 parts (e ∷ es) = parts-cons (e .key) (e .line) (length es) (lockCount es) (recordKeys es) (parts es)
 
-pub sum-is : (b : Box) → stats b .locks + stats b .records .all ≡ length (b .lines)
+sum-is : (b : Box) → stats b .locks + stats b .records .all ≡ length (b .lines)
 unfolding stats figures
 sum-is b = sym (parts (b .lines))
 
 -- ---- the theorem
 
-pub counted : (b : Box) (log : List Named) → Holds b log → length (b .lines) ≡ differentPairs log
-counted b log hs = count log (b .lines) (once b log hs)
+pub holding : (p : Past) → Holds (p .box) (p .log) → Demand3 p
+holding p hs =
+    let lines : length (p .box .lines) ≡ differentPairs (p .log) = count (p .log) (p .box .lines) (once (p .box) (p .log) hs) in
+    record { pairs = hs; sum = sum-is (p .box) ∙ lines; lines = lines }
 
-pub demand3 : (cs : List Call) → Demand3 cs
-demand3 cs =
-    let lines : length (after cs empty .box .lines) ≡ differentPairs (after cs empty .log) = counted _ _ (pairs cs) in
-    record { pairs = pairs cs; sum = sum-is (after cs empty .box) ∙ lines; lines = lines }
+pub demand3 : (cs : List Changing) → Demand3 (after cs empty)
+demand3 cs = holding (after cs empty) (pairs cs)

@@ -18,11 +18,13 @@ use Rattle.rules.specs.Box.{fresh, recordsOf, addRecord, lockOf, addLock, rowOf
 use Rattle.rules.specs.Sound.{allSound, soundLock}
 use Rattle.rules.specs.Room.{sumOf, loadOf, fits, roomFor}
 use Rattle.rules.specs.Calls.{settle, ofBatch, zeroStep, allBelow, foundIf, stampedAt}
-use Rattle.rules.specs.Prewrite.{headStep, lockStep, prewriteEntry, prewriteEntries, storeIf, lockLine, unlessLocked, applyPrewrite, applyPrewrites, prewriteRoom, prewriteSteps, prewriteAll, prewriteBatch}
-use Rattle.rules.specs.Commit.{Ending, endingStep, withStart, commitLock, commitStep, commitKey, commitKeys, commitTo, applyCommit, applyCommits, commitSteps, commitAll, commitBatch}
+use Rattle.rules.specs.Prewrite.{prewriteTermsStep, lockStep, prewriteEntry, prewriteEntries, storeIf, lockLine, unlessLocked, applyPrewrite, applyPrewrites, prewriteRoom, prewriteSteps, prewriteAll, prewriteBatch}
+use Rattle.rules.specs.declared.terms.CommitTerms.{CommitTerms}
+use Rattle.rules.specs.Commit.{commitTermsStep, withStart, commitLock, commitStep, commitKey, commitKeys, commitTo, applyCommit, applyCommits, commitSteps, commitAll, commitBatch}
 use Rattle.rules.specs.Rollback.{rollbackRecords, rollbackLock, rollbackStep, rollbackKey, rollbackKeys, rollbackTo, applyRollback, applyRollbacks, rollbackRoom, rollbackSteps, rollbackAll, rollbackBatch}
 use Rattle.rules.specs.OneStep.{argumentsStep, appliedIf, appliedBy, appliedIn, noneOther, allApplied, someApplied, stepLock, stepEntry, stepEntries, newestStep, replaceIf, applyStep, applySteps, stepNew, stepApplied, stepArguments, thenApplied, countIf, stepDone, stepAll, ofCounted, oneStep}
-use Rattle.ledger.specs.Ledger.{Call, prewritingBatch, committingBatch, rollingBackBatch, oneStepping, perform, entriesIn, eachNamed, namedBy, onto, logged, Past, then, after, empty, named, rowIf, orOlder, lastRow, sucUnless, differentPairs, consIf, chosen, rowsAt}
+use Rattle.rules.specs.Call.{Changing, perform}
+use Rattle.ledger.specs.Ledger.{entriesIn, eachNamed, namedBy, onto, logged, Past, then, after, empty, named, rowIf, orOlder, lastRow, sucUnless, differentPairs, consIf, chosen, rowsAt}
 
 keyA : Key
 keyA = 0 ∷ 0 ∷ 0 ∷ 1 ∷ 97 ∷ []
@@ -37,17 +39,17 @@ row₁ = 0 ∷ 0 ∷ []
 row₂ : Row
 row₂ = 0 ∷ 1 ∷ 0 ∷ []
 
-ending : Ending
+ending : CommitTerms
 ending = record { txn = 7; start = 10; commit = 12 }
 
-calls : List Call
+calls : List Changing
 calls =
-    prewritingBatch (record { txn = 7; start = 10; primary = keyA; ttl = 1 }) (oneMutation (record { key = keyA; row = some row₁ })) ∷
-    oneStepping ending (0 ∷ 1 ∷ 5 ∷ keyA ++ (1 ∷ 3 ∷ row₂)) ∷
-    rollingBackBatch 7 10 (oneKey keyA) ∷
-    committingBatch ending (0 ∷ []) ∷
-    committingBatch ending (oneKey keyA) ∷
-    rollingBackBatch 7 5 (oneKey keyB) ∷
+    Changing.Prewrite (record { txn = 7; start = 10; primary = keyA; ttl = 1 }) (oneMutation (record { key = keyA; row = some row₁ })) ∷
+    Changing.OneStep ending (0 ∷ 1 ∷ 5 ∷ keyA ++ (1 ∷ 3 ∷ row₂)) ∷
+    Changing.Rollback 7 10 (oneKey keyA) ∷
+    Changing.Commit ending (0 ∷ []) ∷
+    Changing.Commit ending (oneKey keyA) ∷
+    Changing.Rollback 7 5 (oneKey keyB) ∷
     []
 
 past : Past
@@ -63,5 +65,5 @@ record Seen (p : Past) : Type 0 where
   stamp-is-no-start : named keyA 12 (p .log) ≡ false
 
 seen : Seen past
-unfolding keyA keyB row₁ row₂ ending calls past cmp eqBytes ltBytes readOn _>>=_ just only byte stretch piece upTo times section ended whole numberFrom numberOf tableOf keyForm integers texts fields rowForm ofKind mutation above ascend ifAscend batchOf mutations keys fitted oneMutation oneKey _▸_ need needOwn fresh recordsOf addRecord lockOf addLock rowOf addRow before rowBefore putIn insertBy dropLock unlessLock dropRow unlessRow allSound soundLock sumOf loadOf fits roomFor settle ofBatch zeroStep allBelow foundIf stampedAt headStep lockStep prewriteEntry prewriteEntries storeIf lockLine unlessLocked applyPrewrite applyPrewrites prewriteRoom prewriteSteps prewriteAll prewriteBatch endingStep withStart commitLock commitStep commitKey commitKeys commitTo applyCommit applyCommits commitSteps commitAll commitBatch rollbackRecords rollbackLock rollbackStep rollbackKey rollbackKeys rollbackTo applyRollback applyRollbacks rollbackRoom rollbackSteps rollbackAll rollbackBatch argumentsStep appliedIf appliedBy appliedIn noneOther allApplied someApplied stepLock stepEntry stepEntries newestStep replaceIf applyStep applySteps stepNew stepApplied stepArguments thenApplied countIf stepDone stepAll ofCounted oneStep perform entriesIn eachNamed namedBy onto logged then after empty named rowIf orOlder lastRow sucUnless differentPairs consIf chosen
+unfolding keyA keyB row₁ row₂ ending calls past cmp eqBytes ltBytes readOn _>>=_ just only byte stretch piece upTo times section ended whole numberFrom numberOf tableOf keyForm integers texts fields rowForm ofKind mutation above ascend ifAscend batchOf mutations keys fitted oneMutation oneKey _▸_ need needOwn fresh recordsOf addRecord lockOf addLock rowOf addRow before rowBefore putIn insertBy dropLock unlessLock dropRow unlessRow allSound soundLock sumOf loadOf fits roomFor settle ofBatch zeroStep allBelow foundIf stampedAt prewriteTermsStep lockStep prewriteEntry prewriteEntries storeIf lockLine unlessLocked applyPrewrite applyPrewrites prewriteRoom prewriteSteps prewriteAll prewriteBatch commitTermsStep withStart commitLock commitStep commitKey commitKeys commitTo applyCommit applyCommits commitSteps commitAll commitBatch rollbackRecords rollbackLock rollbackStep rollbackKey rollbackKeys rollbackTo applyRollback applyRollbacks rollbackRoom rollbackSteps rollbackAll rollbackBatch argumentsStep appliedIf appliedBy appliedIn noneOther allApplied someApplied stepLock stepEntry stepEntries newestStep replaceIf applyStep applySteps stepNew stepApplied stepArguments thenApplied countIf stepDone stepAll ofCounted oneStep perform entriesIn eachNamed namedBy onto logged then after empty named rowIf orOlder lastRow sucUnless differentPairs consIf chosen
 seen = record { names = refl; pairs = refl; lines = refl; last = refl; stored = refl; none-of-b = refl; stamp-is-no-start = refl }

@@ -1,7 +1,7 @@
 -- The theorems of this crate, Demand3, Restored, Refusals, Tidiness and Unmet, and the laws that they stand on. Assumes nothing.
 pub mod ChosenLaws
-pub mod LineLaws
-pub mod RowLaws
+pub mod PairLineLaws
+pub mod PairRowLaws
 pub mod PairLaws
 pub mod PrewriteHolds
 pub mod CloseHolds
@@ -11,7 +11,7 @@ pub mod OneStepHolds
 pub mod Always
 pub mod Pairs
 pub mod Demand3
-pub mod Refusals
+pub mod BoxRefusals
 pub mod SoundEntries
 pub mod Rooms
 pub mod Tidiness

@@ -16,14 +16,15 @@ use Rattle.rules.specs.declared.records.Kind.the-variants.{Delete}
 use Rattle.rules.specs.declared.records.Record.{Record}
 use Rattle.rules.specs.Box.{Box, Lock, Standing, Finished, Default, recordsOf, lockOf, rowOf, eqKind, dropRow}
 use Rattle.rules.specs.Calls.{kindOf, rowStands, stampedAt, recordFor}
-use Rattle.rules.specs.Commit.{Ending, withStart}
+use Rattle.rules.specs.declared.terms.CommitTerms.{CommitTerms}
+use Rattle.rules.specs.Commit.{withStart}
 use Rattle.rules.specs.OneStep.{appliedIf, appliedBy, appliedIn, isAlready, stepLock, replaceIf, applyStep}
 use Rattle.laws.proofs.StepLaws.{passed}
 use Rattle.laws.proofs.OneStepLaws.{stepCheck, step-passed, step-own}
 use Rattle.laws.proofs.RecordLaws.{eqKind-true, below-started, stamped-in}
 use Rattle.ledger.specs.Ledger.{Named, ofMutation, lastRow, orOlder, linesAt, rowsAt, RowFits, present, Holds}
-use Rattle.ledger.proofs.LineLaws.{no-lines}
-use Rattle.ledger.proofs.RowLaws.{row-first, rows-gone, rows-stay, rows-other, rows-new}
+use Rattle.ledger.proofs.PairLineLaws.{no-lines}
+use Rattle.ledger.proofs.PairRowLaws.{row-first, rows-gone, rows-stay, rows-other, rows-new}
 use Rattle.ledger.proofs.PairLaws.{extend, has-none}
 use Rattle.ledger.proofs.PrewriteHolds.{row-same}
 use Rattle.ledger.proofs.CloseHolds.{lock-at, record-at, one-line, OfStart, closed-other, closed-same}
@@ -41,11 +42,11 @@ replace-apart i k q s none ds h = refl
 replace-apart i k q s (some r) ds h = rows-other i k q s h r (dropRow i q ds) ∙ rows-stay i k q s h ds
 
 -- the lock that is let pass is the call's
-own-start : (h : Ending) (kind : Kind) (o : Option Lock) → stepLock h kind o ≡ Accepted → OfStart (h .start) o
+own-start : (h : CommitTerms) (kind : Kind) (o : Option Lock) → stepLock h kind o ≡ Accepted → OfStart (h .start) o
 own-start h kind none q = tt
 own-start h kind (some l) q = step-own h kind l q .1
 
-module _ (h : Ending) (m : Mutation) (b : Box) (log : List Named) where
+module _ (h : CommitTerms) (m : Mutation) (b : Box) (log : List Named) where
   -- a Delete finds no row of its pair
   spare : (o : Option Lock) → Holds b log → lockOf (m .key) (b .lines) ≡ o → withStart (h .start) (recordsOf (m .key) (b .lines)) ≡ none
       → stepLock h (kindOf (m .row)) o ≡ Accepted → m .row ≡ none → rowsAt (m .key) (h .start) (b .defaults) ≡ []

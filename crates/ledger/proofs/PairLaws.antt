@@ -16,7 +16,7 @@ use Rattle.laws.proofs.Sorted.{In}
 use Rattle.ledger.specs.Ledger.{Named, eachNamed, isAt, named, lastRow, rowIf, orOlder, consIf, chosen, linesAt, rowsAt, ofLine, RowFits, Fate, absent, present, Holds}
 use Rattle.ledger.specs.Tidy.{RowsOf, Paired, free, taken}
 use Rattle.ledger.proofs.ChosenLaws.{in-nil, sole}
-use Rattle.ledger.proofs.RowLaws.{firstOf, row-first, pair-is}
+use Rattle.ledger.proofs.PairRowLaws.{firstOf, row-first, pair-is}
 
 fate-move : (b c : Box) (k : Key) (s : ℕ) (r : Option Row) (t : Bool) → linesAt k s (c .lines) ≡ linesAt k s (b .lines) → rowsAt k s (c .defaults) ≡ rowsAt k s (b .defaults) → Fate b k s r t → Fate c k s r t
 fate-move b c k s r false p q (absent a d) = absent (p ∙ a) (q ∙ d)

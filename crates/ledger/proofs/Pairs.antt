@@ -4,7 +4,8 @@
 use mathlib.Core.Path.{refl}
 use mathlib.Core.List.{List, []}
 use Rattle.rules.specs.Box.{fresh}
-use Rattle.ledger.specs.Ledger.{Call, after, empty, named, chosen, absent, Holds}
+use Rattle.rules.specs.Call.{Changing}
+use Rattle.ledger.specs.Ledger.{after, empty, named, chosen, absent, Holds}
 use Rattle.ledger.proofs.PrewriteHolds.{prewrite-holds}
 use Rattle.ledger.proofs.CommitHolds.{commit-holds}
 use Rattle.ledger.proofs.RollbackHolds.{rollback-holds}
@@ -25,5 +26,5 @@ holds-kept = record {
   applied-before = λ h m b log p. again-holds h m b log p;
 }
 
-pub pairs : (cs : List Call) → Holds (after cs empty .box) (after cs empty .log)
+pub pairs : (cs : List Changing) → Holds (after cs empty .box) (after cs empty .log)
 pairs = always Holds holds-kept

@@ -14,13 +14,13 @@ use Rattle.rules.specs.declared.answers.Answer.the-variants.{Accepted}
 use Rattle.rules.specs.Box.{Box, Lock, Standing, KeyLine, Default, before, recordsOf, lockOf, rowOf, insertLine}
 use Rattle.rules.specs.Sound.{allSound}
 use Rattle.rules.specs.Calls.{kindOf, allBelow, rowStands}
-use Rattle.rules.specs.Prewrite.{Head, lockFor, storeIf, lockLine, unlessLocked, applyPrewrite, prewriteEntry, lockStep}
+use Rattle.rules.specs.Prewrite.{PrewriteTerms, lockFor, storeIf, lockLine, unlessLocked, applyPrewrite, prewriteEntry, lockStep}
 use Rattle.laws.proofs.RecordLaws.{below-started}
 use Rattle.laws.proofs.PrewriteLaws.{prewrite-passed, free-row, own-lock, own-row}
 use Rattle.ledger.specs.Ledger.{Named, ofMutation, lastRow, orOlder, linesAt, rowsAt, lineIs, RowFits, present, Holds}
 use Rattle.ledger.proofs.ChosenLaws.{chosen-other, chosen-new}
-use Rattle.ledger.proofs.LineLaws.{lock-in, no-lines}
-use Rattle.ledger.proofs.RowLaws.{firstOf, row-first, no-rows, rows-other, rows-new, self}
+use Rattle.ledger.proofs.PairLineLaws.{lock-in, no-lines}
+use Rattle.ledger.proofs.PairRowLaws.{firstOf, row-first, no-rows, rows-other, rows-new, self}
 use Rattle.ledger.proofs.PairLaws.{extend, has-one, Apart, Own}
 
 -- ---- a line comes
@@ -54,7 +54,7 @@ row-same (some r) (some q) rs f h =
 
 -- ---- the entry
 
-module _ (h : Head) (m : Mutation) (b : Box) (log : List Named) where
+module _ (h : PrewriteTerms) (m : Mutation) (b : Box) (log : List Named) where
   abbrev entry : KeyLine
   entry = record { key = m .key; line = Standing (lockFor h (kindOf (m .row))) }
 

@@ -17,16 +17,17 @@ use Rattle.rules.specs.Restore.{kindHasDefault, goodDefault, goodLock, goodWrit
 use Rattle.laws.proofs.StepLaws.{passed, by-test, and-left, and-right, and-both}
 use Rattle.laws.proofs.Sorted.{In, good-weaken}
 use Rattle.laws.proofs.RecordLaws.{eqKind-true}
-use Rattle.laws.proofs.RestoreLaws.{good-image, healthy-image, restore-keeps, placed-good, placed-defaults, placed-lines, good-lines}
-use Rattle.ledger.specs.Ledger.{Call, after, chosen, consIf, linesAt, rowsAt, Holds}
+use Rattle.laws.proofs.ImageBoxLaws.{good-image, healthy-image, restore-keeps, placed-good, placed-defaults, placed-lines, good-lines}
+use Rattle.rules.specs.Call.{Changing}
+use Rattle.ledger.specs.Ledger.{after, chosen, consIf, linesAt, rowsAt, Holds, Demand3}
 use Rattle.ledger.specs.Tidy.{RowsOf, Paired, free, taken, goodLine, goodRow, Sound, Tidy}
-use Rattle.ledger.specs.Restored.{restored, Demand3Restored}
-use Rattle.ledger.proofs.ChosenLaws.{in-cons, in-nil, sole, chosen-good, Few, few, chosen-placed}
-use Rattle.ledger.proofs.RowLaws.{firstOf, row-first, pair-is, pair-alike}
+use Rattle.ledger.specs.Restored.{restored}
+use Rattle.ledger.proofs.ChosenLaws.{in-cons, in-nil, sole, chosen-good, Few, count-fits, chosen-placed}
+use Rattle.ledger.proofs.PairRowLaws.{firstOf, row-first, pair-is, pair-alike}
 use Rattle.ledger.proofs.PairLaws.{own-holds}
 use Rattle.ledger.proofs.Always.{after-kept}
 use Rattle.ledger.proofs.Pairs.{holds-kept}
-use Rattle.ledger.proofs.Demand3.{counted, sum-is}
+use Rattle.ledger.proofs.Demand3.{holding}
 
 -- ---- a default has a Put line of its pair, and a Put line its default
 
@@ -85,8 +86,8 @@ module _ (i : Image) (g : goodImage i ≡ true) (h : healthyImage i ≡ true) wh
 
   image-pairs : (k : Key) (s : ℕ) → Paired (boxOf i) k s
   image-pairs k s =
-      go (few (lineIs k s) (λ (e : KeyLine). e .line) likeLine (λ x y. pair-alike k s _ _ _ _) (imageLines i) (healthy-image i h .lines-once))
-      (few (atPair k s) (λ (d : Default). d .row) likeDefault (λ x y. pair-alike k s _ _ _ _) (i .defaults) (good-image i g .defaults-once))
+      go (count-fits (lineIs k s) (λ (e : KeyLine). e .line) likeLine (λ x y. pair-alike k s _ _ _ _) (imageLines i) (healthy-image i h .lines-once))
+      (count-fits (atPair k s) (λ (d : Default). d .row) likeDefault (λ x y. pair-alike k s _ _ _ _) (i .defaults) (good-image i g .defaults-once))
     where
       go : Few (linesAt k s (imageLines i)) → Few (rowsAt k s (i .defaults)) → Paired (boxOf i) k s
       go (inl a) (inl d) = free (lines-are k s ∙ a) (rows-are k s ∙ d)
@@ -110,10 +111,9 @@ module _ (i : Image) (g : goodImage i ≡ true) (h : healthyImage i ≡ true) wh
   pub image-tidy : Tidy (boxOf i)
   image-tidy = record { pairs = image-pairs; sound = image-sound }
 
-  pub demand3-restored : (cs : List Call) → Demand3Restored i cs
+  pub demand3-restored : (cs : List Changing) → Demand3 (after cs (restored i))
   demand3-restored cs =
-      let hs : Holds (after cs (restored i) .box) (after cs (restored i) .log) = after-kept Holds holds-kept cs (restored i) (own-holds (boxOf i) (imageLines i) (i .defaults) image-pairs lines-are rows-are) in
-      record { pairs = hs; sum = sum-is (after cs (restored i) .box) ∙ counted _ _ hs; lines = counted _ _ hs }
+      holding (after cs (restored i)) (after-kept Holds holds-kept cs (restored i) (own-holds (boxOf i) (imageLines i) (i .defaults) image-pairs lines-are rows-are))
 
 -- whatever the image, refused or not
 pub restore-tidy : (s : Bytes) (b : Box) → Tidy b → Tidy (restore s b .box)

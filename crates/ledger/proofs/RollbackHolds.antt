@@ -14,7 +14,7 @@ use Rattle.rules.specs.Rollback.{rollbackKey, applyRollback}
 use Rattle.laws.proofs.RecordLaws.{stamped-in}
 use Rattle.laws.proofs.RollbackLaws.{rolledBack, RollbackLock, lock-free, lock-own, RollbackWay, rollback-replay, rollback-first, rollback-way}
 use Rattle.ledger.specs.Ledger.{Named, ofKey, present, Holds}
-use Rattle.ledger.proofs.RowLaws.{rows-gone, rows-stay}
+use Rattle.ledger.proofs.PairRowLaws.{rows-gone, rows-stay}
 use Rattle.ledger.proofs.PairLaws.{extend}
 use Rattle.ledger.proofs.CloseHolds.{record-at, unchanged, OfStart, closed-other, closed-same}
 

@@ -5,20 +5,21 @@ use mathlib.Core.List.{List, [], _∷_}
 use Rattle.rules.specs.Box.{Box}
 use Rattle.rules.specs.Room.{roomFor}
 use Rattle.laws.proofs.CallLaws.{fresh-room, prewriteBatch-room, commitBatch-room, rollbackBatch-room, oneStep-room}
-use Rattle.ledger.specs.Ledger.{Call, prewritingBatch, committingBatch, rollingBackBatch, oneStepping, perform, Past, then, after, empty}
+use Rattle.rules.specs.Call.{Changing, perform}
+use Rattle.ledger.specs.Ledger.{Past, then, after, empty}
 
-call-room : (c : Call) (b : Box) → roomFor b ≡ true → roomFor (perform c b .box) ≡ true
+call-room : (c : Changing) (b : Box) → roomFor b ≡ true → roomFor (perform c b .box) ≡ true
 unfolding perform
-call-room (prewritingBatch h s) b = prewriteBatch-room h s b
-call-room (committingBatch h s) b = commitBatch-room h s b
-call-room (rollingBackBatch txn start s) b = rollbackBatch-room txn start s b
-call-room (oneStepping h s) b = oneStep-room h s b
+call-room (Changing.Prewrite h s) b = prewriteBatch-room h s b
+call-room (Changing.Commit h s) b = commitBatch-room h s b
+call-room (Changing.Rollback txn start s) b = rollbackBatch-room txn start s b
+call-room (Changing.OneStep h s) b = oneStep-room h s b
 
-after-room : (cs : List Call) (p : Past) → roomFor (p .box) ≡ true → roomFor (after cs p .box) ≡ true
+after-room : (cs : List Changing) (p : Past) → roomFor (p .box) ≡ true → roomFor (after cs p .box) ≡ true
 unfolding after then
 after-room [] p v = v
 after-room (c ∷ cs) p v = after-room cs (then c p) (call-room c (p .box) v)
 
-pub rooms : (cs : List Call) → roomFor (after cs empty .box) ≡ true
+pub rooms : (cs : List Changing) → roomFor (after cs empty .box) ≡ true
 unfolding empty
 rooms cs = after-room cs empty fresh-room

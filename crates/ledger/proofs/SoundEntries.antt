@@ -20,8 +20,9 @@ use Rattle.rules.specs.Box.{Box, Lock, Standing, Finished, Default, fresh, befo
 use Rattle.rules.specs.Sound.{soundRecord, soundLock, kindFits}
 use Rattle.rules.specs.Calls.{kindOf, zeroStep, allBelow, rowArgument, kindReady, recordFor}
 use Rattle.rules.specs.Restore.{allGood}
-use Rattle.rules.specs.Prewrite.{Head, headStep, lockFor, storeIf, lockLine, unlessLocked, applyPrewrite, prewriteEntry}
-use Rattle.rules.specs.Commit.{Ending, endingStep, commitKey, applyCommit}
+use Rattle.rules.specs.Prewrite.{PrewriteTerms, prewriteTermsStep, lockFor, storeIf, lockLine, unlessLocked, applyPrewrite, prewriteEntry}
+use Rattle.rules.specs.declared.terms.CommitTerms.{CommitTerms}
+use Rattle.rules.specs.Commit.{commitTermsStep, commitKey, applyCommit}
 use Rattle.rules.specs.Rollback.{rollbackKey, applyRollback}
 use Rattle.rules.specs.OneStep.{replaceIf, applyStep}
 use Rattle.laws.proofs.StepLaws.{passed, by-test, then-left, then-right, need-true, and-both}
@@ -51,34 +52,34 @@ row-kind : (r : Option Row) → not (eqKind (kindOf r) Rollback) ≡ true
 row-kind none = refl
 row-kind (some r) = refl
 
-sound-lock : (h : Head) (r : Option Row) → headStep h ≡ Accepted → soundLock (lockFor h (kindOf r)) ≡ true
-unfolding headStep soundLock
+sound-lock : (h : PrewriteTerms) (r : Option Row) → prewriteTermsStep h ≡ Accepted → soundLock (lockFor h (kindOf r)) ≡ true
+unfolding prewriteTermsStep soundLock
 sound-lock h r z =
     and-both _ _ (and-both _ _ (and-both _ _ (and-both _ _ (need-true _ _ (then-left _ _ z)) (need-true _ _ (then-left _ _ (then-right _ _ z))))
     (need-true _ _ (then-right _ _ (then-right _ _ (then-right _ _ z))))) (row-kind r)) (need-true _ _ (then-left _ _ (then-right _ _ (then-right _ _ z))))
 
-start-there : (h : Head) → headStep h ≡ Accepted → not (eqb (h .start) 0) ≡ true
-unfolding headStep
+start-there : (h : PrewriteTerms) → prewriteTermsStep h ≡ Accepted → not (eqb (h .start) 0) ≡ true
+unfolding prewriteTermsStep
 start-there h z = search passed
 
-start-some : (h : Ending) → endingStep h ≡ Accepted → not (eqb (h .start) 0) ≡ true
-unfolding endingStep zeroStep
+start-some : (h : CommitTerms) → commitTermsStep h ≡ Accepted → not (eqb (h .start) 0) ≡ true
+unfolding commitTermsStep zeroStep
 start-some h z = search passed
 
-commit-above : (h : Ending) → endingStep h ≡ Accepted → ltb (h .start) (h .commit) ≡ true
-unfolding endingStep
+commit-above : (h : CommitTerms) → commitTermsStep h ≡ Accepted → ltb (h .start) (h .commit) ≡ true
+unfolding commitTermsStep
 commit-above h z = search passed
 
 -- ---- a lock comes
 
-store-good : (h : Head) (k : Key) (r : Option Row) (ds : List Default) → headStep h ≡ Accepted → keyForm k ≡ true → rowArgument r ≡ true → allGood goodRow ds ≡ true
+store-good : (h : PrewriteTerms) (k : Key) (r : Option Row) (ds : List Default) → prewriteTermsStep h ≡ Accepted → keyForm k ≡ true → rowArgument r ≡ true → allGood goodRow ds ≡ true
     → allGood goodRow (storeIf k (h .start) r ds) ≡ true
 unfolding storeIf
 store-good h k none ds z f a g = g
 store-good h k (some r) ds z f a g = all-insert rowBefore (record { key = k; start = h .start; row = r }) goodRow ds (and-both _ _ (and-both _ _ f (start-there h z)) a) g
 
-module _ (h : Head) (m : Mutation) (b : Box) (p : prewriteEntry h b m ≡ Accepted) where
-  pub prewrite-sound : headStep h ≡ Accepted → Sound b → Sound (applyPrewrite h m b)
+module _ (h : PrewriteTerms) (m : Mutation) (b : Box) (p : prewriteEntry h b m ≡ Accepted) where
+  pub prewrite-sound : prewriteTermsStep h ≡ Accepted → Sound b → Sound (applyPrewrite h m b)
   unfolding applyPrewrite unlessLocked lockLine
   prewrite-sound z v = go (lockOf (m .key) (b .lines))
     where
@@ -104,12 +105,12 @@ module _ (h : Head) (m : Mutation) (b : Box) (p : prewriteEntry h b m ≡ Accept
 abbrev closed : Box → Key → Record → List Default → Box
 closed b k w ds = record { lines = insertLine (record { key = k; line = Finished w }) (dropLock k (b .lines)); defaults = ds }
 
-pub data Ended (b : Box) (k : Key) (c : Box) : Type 0 where
-  as-before : c ≡ b → Ended b k c
-  with-record : (w : Record) (ds : List Default) → c ≡ closed b k w ds → keyForm k ≡ true → soundRecord w ≡ true → (allGood goodRow (b .defaults) ≡ true → allGood goodRow ds ≡ true) → Ended b k c
+pub data RecordSlot (b : Box) (k : Key) (c : Box) : Type 0 where
+  as-before : c ≡ b → RecordSlot b k c
+  with-record : (w : Record) (ds : List Default) → c ≡ closed b k w ds → keyForm k ≡ true → soundRecord w ≡ true → (allGood goodRow (b .defaults) ≡ true → allGood goodRow ds ≡ true) → RecordSlot b k c
 
 module _ (b c : Box) (k : Key) where
-  pub ended-sound : Ended b k c → Sound b → Sound c
+  pub ended-sound : RecordSlot b k c → Sound b → Sound c
   ended-sound (as-before e) v = rw e v
   ended-sound (with-record w ds e f s g) v =
       rw e record {
@@ -117,7 +118,7 @@ module _ (b c : Box) (k : Key) where
         rows = g (v .rows);
       }
 
-  pub ended-rising : Ended b k c → inOrder c ≡ true → Rising b → Rising c
+  pub ended-rising : RecordSlot b k c → inOrder c ≡ true → Rising b → Rising c
   ended-rising (as-before e) o v = rw e v
   ended-rising (with-record w ds e f s g) o v = record { order = o; above = rw e above }
     where
@@ -128,20 +129,20 @@ module _ (b c : Box) (k : Key) where
           by-test (λ t. allBelow (l .start) (recordsOf i (closed b k w ds .lines)) ≡ true) (eqBytes i k) (λ q. absurd (true≢false (cc (e, gone (eqBytes-true i k q)))))
           (λ q. rw (records-other i (record { key = k; line = Finished w }) (dropLock k (b .lines)) q ∙ records-dropLock i k (b .lines)) (v .above i l (sym (locks q) ∙ e)))
 
-pub commit-ended : (h : Ending) (k : Key) (b : Box) → endingStep h ≡ Accepted → commitKey h b k ≡ Accepted → Ended b k (applyCommit h k b)
+pub commit-ended : (h : CommitTerms) (k : Key) (b : Box) → commitTermsStep h ≡ Accepted → commitKey h b k ≡ Accepted → RecordSlot b k (applyCommit h k b)
 commit-ended h k b z p = go (commit-way h b k p)
   where
-    go : CommitWay h b k → Ended b k (applyCommit h k b)
+    go : CommitWay h b k → RecordSlot b k (applyCommit h k b)
     go (commit-replay w e n c a r q) = as-before q
     go (commit-first l e f t s a r q) =
         with-record (recordFor (l .start) (h .commit) (l .kind)) (b .defaults) q (commit-passed h b k p .key)
         (rw s (sound-for (h .start) (h .commit) (l .kind) (start-some h z) (ready-fits (l .kind) _ _ _ r (commit-above h z)))) (λ g. g)
 
-pub rollback-ended : (txn s : ℕ) (k : Key) (b : Box) → zeroStep txn s ≡ Accepted → rollbackKey txn s b k ≡ Accepted → Ended b k (applyRollback s k b)
+pub rollback-ended : (txn s : ℕ) (k : Key) (b : Box) → zeroStep txn s ≡ Accepted → rollbackKey txn s b k ≡ Accepted → RecordSlot b k (applyRollback s k b)
 unfolding zeroStep
 rollback-ended txn s k b z p = go (rollback-way txn s b k p)
   where
-    go : RollbackWay txn s b k → Ended b k (applyRollback s k b)
+    go : RollbackWay txn s b k → RecordSlot b k (applyRollback s k b)
     go (rollback-replay w e n c a r q) = as-before q
     go (rollback-first e n o q) =
         with-record (recordFor s s Rollback) (dropRow k s (b .defaults)) q (rollback-passed txn s b k p .key)
@@ -153,7 +154,7 @@ replace-good k s none ds f z a g = g
 replace-good k s (some r) ds f z a g =
     all-insert rowBefore (record { key = k; start = s; row = r }) goodRow (dropRow k s ds) (and-both _ _ (and-both _ _ f z) a) (fewer-good goodRow (dropRow-fewer k s ds) g)
 
-pub step-ended : (h : Ending) (m : Mutation) (b : Box) → endingStep h ≡ Accepted → keyForm (m .key) ≡ true → rowArgument (m .row) ≡ true → Ended b (m .key) (applyStep h m b)
+pub step-ended : (h : CommitTerms) (m : Mutation) (b : Box) → commitTermsStep h ≡ Accepted → keyForm (m .key) ≡ true → rowArgument (m .row) ≡ true → RecordSlot b (m .key) (applyStep h m b)
 unfolding applyStep
 step-ended h m b z f a =
     with-record (recordFor (h .start) (h .commit) (kindOf (m .row))) (replaceIf (m .key) (h .start) (m .row) (b .defaults)) refl f

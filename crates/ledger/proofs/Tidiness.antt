@@ -6,7 +6,8 @@ use Rattle.rules.specs.Box.{Box, fresh}
 use Rattle.laws.proofs.CommitLaws.{commit-order}
 use Rattle.laws.proofs.RollbackLaws.{rollback-order}
 use Rattle.laws.proofs.OneStepLaws.{step-order}
-use Rattle.ledger.specs.Ledger.{Call, perform, Named, eachNamed, after, empty, ofLine, Holds}
+use Rattle.rules.specs.Call.{Changing, perform}
+use Rattle.ledger.specs.Ledger.{Named, eachNamed, after, empty, ofLine, Holds}
 use Rattle.ledger.specs.Tidy.{Sound, Tidy, Rising, Unrestored}
 use Rattle.ledger.proofs.PairLaws.{paired, own-holds}
 use Rattle.ledger.proofs.SoundEntries.{fresh-sound, fresh-rising, prewrite-sound, prewrite-rising, ended-sound, ended-rising, commit-ended, rollback-ended, step-ended}
@@ -49,12 +50,12 @@ tidy-of b log hs v = record { pairs = λ k s. paired b k s _ _ (hs k s); sound =
 pub fresh-tidy : Tidy fresh
 fresh-tidy = tidy-of fresh [] (holds-kept .at-first) fresh-sound
 
-pub tidy-kept : (c : Call) (b : Box) → Tidy b → Tidy (perform c b .box)
+pub tidy-kept : (c : Changing) (b : Box) → Tidy b → Tidy (perform c b .box)
 tidy-kept c b v = tidy-of _ _ (call-kept Holds holds-kept b (ownLog b) (own b v) c) (call-kept (λ b log. Sound b) sound-kept b [] (v .sound) c)
 
 -- ---- every sequence from an empty store
 
-pub tidy : (cs : List Call) → Unrestored (after cs empty .box)
+pub tidy : (cs : List Changing) → Unrestored (after cs empty .box)
 tidy cs = record {
   tidy = tidy-of _ _ (pairs cs) (always (λ b log. Sound b) sound-kept cs);
   rising = always (λ b log. Rising b) rising-kept cs;

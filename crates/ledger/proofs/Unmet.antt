@@ -30,12 +30,12 @@ use Rattle.rules.specs.Restore.{allGood}
 use Rattle.laws.proofs.StepLaws.{passed, and-left, and-right, by-test}
 use Rattle.laws.proofs.Sorted.{In}
 use Rattle.laws.proofs.RecordLaws.{eqKind-true, in-sound, below-started, started-in, stamped-in, rollback-started}
-use Rattle.laws.proofs.ReadLaws.{walk-accepts, locks-good}
+use Rattle.laws.proofs.NewestFirstLaws.{walk-accepts, locks-good}
 use Rattle.ledger.specs.Ledger.{linesAt, rowsAt}
 use Rattle.ledger.specs.Tidy.{RowsOf, Paired, free, taken, goodLine, goodRow, soundLine, Tidy}
 use Rattle.ledger.proofs.ChosenLaws.{chosen-good, in-nil, sole}
-use Rattle.ledger.proofs.LineLaws.{lock-in, record-in, no-lines}
-use Rattle.ledger.proofs.RowLaws.{firstOf, row-first}
+use Rattle.ledger.proofs.PairLineLaws.{lock-in, record-in, no-lines}
+use Rattle.ledger.proofs.PairRowLaws.{firstOf, row-first}
 use Rattle.ledger.proofs.CloseHolds.{lock-at, record-at}
 
 -- a Put has a row that decodes, a Delete and a Rollback none

@@ -2,7 +2,7 @@
 -- of key and start that an accepted call named as an entry has exactly one line, no other pair has any (so locks plus records equal the
 -- number of different pairs), and a row is stored for exactly the pairs whose line is a Put: the row of the last accepted call that carried
 -- one." It is said here over the calls' own definitions; proofs/Demand3.antt has the theorem.
--- Demand 1, its second half, over the same calls: a refusal leaves the box as it was; proofs/Refusals.antt has that theorem.
+-- Demand 1, its second half, over the same calls: a refusal leaves the box as it was; proofs/BoxRefusals.antt has that theorem.
 -- Assumes nothing.
 use Prim.Native.Nat.{ℕ, suc, _+_}
 use mathlib.Core.Path.{_≡_}
@@ -21,29 +21,8 @@ use Rattle.rules.specs.declared.records.Kind.{Kind}
 use Rattle.rules.specs.declared.records.Kind.the-variants.{Put, Delete, Rollback}
 use Rattle.rules.specs.Box.{Box, Line, KeyLine, Default, fresh, atPair, rowOf, eqKind}
 pub use Rattle.rules.specs.Box.{startOf, kindIn, lineIs}
-use Rattle.rules.specs.Calls.{Done}
-use Rattle.rules.specs.Prewrite.{Head, prewriteBatch}
-use Rattle.rules.specs.Commit.{Ending, commitBatch}
-use Rattle.rules.specs.Rollback.{rollbackBatch}
-use Rattle.rules.specs.OneStep.{oneStep}
+use Rattle.rules.specs.Call.{Changing, perform}
 use Rattle.rules.specs.Figures.{stats}
-
--- ---- the calls
-
--- "prewrites, commits, rollbacks and one-step batches": a batch is its bytes, in form or not. A single form is its batch of one (`oneMutation`,
--- `oneKey`), whose entry is the call's own wherever it is accepted (`prewrite-named` of laws/proofs/Singles, and so on)
-pub data Call : Type 0 where
-  prewritingBatch : Head → Bytes → Call
-  committingBatch : Ending → Bytes → Call
-  rollingBackBatch : ℕ → ℕ → Bytes → Call
-  oneStepping : Ending → Bytes → Call
-
--- what a call answers, and the box after it
-unfoldable pub perform : Call → Box → Done
-perform (prewritingBatch h s) b = prewriteBatch h s b
-perform (committingBatch h s) b = commitBatch h s b
-perform (rollingBackBatch txn start s) b = rollbackBatch txn start s b
-perform (oneStepping h s) b = oneStep h s b .done
 
 -- ---- what a call named
 
@@ -72,11 +51,11 @@ eachNamed f [] = []
 eachNamed f (x ∷ xs) = f x ∷ eachNamed f xs
 
 -- what a call names, if it is accepted
-unfoldable pub namedBy : Call → List Named
-namedBy (prewritingBatch h s) = eachNamed (ofMutation (h .start)) (entriesIn (mutations s))
-namedBy (committingBatch h s) = eachNamed (ofKey (h .start)) (entriesIn (keys s))
-namedBy (rollingBackBatch txn start s) = eachNamed (ofKey start) (entriesIn (keys s))
-namedBy (oneStepping h s) = eachNamed (ofMutation (h .start)) (entriesIn (mutations s))
+unfoldable pub namedBy : Changing → List Named
+namedBy (Changing.Prewrite h s) = eachNamed (ofMutation (h .start)) (entriesIn (mutations s))
+namedBy (Changing.Commit h s) = eachNamed (ofKey (h .start)) (entriesIn (keys s))
+namedBy (Changing.Rollback txn start s) = eachNamed (ofKey start) (entriesIn (keys s))
+namedBy (Changing.OneStep h s) = eachNamed (ofMutation (h .start)) (entriesIn (mutations s))
 
 -- ---- "after any sequence of .., refused ones included"
 
@@ -97,11 +76,11 @@ pub record Past : Type 0 where
   pub log : List Named
 
 -- one more call
-unfoldable pub then : Call → Past → Past
+unfoldable pub then : Changing → Past → Past
 then c p = record { box = perform c (p .box) .box; log = logged (perform c (p .box) .answer) (namedBy c) (p .log) }
 
 -- "after any sequence"
-unfoldable pub after : List Call → Past → Past
+unfoldable pub after : List Changing → Past → Past
 after [] p = p
 after (c ∷ cs) p = after cs (then c p)
 
@@ -192,13 +171,13 @@ pub data Fate (b : Box) (k : Key) (s : ℕ) (last : Option Row) : Bool → Type 
 abbrev pub Holds : Box → List Named → Type 0
 Holds b log = (k : Key) (s : ℕ) → Fate b k s (lastRow k s log) (named k s log)
 
--- the sentence, of the box after the calls: every pair's fate; "so locks plus records equal the number of different pairs", by the
--- statistics' own counts; and so many lines there are
-pub record Demand3 (cs : List Call) : Type 0 where
-  pub pairs : Holds (after cs empty .box) (after cs empty .log)
-  pub sum : stats (after cs empty .box) .locks + stats (after cs empty .box) .records .all ≡ differentPairs (after cs empty .log)
-  pub lines : length (after cs empty .box .lines) ≡ differentPairs (after cs empty .log)
+-- the sentence, of a box and what the accepted calls that led to it named, as `after cs empty`, "From an empty store, after any sequence": every
+-- pair's fate; "so locks plus records equal the number of different pairs", by the statistics' own counts; and so many lines there are
+pub record Demand3 (p : Past) : Type 0 where
+  pub pairs : Holds (p .box) (p .log)
+  pub sum : stats (p .box) .locks + stats (p .box) .records .all ≡ differentPairs (p .log)
+  pub lines : length (p .box .lines) ≡ differentPairs (p .log)
 
 -- Demand 1, "A refusal changes nothing in store or buffers": whatever the call and the box
-abbrev pub Refusal : Call → Box → Type 0
+abbrev pub Refusal : Changing → Box → Type 0
 Refusal c b = (perform c b .answer ≡ Accepted → ⊥) → perform c b .box ≡ b

@@ -2,38 +2,43 @@
 // copies a table for its name; and every type that a call takes or gives back, with the types of its fields, so that a caller names no other
 // crate. `fresh` is the Rust's `new`, `restore` its `restore_from_snapshot_entries`. A store and its area of `AREA` bytes go together: between
 // calls the area is the store's own, and nobody else writes to it. Every call's only premise is that our code made them (`Made`,
-// crates/lines/specs/Made.antt). Each call is tied to the demands in crates/demands/src/ties.rt, by its name here.
-pub use calls::Changed;
-pub use commits::commit_intent;
-pub use commits::commit_intents_batch;
-pub use figures::allocator_high_water_marks;
-pub use figures::stats;
-pub use lines::AREA;
-pub use lines::Ended;
-pub use lines::Line;
-pub use lines::Slot;
-pub use lines::Stood;
-pub use lines::Store;
-pub use lines::fresh;
-pub use onesteps::Stepped;
-pub use onesteps::commit_batch;
-pub use pages::Paged;
-pub use pages::scan_conflicting_intents;
-pub use pages::scan_intent_page;
-pub use pages::scan_page;
-pub use prewrites::prewrite;
-pub use prewrites::prewrite_batch;
-pub use reads::Pointed;
-pub use reads::Reading;
-pub use reads::Seen;
-pub use reads::ShownLock;
+// crates/store/specs/Made.antt). Each call is tied to the demands in crates/demands/src/ties.rt, by its name here.
+
+// A store, fresh or from an image.
+pub use restores::restore;
+pub use store::fresh;
+
+// What a key shows at a moment, and the lock that stands in the way of a read.
 pub use reads::intent_for_read;
 pub use reads::primary_of;
 pub use reads::read;
 pub use reads::row_of;
-pub use restores::restore;
+
+// Pages of rows, of locks, and of the locks in the way of a read.
+pub use pages::scan_conflicting_intents;
+pub use pages::scan_intent_page;
+pub use pages::scan_page;
+
+// Transactions: prewrite, then commit or rollback, of one key or of a batch; or all in one step.
+pub use commits::commit_intent;
+pub use commits::commit_intents_batch;
+pub use onesteps::commit_batch;
+pub use prewrites::prewrite;
+pub use prewrites::prewrite_batch;
 pub use rollbacks::rollback_intent;
 pub use rollbacks::rollback_intents_batch;
+
+// Figures of the whole store.
+pub use figures::allocator_high_water_marks;
+pub use figures::stats;
+
+// The types that calls take and give back.
+pub use calls::Changed;
+pub use onesteps::Stepped;
+pub use reads::LockSeen;
+pub use reads::Reading;
+pub use reads::RowSeen;
+pub use reads::ShownLock;
 pub use rules::Answer;
 pub use rules::Figures;
 pub use rules::Holder;
@@ -41,3 +46,10 @@ pub use rules::Kind;
 pub use rules::Load;
 pub use rules::Marks;
 pub use rules::Stats;
+pub use rules::Wrote;
+pub use store::AREA;
+pub use store::Line;
+pub use store::LockSlot;
+pub use store::RecordSlot;
+pub use store::Slot;
+pub use store::Store;

@@ -17,7 +17,8 @@ use Rattle.rules.specs.Box as box
 use Rattle.rules.specs.Room.{roomFor}
 use Rattle.rules.specs.Sound.{allSound}
 use Rattle.rules.specs.Calls.{settle, kindOf, zeroStep, allBelow, recordFor}
-use Rattle.rules.specs.Commit.{Ending, endingStep}
+use Rattle.rules.specs.declared.terms.CommitTerms.{CommitTerms}
+use Rattle.rules.specs.Commit.{commitTermsStep}
 use Rattle.rules.specs.OneStep.{Applied, already, notYet, otherwise, isOther, isAlready, appliedIn, argumentsStep, noneOther, allApplied, someApplied, stepLock, stepEntry, stepEntries, newestStep, applyStep, applySteps, stepNew, stepApplied, thenApplied}
 use Rattle.laws.specs.Adds.{sumLoads, plus}
 use Rattle.laws.proofs.StepLaws.{then-left, then-right, then-both, then-assoc, need-true, need-is, and-both, and-left, and-right}
@@ -26,13 +27,13 @@ use Rattle.laws.proofs.FrameLaws.{ascend-apart}
 use Rattle.laws.proofs.BatchLaws.{checkAll}
 use Rattle.laws.proofs.OneStepLaws.{stepCheck, step-passed, step-records, steps-check, steps-other}
 use Rattle.calls.proofs.AnswerLaws.{then-end}
-use Rattle.onesteps.specs.Meets.{isNew, allNew, whenPassed}
+use Rattle.onesteps.specs.Checks.{isNew, allNew, whenPassed}
 use Rattle.onesteps.specs.Counts.{laterDone}
 
 -- ---- which entries are applied
 
 -- an entry that is applied has no other kind or row
-all-clean : (h : Ending) (b : box.Box) (ms : List Mutation) → allApplied h b ms ≡ true → noneOther h b ms ≡ true
+all-clean : (h : CommitTerms) (b : box.Box) (ms : List Mutation) → allApplied h b ms ≡ true → noneOther h b ms ≡ true
 unfolding allApplied noneOther
 all-clean h b [] e = refl
 all-clean h b (m ∷ ms) e = and-both _ _ (go (appliedIn h b m) (and-left _ _ e)) (all-clean h b ms (and-right (isAlready (appliedIn h b m)) _ e))
@@ -43,7 +44,7 @@ all-clean h b (m ∷ ms) e = and-both _ _ (go (appliedIn h b m) (and-left _ _ e)
     go otherwise q = absurd (false≢true q)
 
 -- at no key has the record at commit this start
-new-is : (h : Ending) (b : box.Box) (ms : List Mutation) → allNew h b ms ≡ noneOther h b ms && not (someApplied h b ms)
+new-is : (h : CommitTerms) (b : box.Box) (ms : List Mutation) → allNew h b ms ≡ noneOther h b ms && not (someApplied h b ms)
 unfolding allNew noneOther someApplied
 new-is h b [] = refl
 new-is h b (m ∷ ms) = go (appliedIn h b m) (noneOther h b ms) (someApplied h b ms) (new-is h b ms)
@@ -57,18 +58,18 @@ new-is h b (m ∷ ms) = go (appliedIn h b m) (noneOther h b ms) (someApplied h b
     go notYet c s e = e
     go otherwise c s e = refl
 
-not-empty : (h : Ending) (b : box.Box) (ms : List Mutation) → allApplied h b ms ≡ false → 0 < length ms
+not-empty : (h : CommitTerms) (b : box.Box) (ms : List Mutation) → allApplied h b ms ≡ false → 0 < length ms
 unfolding allApplied
 not-empty h b [] e = absurd (true≢false e)
 not-empty h b (m ∷ ms) e = omega arith
 
 -- ---- "newest at or above commit 8": no record is, where each is stamped below the start
 
-ending-later : (h : Ending) → endingStep h ≡ Accepted → h .start < h .commit
-unfolding endingStep
+ending-later : (h : CommitTerms) → commitTermsStep h ≡ Accepted → h .start < h .commit
+unfolding commitTermsStep
 ending-later h p = ltb-true _ _ (need-true _ 3 (then-right (zeroStep (h .txn) (h .start)) _ p))
 
-newest-passes : (h : Ending) → endingStep h ≡ Accepted → (b : box.Box) (ms : List Mutation) → stepEntries h b ms ≡ Accepted → newestStep h b ms ≡ Accepted
+newest-passes : (h : CommitTerms) → commitTermsStep h ≡ Accepted → (b : box.Box) (ms : List Mutation) → stepEntries h b ms ≡ Accepted → newestStep h b ms ≡ Accepted
 unfolding stepEntries newestStep stepEntry
 newest-passes h p b [] e = refl
 newest-passes h p b (m ∷ ms) e =
@@ -78,7 +79,7 @@ newest-passes h p b (m ∷ ms) e =
     let l = ending-later h p in
     then-both _ _ (need-is _ 8 (below-more (h .start) (h .commit) ws (omega arith) below)) (newest-passes h p b ms (then-right (stepLock h (kindOf (m .row)) (box.lockOf (m .key) (b .lines)) ▸ need (allSound ws) 9 ▸ need (allBelow (h .start) ws) 8) _ e))
 
-pub entries-check : (h : Ending) → endingStep h ≡ Accepted → (b : box.Box) (ms : List Mutation) → stepEntries h b ms ≡ Accepted → checkAll (stepCheck h) b ms ≡ Accepted
+pub entries-check : (h : CommitTerms) → commitTermsStep h ≡ Accepted → (b : box.Box) (ms : List Mutation) → stepEntries h b ms ≡ Accepted → checkAll (stepCheck h) b ms ≡ Accepted
 entries-check h p b ms e = steps-check h b ms e (newest-passes h p b ms e)
 
 -- what follows a step matters only where it passes
@@ -107,7 +108,7 @@ unfolding need _▸_
 need-both true c v = refl
 need-both false c v = refl
 
-module _ (h : Ending) (b : box.Box) (ms : List Mutation) where
+module _ (h : CommitTerms) (b : box.Box) (ms : List Mutation) where
   -- "All applied: accepted, unchanged"
   pub later-all : allApplied h b ms ≡ true → laterDone h ms b ≡ record { answer = argumentsStep ms; box = b }
   unfolding laterDone stepApplied need
@@ -115,7 +116,7 @@ module _ (h : Ending) (b : box.Box) (ms : List Mutation) where
       ap₂ (λ (c t : Bool). thenApplied (argumentsStep ms ▸ need c 9) b (stepApplied t h ms b)) (all-clean h b ms e) e
       ∙ then-same (argumentsStep ms ▸ Accepted) b ∙ ap (λ (x : Answer). record { answer = x; box = b }) (then-end (argumentsStep ms))
 
-  pub later-new : endingStep h ≡ Accepted → allApplied h b ms ≡ false
+  pub later-new : commitTermsStep h ≡ Accepted → allApplied h b ms ≡ false
       → laterDone h ms b ≡ settle (argumentsStep ms ▸ need (allNew h b ms) 9 ▸ stepEntries h b ms ▸ need (roomFor (applySteps h ms b)) 11) (applySteps h ms b) b
   unfolding laterDone stepApplied stepNew _▸_
   later-new p e =
@@ -129,24 +130,24 @@ module _ (h : Ending) (b : box.Box) (ms : List Mutation) where
       (after-step (stepEntries h b ms) _ _ (λ q. ap (λ (x : Answer). x ▸ need (roomFor (applySteps h ms b)) 11) (newest-passes h p b ms q)))))
 
 -- where all entries pass, each one's weight counts
-pub sums-passed : (h : Ending) (b : box.Box) (f : Mutation → Load) (ms : List Mutation) → stepEntries h b ms ≡ Accepted → sumLoads (λ (m : Mutation). whenPassed (stepEntry h b m) (f m)) ms ≡ sumLoads f ms
+pub sums-passed : (h : CommitTerms) (b : box.Box) (f : Mutation → Load) (ms : List Mutation) → stepEntries h b ms ≡ Accepted → sumLoads (λ (m : Mutation). whenPassed (stepEntry h b m) (f m)) ms ≡ sumLoads f ms
 unfolding stepEntries sumLoads
 sums-passed h b f [] e = refl
 sums-passed h b f (m ∷ ms) e = ap₂ plus (ap (λ (a : Answer). whenPassed a (f m)) (then-left _ _ e)) (sums-passed h b f ms (then-right (stepEntry h b m) _ e))
 
 -- ---- the box that a batch leaves is another one: the first entry's key has one record more
 
-first-check : (h : Ending) (m : Mutation) (ms : List Mutation) (b : box.Box) → checkAll (stepCheck h) b (m ∷ ms) ≡ Accepted → stepCheck h b m ≡ Accepted
+first-check : (h : CommitTerms) (m : Mutation) (ms : List Mutation) (b : box.Box) → checkAll (stepCheck h) b (m ∷ ms) ≡ Accepted → stepCheck h b m ≡ Accepted
 unfolding checkAll
 first-check h m ms b p = then-left _ _ p
 
-one-more : (h : Ending) (m : Mutation) (ms : List Mutation) (b : box.Box) → ascend keyIn (m ∷ ms) ≡ true → stepCheck h b m ≡ Accepted → box.inOrder b ≡ true
+one-more : (h : CommitTerms) (m : Mutation) (ms : List Mutation) (b : box.Box) → ascend keyIn (m ∷ ms) ≡ true → stepCheck h b m ≡ Accepted → box.inOrder b ≡ true
     → length (box.recordsOf (m .key) (applySteps h (m ∷ ms) b .lines)) ≡ length (box.recordsOf (m .key) (b .lines)) + 1
 unfolding applySteps
 one-more h m ms b asc p o =
     ap length (steps-other h (h .start) (m .key) ms (applyStep h m b) (ascend-apart keyIn m ms asc) .records ∙ step-records h m b o (step-passed h b m p .newest))
     ∙ length-append (box.recordsOf (m .key) (b .lines)) (recordFor (h .start) (h .commit) (kindOf (m .row)) ∷ [])
 
-pub steps-differ : (h : Ending) (ms : List Mutation) (b : box.Box) → allApplied h b ms ≡ false → ascend keyIn ms ≡ true → checkAll (stepCheck h) b ms ≡ Accepted → box.inOrder b ≡ true → applySteps h ms b ≡ b → ⊥
+pub steps-differ : (h : CommitTerms) (ms : List Mutation) (b : box.Box) → allApplied h b ms ≡ false → ascend keyIn ms ≡ true → checkAll (stepCheck h) b ms ≡ Accepted → box.inOrder b ≡ true → applySteps h ms b ≡ b → ⊥
 steps-differ h [] b n asc p o e = let z = not-empty h b [] n in absurd (omega arith)
 steps-differ h (m ∷ ms) b n asc p o e = omega (arith, one-more h m ms b asc (first-check h m ms b p) o, ap (λ (x : box.Box). length (box.recordsOf (m .key) (x .lines))) e)

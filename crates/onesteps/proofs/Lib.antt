@@ -1,5 +1,6 @@
-pub mod MeetLaws
-pub mod PassLaws
+-- The laws of `onesteps`, in the order in which they build on each other.
+pub mod StepCheckLaws
+pub mod StepPassLaws
 pub mod LaterLaws
-pub mod ApplyLaws
-pub mod BatchLaws
+pub mod StepApplyLaws
+pub mod StepBatchLaws

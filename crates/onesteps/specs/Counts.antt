@@ -8,9 +8,9 @@ use Rattle.forms.specs.Batch.{Mutation}
 use Rattle.rules.specs.Answers.{_▸_, need}
 use Rattle.rules.specs.Box as box
 use Rattle.rules.specs.Calls.{Done}
-use Rattle.rules.specs.Commit.{Ending}
+use Rattle.rules.specs.declared.terms.CommitTerms.{CommitTerms}
 use Rattle.rules.specs.OneStep.{Counted, countIf, argumentsStep, noneOther, allApplied, stepApplied, thenApplied}
-use Rattle.lines.specs.declared.store.Store.{Store}
+use Rattle.store.specs.declared.table.Store.{Store}
 use Rattle.calls.specs.Settled.{Settled}
 use Rattle.onesteps.specs.declared.batch.Stepped.{Stepped}
 
@@ -20,8 +20,8 @@ pub record Counts (st : Store) (area : Bytes) (d : Counted) (r : Stepped) (area�
   pub count-is : r .count ≡ d .count
 
 -- what a batch in form does whose head has passed: "each entry in turn 1, 2; ..", and its count
-unfoldable pub laterDone : Ending → List Mutation → box.Box → Done
+unfoldable pub laterDone : CommitTerms → List Mutation → box.Box → Done
 laterDone h ms b = thenApplied (argumentsStep ms ▸ need (noneOther h b ms) 9) b (stepApplied (allApplied h b ms) h ms b)
 
-abbrev pub laterCounted : Ending → List Mutation → box.Box → Counted
+abbrev pub laterCounted : CommitTerms → List Mutation → box.Box → Counted
 laterCounted h ms b = record { done = laterDone h ms b; count = countIf (laterDone h ms b .answer) (length ms) }

@@ -3,21 +3,21 @@ ghost use mathlib.Core.Path.{_≡_};
 ghost use Rattle.seqs.specs.Tables.{shown};
 ghost use Rattle.forms.specs.Places.{mutationOf};
 ghost use Rattle.rules.specs.declared.answers.Answer.the-variants.{Accepted};
-ghost use Rattle.rules.specs.Commit.{endingStep};
+ghost use Rattle.rules.specs.Commit.{commitTermsStep};
 ghost use Rattle.rules.specs.OneStep.{oneStep};
-ghost use Rattle.lines.specs.View.{boxOf};
-ghost use Rattle.lines.specs.Made.{Made};
-ghost use Rattle.calls.specs.Walks.{endingOf, AllAsks};
+ghost use Rattle.store.specs.View.{boxOf};
+ghost use Rattle.store.specs.Made.{Made};
+ghost use Rattle.calls.specs.Entries.{AllAsks};
 ghost use Rattle.onesteps.specs.Counts.{laterCounted, Counts};
-use crate::passes::both;
+use crate::passes::check_all;
 use crate::passes::judge;
-use crate::passes::meet_all;
-use applies::Deed;
-use calls::Terms;
+use actions::Action;
 use forms::Entry;
-use lines::AREA;
-use lines::Store;
+use forms::both;
 use rules::Answer;
+use rules::CommitTerms;
+use store::AREA;
+use store::Store;
 
 // The store after a one-step batch, what the call answers, and "The count is the number of entries".
 pub struct Stepped {
@@ -31,28 +31,28 @@ pub struct Stepped {
 fn step_all(
     store: Store,
     area: &mut [u8],
-    terms: Terms,
+    terms: CommitTerms,
     batch: &[u8],
     n: usize,
     list: [Entry; 32],
 ) -> Stepped
-    requires { ⌜ (AllAsks store (now area) (now batch) n list) × (endingStep (endingOf terms) ≡ Accepted) ⌝ }
-    ensures { λ r. ⌜ Counts store (now (area .entry)) (laterCounted (endingOf terms) (shown (mutationOf (now (batch .entry))) n list) (boxOf store (now (area .entry)))) r (now (area .exit)) ⌝ }
+    requires { ⌜ (AllAsks store (now area) (now batch) n list) × (commitTermsStep terms ≡ Accepted) ⌝ }
+    ensures { λ r. ⌜ Counts store (now (area .entry)) (laterCounted terms (shown (mutationOf (now (batch .entry))) n list) (boxOf store (now (area .entry)))) r (now (area .exit)) ⌝ }
 {
-    let met = meet_all(store, area, terms, batch, n, list);
+    let met = check_all(store, area, terms, batch, n, list);
     let load = store.load;
     let answer = judge(met, load);
     let passed = calls::accepted(answer);
     let tally = met.tally;
     let moves = both(passed, !tally.all);
-    let deed = Deed::Step {
+    let action = Action::Step {
         txn: terms.txn,
         start: terms.start,
         commit: terms.commit,
     };
     let m = calls::only_if(moves, n);
     let none = &batch[0..0];
-    let applied = calls::apply_all(store, area, deed, none, batch, m, list);
+    let applied = calls::apply_all(store, area, action, none, batch, m, list);
     let count = calls::only_if(passed, n);
     Stepped {
         store: applied,
@@ -81,12 +81,12 @@ pub fn commit_batch(
             count: 0,
         };
     }
-    let terms = Terms {
+    let terms = CommitTerms {
         txn: txn,
         start: start,
         commit: commit,
     };
-    let head = calls::ending_step(terms);
+    let head = calls::commit_terms_step(terms);
     if !calls::accepted(head) {
         return Stepped {
             store: store,

@@ -1,35 +1,26 @@
 // The checking pass over a batch, and what it comes to. Nothing is written before the last entry has been looked up.
 ghost use mathlib.Core.Path.{_≡_};
-ghost use mathlib.Core.Bool.{_&&_};
 ghost use Rattle.seqs.specs.Tables.{shown};
 ghost use Rattle.forms.specs.Places.{mutationOf};
 ghost use Rattle.rules.specs.declared.answers.Answer.the-variants.{Accepted};
 ghost use Rattle.rules.specs.Answers.{_▸_};
-ghost use Rattle.lines.specs.View.{boxOf};
-ghost use Rattle.calls.specs.Walks.{endingOf, AllAsks};
+ghost use Rattle.store.specs.View.{boxOf};
+ghost use Rattle.calls.specs.Entries.{AllAsks};
 ghost use Rattle.calls.specs.Weights.{Sums, LeftAsks};
-ghost use Rattle.onesteps.specs.Meets.{NothingMet, Joined, AllMet, judged};
-use crate::meets::Met;
-use crate::meets::Tally;
-use crate::meets::meet;
-use calls::Seen;
-use calls::Terms;
+ghost use Rattle.onesteps.specs.Checks.{NothingChecked, Joined, AllChecked, judged};
+use crate::checks::Checks;
+use crate::checks::Tally;
+use crate::checks::check_entry;
+use calls::Checked;
 use calls::key_of;
 use calls::row_of;
 use forms::Entry;
-use lines::Store;
-use lines::look;
+use forms::both;
 use rules::Answer;
+use rules::CommitTerms;
 use rules::Load;
-
-pub(crate) fn both(a: bool, b: bool) -> bool
-    ensures { λ r. ⌜ r ≡ a && b ⌝ }
-{
-    if a {
-        return b;
-    }
-    false
-}
+use store::Store;
+use store::look_up;
 
 // The first refusal is the answer.
 fn first(a: Answer, b: Answer) -> Answer
@@ -41,11 +32,11 @@ fn first(a: Answer, b: Answer) -> Answer
     a
 }
 
-fn nothing_met() -> Met
-    ensures { λ r. ⌜ NothingMet r ⌝ }
+fn nothing_checked() -> Checks
+    ensures { λ r. ⌜ NothingChecked r ⌝ }
 {
     let seen = calls::refusal(Answer::Accepted);
-    Met {
+    Checks {
         argument: Answer::Accepted,
         tally: Tally {
             all: true,
@@ -56,7 +47,7 @@ fn nothing_met() -> Met
 }
 
 // One entry more.
-fn join(t: Met, m: Met) -> Met
+fn join(t: Checks, m: Checks) -> Checks
     requires { ⌜ Sums (t .seen .weight) (m .seen .weight) ⌝ }
     ensures { λ r. ⌜ Joined t m r ⌝ }
 {
@@ -73,32 +64,32 @@ fn join(t: Met, m: Met) -> Met
     let one = new.answer;
     let answer = first(was, one);
     let weight = calls::plus_weight(old.weight, new.weight);
-    Met {
+    Checks {
         argument: argument,
         tally: Tally {
             all: all,
             none: none,
         },
-        seen: Seen {
+        seen: Checked {
             answer: answer,
             weight: weight,
         },
     }
 }
 
-// Every entry on the store as it came.
-pub fn meet_all(
+// Every entry on the store before the call.
+pub fn check_all(
     store: Store,
     area: &[u8],
-    terms: Terms,
+    terms: CommitTerms,
     batch: &[u8],
     n: usize,
     list: [Entry; 32],
-) -> Met
+) -> Checks
     requires { ⌜ AllAsks store (now area) (now batch) n list ⌝ }
-    ensures { λ r. ⌜ AllMet (endingOf terms) (boxOf store (now (area .entry))) (shown (mutationOf (now (batch .entry))) n list) r ⌝ }
+    ensures { λ r. ⌜ AllChecked terms (boxOf store (now (area .entry))) (shown (mutationOf (now (batch .entry))) n list) r ⌝ }
 {
-    let mut met = nothing_met();
+    let mut met = nothing_checked();
     let mut i: usize = 0;
     while i < n {
         let e = list[i];
@@ -106,8 +97,8 @@ pub fn meet_all(
         let row = row_of(batch, e);
         let lines = store.lines;
         let load = store.load;
-        let found = look(lines, load, store.top, area, key, terms.start, terms.commit);
-        let one = meet(store, found, area, terms, key, e.put, row);
+        let found = look_up(lines, load, store.top, area, key, terms.start, terms.commit);
+        let one = check_entry(store, found, area, terms, key, e.put, row);
         met = join(met, one);
         i += 1;
     }
@@ -115,7 +106,7 @@ pub fn meet_all(
 }
 
 // "each entry in turn 1, 2; .. same start but other kind or row, 9. All applied: accepted, unchanged. Some: 9. None: per entry ..; 11."
-pub fn judge(met: Met, load: Load) -> Answer
+pub fn judge(met: Checks, load: Load) -> Answer
     requires { ⌜ (met .seen .answer ≡ Accepted → LeftAsks load (met .seen .weight)) ⌝ }
     ensures { λ r. ⌜ r ≡ judged met load ⌝ }
 {

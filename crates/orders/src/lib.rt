@@ -1,4 +1,5 @@
 // Entries of an image in order, as places in its bytes: a list of places, or two in one, is sorted and asked whether it ascends.
+// `orders`, `verdicts` and `restores` are one layer, kept apart for the gate's time: a must-fail edit repeats the check of its whole crate.
 pub mod marks;
 pub mod sorts;
 

@@ -1,5 +1,4 @@
 -- Laws of pages.
 -- Assumes nothing.
-pub mod LaidLaws
-pub mod EntryLaws
+pub mod PutEntryLaws
 pub mod PageLaws

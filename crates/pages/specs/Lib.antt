@@ -1,4 +1,3 @@
--- What the page calls promise, and what their writers leave.
+-- What the page calls promise, and what their writers ask.
 -- Assumes nothing.
-pub mod Laid
-pub mod Paged
+pub mod Asks

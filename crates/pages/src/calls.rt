@@ -1,29 +1,23 @@
 // The three calls: what the walk judged, "Last, 12", and then the writing. "A refusal changes nothing in store or buffers."
 ghost use mathlib.Core.Path.{_≡_};
-ghost use Rattle.rules.specs.Written.{written, scanPage, scanIntentPage, scanConflictingIntents};
-ghost use Rattle.lines.specs.View.{boxOf};
-ghost use Rattle.lines.specs.Made.{Made};
+ghost use Rattle.rules.specs.Written.{written, scanPage, scanIntentPage, scanConflictingIntents, WroteAs};
+ghost use Rattle.store.specs.View.{boxOf};
+ghost use Rattle.store.specs.Made.{Made};
 ghost use Rattle.bounds.specs.Bounds.{boundsOf};
 ghost use Rattle.walks.specs.Walked.{same, pageAsked, WalkAsks};
-ghost use Rattle.pages.specs.Paged.{PagedAs};
 use crate::sections::put_page;
-use lines::AREA;
-use lines::Store;
 use rules::Answer;
-use walks::Asked;
+use rules::Wrote;
+use store::AREA;
+use store::Store;
+use walks::PageQuery;
 use walks::Scan;
 use walks::judge_page;
 
-// "A writing call also gives the bytes written; a refusal's counts are 0."
-pub struct Paged {
-    pub answer: Answer,
-    pub count: usize,
-}
-
-fn refusal(answer: Answer) -> Paged
+fn refusal(answer: Answer) -> Wrote
     ensures { λ r. ⌜ r ≡ record { answer = answer; count = 0 } ⌝ }
 {
-    Paged {
+    Wrote {
         answer: answer,
         count: 0,
     }
@@ -33,7 +27,7 @@ fn refusal(answer: Answer) -> Paged
 fn scan(
     store: Store,
     area: &[u8],
-    asks: Asked,
+    asks: PageQuery,
     starts: bool,
     start: &[u8],
     ends: bool,
@@ -41,9 +35,9 @@ fn scan(
     resumes: bool,
     resume: &[u8],
     out: &mut [u8],
-) -> Paged
+) -> Wrote
     requires { ⌜ WalkAsks store (now area) asks ⌝ }
-    ensures { λ r. ⌜ PagedAs (written same (pageAsked asks (boundsOf starts (now (start .entry)) ends (now (end .entry)) resumes (now (resume .entry))) (boxOf store (now (area .entry)))) (now (out .entry))) r (now (out .exit)) ⌝ }
+    ensures { λ r. ⌜ WroteAs (written same (pageAsked asks (boundsOf starts (now (start .entry)) ends (now (end .entry)) resumes (now (resume .entry))) (boxOf store (now (area .entry)))) (now (out .entry))) r (now (out .exit)) ⌝ }
 {
     let w = judge_page(store, area, asks, starts, start, ends, end, resumes, resume);
     let judged = w.answer;
@@ -53,7 +47,7 @@ fn scan(
                 return refusal(Answer::No(12));
             }
             let n = put_page(out, area, w);
-            Paged {
+            Wrote {
                 answer: Answer::Accepted,
                 count: n,
             }
@@ -77,11 +71,11 @@ pub fn scan_page(
     resumes: bool,
     resume: &[u8],
     out: &mut [u8],
-) -> Paged
+) -> Wrote
     requires { ⌜ Made store (now area) ⌝ }
-    ensures { λ r. ⌜ PagedAs (scanPage (boundsOf starts (now (start .entry)) ends (now (end .entry)) resumes (now (resume .entry))) moment (record { rows = rows; bytes = bytes }) (boxOf store (now (area .entry))) (now (out .entry))) r (now (out .exit)) ⌝ }
+    ensures { λ r. ⌜ WroteAs (scanPage (boundsOf starts (now (start .entry)) ends (now (end .entry)) resumes (now (resume .entry))) moment (record { rows = rows; bytes = bytes }) (boxOf store (now (area .entry))) (now (out .entry))) r (now (out .exit)) ⌝ }
 {
-    let asks = Asked {
+    let asks = PageQuery {
         scan: Scan::Rows,
         moment: moment,
         limit: rows,
@@ -113,11 +107,11 @@ pub fn scan_intent_page(
     resumes: bool,
     resume: &[u8],
     out: &mut [u8],
-) -> Paged
+) -> Wrote
     requires { ⌜ Made store (now area) ⌝ }
-    ensures { λ r. ⌜ PagedAs (scanIntentPage (boundsOf starts (now (start .entry)) ends (now (end .entry)) resumes (now (resume .entry))) limit (boxOf store (now (area .entry))) (now (out .entry))) r (now (out .exit)) ⌝ }
+    ensures { λ r. ⌜ WroteAs (scanIntentPage (boundsOf starts (now (start .entry)) ends (now (end .entry)) resumes (now (resume .entry))) limit (boxOf store (now (area .entry))) (now (out .entry))) r (now (out .exit)) ⌝ }
 {
-    let asks = Asked {
+    let asks = PageQuery {
         scan: Scan::Intents,
         moment: 0,
         limit: limit,
@@ -151,11 +145,11 @@ pub fn scan_conflicting_intents(
     resumes: bool,
     resume: &[u8],
     out: &mut [u8],
-) -> Paged
+) -> Wrote
     requires { ⌜ Made store (now area) ⌝ }
-    ensures { λ r. ⌜ PagedAs (scanConflictingIntents (boundsOf starts (now (start .entry)) ends (now (end .entry)) resumes (now (resume .entry))) moment (record { rows = locks; bytes = bytes }) (boxOf store (now (area .entry))) (now (out .entry))) r (now (out .exit)) ⌝ }
+    ensures { λ r. ⌜ WroteAs (scanConflictingIntents (boundsOf starts (now (start .entry)) ends (now (end .entry)) resumes (now (resume .entry))) moment (record { rows = locks; bytes = bytes }) (boxOf store (now (area .entry))) (now (out .entry))) r (now (out .exit)) ⌝ }
 {
-    let asks = Asked {
+    let asks = PageQuery {
         scan: Scan::Conflicts,
         moment: moment,
         limit: locks,

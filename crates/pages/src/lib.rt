@@ -2,10 +2,8 @@
 // and the writing, each section into the part of the buffer that remains after the section before.
 pub mod calls;
 pub mod entries;
-pub mod put;
 pub mod sections;
 
-pub use calls::Paged;
 pub use calls::scan_conflicting_intents;
 pub use calls::scan_intent_page;
 pub use calls::scan_page;

@@ -2,13 +2,14 @@
 // section before; bytes beyond the page keep what they held."
 ghost use mathlib.Core.Path.{_≡_};
 ghost use lib.ListN.{length};
+ghost use Rattle.forms.specs.Writers.{Laid};
 ghost use Rattle.rules.specs.Written.{allBytes, moreByte, pageBytes};
 ghost use Rattle.walks.specs.Walked.{same, pageOf};
-ghost use Rattle.pages.specs.Laid.{Laid, WriteAsks};
+ghost use Rattle.pages.specs.Asks.{WriteAsks};
 use crate::entries::put_entry;
-use crate::put::put_byte;
-use crate::put::put_digits;
 use forms::Width;
+use forms::put_byte;
+use forms::put_digits;
 use walks::Walked;
 
 // "a byte, 1 if more, else 0"

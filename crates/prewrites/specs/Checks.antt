@@ -15,26 +15,26 @@ use Rattle.rules.specs.declared.room.Load.{Load}
 use Rattle.rules.specs.Answers.{_▸_, need}
 use Rattle.rules.specs.Box.{Lock}
 use Rattle.rules.specs.Calls.{rowArgument}
-use Rattle.rules.specs.Prewrite.{Head, lockStep, prewriteEntry, unlessLocked}
+use Rattle.rules.specs.Prewrite.{PrewriteTerms, lockStep, prewriteEntry, unlessLocked}
 use Rattle.laws.specs.Adds.{noLoad, plus, lockLoad, ofRow, prewriteAdds}
-use Rattle.lines.specs.declared.store.Store.{Store}
-use Rattle.lines.specs.declared.keys.Locked.{Locked}
-use Rattle.lines.specs.declared.keys.Locked.the-variants.{Nobody, By}
-use Rattle.lines.specs.declared.views.Intent.{Intent}
-use Rattle.lines.specs.Made.{Built}
-use Rattle.lines.specs.Looks.{lockedBy}
+use Rattle.store.specs.declared.table.Store.{Store}
+use Rattle.store.specs.declared.lookup.Locked.{Locked}
+use Rattle.store.specs.declared.lookup.Locked.the-variants.{Nobody, By}
+use Rattle.store.specs.declared.views.LockView.{LockView}
+use Rattle.store.specs.Made.{Built}
+use Rattle.store.specs.KeyStates.{lockedBy}
 use Rattle.calls.specs.Weights.{Light, Steps}
 use Rattle.calls.specs.declared.weights.Weight.{Weight}
-use Rattle.prewrites.specs.declared.heads.Terms.{Terms}
+use Rattle.prewrites.specs.declared.heads.LockTerms.{LockTerms}
 
-abbrev pub headOf : Terms → Key → Head
-headOf t p = record { txn = t .txn; start = t .start; primary = p; ttl = t .ttl }
+abbrev pub withPrimary : LockTerms → Key → PrewriteTerms
+withPrimary t p = record { txn = t .txn; start = t .start; primary = p; ttl = t .ttl }
 
 abbrev pub entryOf : Bytes → Bool → Bytes → Mutation
 entryOf k put r = record { key = k; row = when put r }
 
 -- the steps of a prewrite at one entry, which frees nothing; it adds a key twice, a primary and a row at most, each in a part of 255 bytes
-abbrev pub stepsOf : Head → Steps Mutation
+abbrev pub stepsOf : PrewriteTerms → Steps Mutation
 stepsOf h = record { check = prewriteEntry h; adds = prewriteAdds h; frees = λ b m. noLoad; add = 1020; free = 0 }
 
 -- ---- what an entry adds
@@ -56,7 +56,7 @@ pub record Weighs (key primary : Bytes) (row : Option Row) (lock : Locked) (r : 
 -- ---- the lock that was found
 
 -- primary and row end by n
-pub record IntentIn (n : ℕ) (i : Intent) : Type 0 where
+pub record IntentIn (n : ℕ) (i : LockView) : Type 0 where
   pub primary-in : i .at + i .len ≤ n
   pub row-in : i .rowat + i .rowlen ≤ n
 
@@ -72,7 +72,7 @@ rowHeld area (By i) = some (bytesAt area (i .rowat) (i .rowlen))
 -- ---- one entry
 
 -- "1, 2; ..; any record stamp at or above start, 8; ..", by what was found at the key
-abbrev pub entrySteps : Head → Mutation → Bool → Option Row → Option Lock → Answer
+abbrev pub entrySteps : PrewriteTerms → Mutation → Bool → Option Row → Option Lock → Answer
 entrySteps h m below stored lock =
     need (keyForm (m .key)) 1 ▸
     need (rowArgument (m .row)) 2 ▸

@@ -3,45 +3,45 @@ ghost use mathlib.Core.Path.{_≡_};
 ghost use Rattle.seqs.specs.Tables.{shown};
 ghost use Rattle.forms.specs.Places.{mutationOf};
 ghost use Rattle.rules.specs.declared.answers.Answer.the-variants.{Accepted};
-ghost use Rattle.rules.specs.Prewrite.{headStep, prewriteEntry, applyPrewrite, prewriteBatch};
-ghost use Rattle.lines.specs.View.{boxOf};
-ghost use Rattle.lines.specs.Made.{Made};
+ghost use Rattle.rules.specs.Prewrite.{prewriteTermsStep, prewriteEntry, applyPrewrite, prewriteBatch};
+ghost use Rattle.store.specs.View.{boxOf};
+ghost use Rattle.store.specs.Made.{Made};
 ghost use Rattle.calls.specs.Settled.{Settled};
-ghost use Rattle.calls.specs.Walks.{AllAsks};
+ghost use Rattle.calls.specs.Entries.{AllAsks};
 ghost use Rattle.calls.specs.Passes.{allDone};
-ghost use Rattle.prewrites.specs.Checks.{headOf};
-use crate::heads::Terms;
+ghost use Rattle.prewrites.specs.Checks.{withPrimary};
+use crate::heads::LockTerms;
 use crate::heads::head_step;
 use crate::passes::check_all;
-use applies::Deed;
+use actions::Action;
 use calls::Changed;
 use forms::Entry;
-use lines::AREA;
-use lines::Store;
+use store::AREA;
+use store::Store;
 
 // The steps of a batch that is in form and not empty, its head passed: "per entry ascending ..; Then 11", and the applying pass. Where
-// nothing changes no entry is applied: one way out, since the store would be copied once more where two ways meet.
+// nothing changes no entry is applied: at a join of two paths that carry a store it would be copied once more.
 fn prewrite_all(
     store: Store,
     area: &mut [u8],
-    terms: Terms,
+    terms: LockTerms,
     primary: &[u8],
     batch: &[u8],
     n: usize,
     list: [Entry; 32],
 ) -> Changed
-    requires { ⌜ (AllAsks store (now area) (now batch) n list) × (headStep (headOf terms (now primary)) ≡ Accepted) ⌝ }
-    ensures { λ r. ⌜ Settled store (now (area .entry)) (allDone (prewriteEntry (headOf terms (now (primary .entry)))) (applyPrewrite (headOf terms (now (primary .entry)))) (shown (mutationOf (now (batch .entry))) n list) (boxOf store (now (area .entry)))) r (now (area .exit)) ⌝ }
+    requires { ⌜ (AllAsks store (now area) (now batch) n list) × (prewriteTermsStep (withPrimary terms (now primary)) ≡ Accepted) ⌝ }
+    ensures { λ r. ⌜ Settled store (now (area .entry)) (allDone (prewriteEntry (withPrimary terms (now (primary .entry)))) (applyPrewrite (withPrimary terms (now (primary .entry)))) (shown (mutationOf (now (batch .entry))) n list) (boxOf store (now (area .entry)))) r (now (area .exit)) ⌝ }
 {
     let v = check_all(store, area, terms, primary, batch, n, list);
     let answer = v.answer;
-    let deed = Deed::Prewrite {
+    let action = Action::Prewrite {
         txn: terms.txn,
         start: terms.start,
         ttl: terms.ttl,
     };
     let m = calls::only_if(v.moves, n);
-    let applied = calls::apply_all(store, area, deed, primary, batch, m, list);
+    let applied = calls::apply_all(store, area, action, primary, batch, m, list);
     Changed {
         store: applied,
         answer: answer,
@@ -59,11 +59,11 @@ pub fn prewrite_batch(
     batch: &[u8],
 ) -> Changed
     requires { ⌜ Made store (now area) ⌝ }
-    ensures { λ r. ⌜ Settled store (now (area .entry)) (prewriteBatch (headOf (record { txn = txn; start = start; ttl = ttl }) (now (primary .entry))) (now (batch .entry)) (boxOf store (now (area .entry)))) r (now (area .exit)) ⌝ }
+    ensures { λ r. ⌜ Settled store (now (area .entry)) (prewriteBatch (withPrimary (record { txn = txn; start = start; ttl = ttl }) (now (primary .entry))) (now (batch .entry)) (boxOf store (now (area .entry)))) r (now (area .exit)) ⌝ }
 {
     let entries = forms::mutations_of(batch);
     let n = entries.count;
-    let terms = Terms {
+    let terms = LockTerms {
         txn: txn,
         start: start,
         ttl: ttl,

@@ -1,5 +1,5 @@
 // The check of one entry: look its key up, and judge it by what was found. That records are sound and that every row has its line is the
-// store's own: no step tests it (EntryLaws: the definition passes there).
+// store's own: no step tests it (PrewriteEntryLaws: the definition passes there).
 ghost use mathlib.Core.Path.{_≡_};
 ghost use Prim.Native.Nat.{_+_, _≤_};
 ghost use lib.ListN.{length};
@@ -7,25 +7,25 @@ ghost use Rattle.forms.specs.Row.{Row};
 ghost use Rattle.forms.specs.Readers.{when};
 ghost use Rattle.rules.specs.Calls.{kindOf};
 ghost use Rattle.rules.specs.Prewrite.{sameLock, lockStep};
-ghost use Rattle.lines.specs.View.{boxOf};
-ghost use Rattle.lines.specs.Looks.{lockIn, lockedBy};
+ghost use Rattle.store.specs.View.{boxOf};
+ghost use Rattle.store.specs.KeyStates.{lockIn, lockedBy};
 ghost use Rattle.calls.specs.Weights.{EntryChecked};
-ghost use Rattle.prewrites.specs.Checks.{headOf, entryOf, stepsOf, LockIn, rowHeld, entrySteps, PartsShort, Weighs, EntryAsks};
-use crate::heads::Terms;
-use calls::Seen;
+ghost use Rattle.prewrites.specs.Checks.{withPrimary, entryOf, stepsOf, LockIn, rowHeld, entrySteps, PartsShort, Weighs, EntryAsks};
+use crate::heads::LockTerms;
+use calls::Checked;
 use calls::Weight;
-use lines::Intent;
-use lines::Locked;
-use lines::Store;
-use lines::look;
+use changes::kind_for;
+use changes::lock_load;
 use rules::Answer;
-use stretches::kind_for;
-use stretches::lock_load;
+use store::LockView;
+use store::Locked;
+use store::Store;
+use store::look_up;
 
 // "own lock with any other field": primary, time to live or kind differs from the call's.
-fn same_lock(l: Intent, area: &[u8], terms: Terms, primary: &[u8], put: bool) -> bool
+fn same_lock(l: LockView, area: &[u8], terms: LockTerms, primary: &[u8], put: bool) -> bool
     requires { ⌜ l .at + l .len ≤ length (now area) ⌝ }
-    ensures { λ r. ⌜ ((row : Row) → r ≡ sameLock (headOf terms (now (primary .entry))) (kindOf (when put row)) (lockIn (now (area .entry)) l)) ⌝ }
+    ensures { λ r. ⌜ ((row : Row) → r ≡ sameLock (withPrimary terms (now (primary .entry))) (kindOf (when put row)) (lockIn (now (area .entry)) l)) ⌝ }
 {
     let at = l.at;
     let e = at + l.len;
@@ -45,19 +45,19 @@ fn same_lock(l: Intent, area: &[u8], terms: Terms, primary: &[u8], put: bool) ->
 fn check_lock(
     lock: Locked,
     area: &[u8],
-    terms: Terms,
+    terms: LockTerms,
     primary: &[u8],
     put: bool,
     row: &[u8],
 ) -> Answer
     requires { ⌜ LockIn (length (now area)) lock ⌝ }
-    ensures { λ r. ⌜ r ≡ lockStep (headOf terms (now (primary .entry))) (when put (now (row .entry))) (rowHeld (now (area .entry)) lock) (lockedBy (now (area .entry)) lock) ⌝ }
+    ensures { λ r. ⌜ r ≡ lockStep (withPrimary terms (now (primary .entry))) (when put (now (row .entry))) (rowHeld (now (area .entry)) lock) (lockedBy (now (area .entry)) lock) ⌝ }
 {
     match lock {
         Locked::Nobody => Answer::Accepted,
         Locked::By(l) => {
             if !calls::owns(l, terms.txn, terms.start) {
-                return lines::held_by(l);
+                return store::held_by(l);
             }
             if !same_lock(l, area, terms, primary, put) {
                 return Answer::No(9);
@@ -75,14 +75,14 @@ fn entry_step(
     below: bool,
     lock: Locked,
     area: &[u8],
-    terms: Terms,
+    terms: LockTerms,
     primary: &[u8],
     key: &[u8],
     put: bool,
     row: &[u8],
 ) -> Answer
     requires { ⌜ LockIn (length (now area)) lock ⌝ }
-    ensures { λ r. ⌜ r ≡ entrySteps (headOf terms (now (primary .entry))) (entryOf (now (key .entry)) put (now (row .entry))) below (rowHeld (now (area .entry)) lock) (lockedBy (now (area .entry)) lock) ⌝ }
+    ensures { λ r. ⌜ r ≡ entrySteps (withPrimary terms (now (primary .entry))) (entryOf (now (key .entry)) put (now (row .entry))) below (rowHeld (now (area .entry)) lock) (lockedBy (now (area .entry)) lock) ⌝ }
 {
     if !forms::key_in_form(key) {
         return Answer::No(1);
@@ -120,18 +120,18 @@ fn weight_of(lock: Locked, key: &[u8], primary: &[u8], put: bool, row: &[u8]) ->
 pub fn check_entry(
     store: Store,
     area: &[u8],
-    terms: Terms,
+    terms: LockTerms,
     primary: &[u8],
     key: &[u8],
     put: bool,
     row: &[u8],
-) -> Seen
+) -> Checked
     requires { ⌜ EntryAsks store (now area) (now key) (now primary) (now row) ⌝ }
-    ensures { λ r. ⌜ EntryChecked (stepsOf (headOf terms (now (primary .entry)))) (boxOf store (now (area .entry))) (entryOf (now (key .entry)) put (now (row .entry))) r ⌝ }
+    ensures { λ r. ⌜ EntryChecked (stepsOf (withPrimary terms (now (primary .entry)))) (boxOf store (now (area .entry))) (entryOf (now (key .entry)) put (now (row .entry))) r ⌝ }
 {
     let lines = store.lines;
     let load = store.load;
-    let found = look(lines, load, store.top, area, key, terms.start, 0);
+    let found = look_up(lines, load, store.top, area, key, terms.start, 0);
     let lock = found.lock;
     let below = found.history.below;
     let answer = entry_step(below, lock, area, terms, primary, key, put, row);
@@ -139,7 +139,7 @@ pub fn check_entry(
         return calls::refusal(answer);
     }
     let weight = weight_of(lock, key, primary, put, row);
-    Seen {
+    Checked {
         answer: answer,
         weight: weight,
     }

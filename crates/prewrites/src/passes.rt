@@ -4,31 +4,31 @@ ghost use lib.ListN.{length};
 ghost use Rattle.seqs.specs.Tables.{shown};
 ghost use Rattle.forms.specs.Places.{mutationOf};
 ghost use Rattle.rules.specs.Prewrite.{prewriteEntry, applyPrewrite};
-ghost use Rattle.lines.specs.View.{boxOf};
-ghost use Rattle.calls.specs.Walks.{AllAsks};
+ghost use Rattle.store.specs.View.{boxOf};
+ghost use Rattle.calls.specs.Entries.{AllAsks};
 ghost use Rattle.calls.specs.Passes.{Judged};
-ghost use Rattle.prewrites.specs.Checks.{headOf};
+ghost use Rattle.prewrites.specs.Checks.{withPrimary};
 use crate::checks::check_entry;
-use crate::heads::Terms;
-use calls::Verdict;
+use crate::heads::LockTerms;
+use calls::BatchVerdict;
 use calls::key_of;
 use calls::row_of;
 use forms::Entry;
-use lines::Store;
+use store::Store;
 
-// "then per entry ascending: ..": every entry on the store as it came, the whole list for one entry before the next, and then what all of
+// "then per entry ascending: ..": every entry on the store before the call, the whole list for one entry before the next, and then what all of
 // them would add to its load.
 pub fn check_all(
     store: Store,
     area: &[u8],
-    terms: Terms,
+    terms: LockTerms,
     primary: &[u8],
     batch: &[u8],
     n: usize,
     list: [Entry; 32],
-) -> Verdict
+) -> BatchVerdict
     requires { ⌜ (AllAsks store (now area) (now batch) n list) × (length (now primary) ≤ 255) ⌝ }
-    ensures { λ r. ⌜ Judged (prewriteEntry (headOf terms (now (primary .entry)))) (applyPrewrite (headOf terms (now (primary .entry)))) (boxOf store (now (area .entry))) (shown (mutationOf (now (batch .entry))) n list) r ⌝ }
+    ensures { λ r. ⌜ Judged (prewriteEntry (withPrimary terms (now (primary .entry)))) (applyPrewrite (withPrimary terms (now (primary .entry)))) (boxOf store (now (area .entry))) (shown (mutationOf (now (batch .entry))) n list) r ⌝ }
 {
     let mut sum = calls::no_weight();
     let mut i: usize = 0;
@@ -39,7 +39,7 @@ pub fn check_all(
         let seen = check_entry(store, area, terms, primary, key, e.put, row);
         let answer = seen.answer;
         if !calls::accepted(answer) {
-            return Verdict {
+            return BatchVerdict {
                 answer: answer,
                 moves: false,
             };

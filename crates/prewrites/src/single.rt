@@ -1,13 +1,13 @@
 // Prewrite of a single entry: a batch of one.
 ghost use Rattle.rules.specs.Prewrite.{prewrite};
-ghost use Rattle.lines.specs.View.{boxOf};
-ghost use Rattle.lines.specs.Made.{Made};
+ghost use Rattle.store.specs.View.{boxOf};
+ghost use Rattle.store.specs.Made.{Made};
 ghost use Rattle.calls.specs.Settled.{Settled};
-ghost use Rattle.prewrites.specs.Checks.{headOf, entryOf};
+ghost use Rattle.prewrites.specs.Checks.{withPrimary, entryOf};
 use crate::batch::prewrite_batch;
 use calls::Changed;
-use lines::AREA;
-use lines::Store;
+use store::AREA;
+use store::Store;
 
 // "the single form disappears as a step of its own and is a batch of one"; "a Delete's row argument is ignored": it is not in the batch.
 pub fn prewrite(
@@ -22,7 +22,7 @@ pub fn prewrite(
     row: &[u8],
 ) -> Changed
     requires { ⌜ Made store (now area) ⌝ }
-    ensures { λ r. ⌜ Settled store (now (area .entry)) (prewrite (headOf (record { txn = txn; start = start; ttl = ttl }) (now (primary .entry))) (entryOf (now (key .entry)) put (now (row .entry))) (boxOf store (now (area .entry)))) r (now (area .exit)) ⌝ }
+    ensures { λ r. ⌜ Settled store (now (area .entry)) (prewrite (withPrimary (record { txn = txn; start = start; ttl = ttl }) (now (primary .entry))) (entryOf (now (key .entry)) put (now (row .entry))) (boxOf store (now (area .entry)))) r (now (area .exit)) ⌝ }
 {
     let mut batch = [0u8; 515];
     let n = forms::one_mutation(&mut batch, key, put, row);

@@ -1,6 +1,6 @@
 -- Laws of reading one key.
 -- Assumes nothing.
 pub mod ReadLaws
-pub mod LockLaws
+pub mod IntentLaws
 pub mod PartLaws
 pub mod ShownLaws

@@ -10,10 +10,10 @@ use Rattle.forms.specs.Bytes.{Bytes, bytesAt}
 use Rattle.forms.specs.Row.{Row}
 use Rattle.rules.specs.Answers.{Reply, shown}
 use Rattle.rules.specs.Box.{Lock}
-use Rattle.reads.specs.declared.seen.Seen.{Seen}
-use Rattle.reads.specs.declared.seen.Seen.the-variants as seen
-use Rattle.reads.specs.declared.seen.Pointed.{Pointed}
-use Rattle.reads.specs.declared.seen.Pointed.the-variants as pointed
+use Rattle.reads.specs.declared.seen.RowSeen.{RowSeen}
+use Rattle.reads.specs.declared.seen.RowSeen.the-variants as seen
+use Rattle.reads.specs.declared.seen.LockSeen.{LockSeen}
+use Rattle.reads.specs.declared.seen.LockSeen.the-variants as pointed
 use Rattle.reads.specs.declared.parts.Place.{Place}
 use Rattle.reads.specs.Seen.{seenIn, SeenBelow, SeenAs, pointedIn, PointedBelow, PointedAs}
 use Rattle.reads.specs.Parts.{partOf, rowShown, rowPlace, rowPart, RowPart, primaryShown, primaryPlace, primaryPart, PrimaryPart}
@@ -35,35 +35,35 @@ module _ (area : Bytes) (at len : ℕ) where
 
 -- ---- what an answer shows
 
-row-within : (area : Bytes) (s : Seen) → SeenBelow (length area) s → rowPart area s ≡ rowShown (seenIn area s)
+row-within : (area : Bytes) (s : RowSeen) → SeenBelow (length area) s → rowPart area s ≡ rowShown (seenIn area s)
 row-within area seen.Nothing h = refl
 row-within area (seen.Row at len) h = part-within area at len h
 row-within area (seen.Refused a) h = refl
 
-primary-within : (area : Bytes) (p : Pointed) → PointedBelow (length area) p → primaryPart area p ≡ primaryShown (pointedIn area p)
+primary-within : (area : Bytes) (p : LockSeen) → PointedBelow (length area) p → primaryPart area p ≡ primaryShown (pointedIn area p)
 primary-within area pointed.Nothing h = refl
 primary-within area (pointed.Lock i) h = part-within area (i .at) (i .len) h
 primary-within area (pointed.Refused a) h = refl
 
 -- what `row_of` and `primary_of` hand back
-row-placed : (area : Bytes) (s : Seen) → partOf area (rowPlace s .at) (rowPlace s .len) ≡ rowPart area s
+row-placed : (area : Bytes) (s : RowSeen) → partOf area (rowPlace s .at) (rowPlace s .len) ≡ rowPart area s
 row-placed area seen.Nothing = part-within area 0 0 (omega arith)
 row-placed area (seen.Row at len) = refl
 row-placed area (seen.Refused a) = part-within area 0 0 (omega arith)
 
-primary-placed : (area : Bytes) (p : Pointed) → partOf area (primaryPlace p .at) (primaryPlace p .len) ≡ primaryPart area p
+primary-placed : (area : Bytes) (p : LockSeen) → partOf area (primaryPlace p .at) (primaryPlace p .len) ≡ primaryPart area p
 primary-placed area pointed.Nothing = part-within area 0 0 (omega arith)
 primary-placed area (pointed.Lock i) = refl
 primary-placed area (pointed.Refused a) = part-within area 0 0 (omega arith)
 
-pub row-part : (area : Bytes) (s : Seen) {p : Place} {part : Bytes} → p ≡ rowPlace s → part ≡ partOf area (p .at) (p .len) → RowPart area s part
+pub row-part : (area : Bytes) (s : RowSeen) {p : Place} {part : Bytes} → p ≡ rowPlace s → part ≡ partOf area (p .at) (p .len) → RowPart area s part
 row-part area s e q = let w = q ∙ ap (λ (p : Place). partOf area (p .at) (p .len)) e ∙ row-placed area s in record { is = w; row = λ h. w ∙ row-within area s h }
 
-pub primary-part : (area : Bytes) (s : Pointed) {p : Place} {part : Bytes} → p ≡ primaryPlace s → part ≡ partOf area (p .at) (p .len) → PrimaryPart area s part
+pub primary-part : (area : Bytes) (s : LockSeen) {p : Place} {part : Bytes} → p ≡ primaryPlace s → part ≡ partOf area (p .at) (p .len) → PrimaryPart area s part
 primary-part area s e q = let w = q ∙ ap (λ (p : Place). partOf area (p .at) (p .len)) e ∙ primary-placed area s in record { is = w; primary = λ h. w ∙ primary-within area s h }
 
 -- "A read's row is handed back as that stretch of the store's own bytes": the part of what `read` answered is the row that the definition shows
-module _ {want : Reply Row} {area part : Bytes} {s : Seen} where
+module _ {want : Reply Row} {area part : Bytes} {s : RowSeen} where
   pub reply-part : SeenAs want area s → RowPart area s part → part ≡ rowShown want
   reply-part r p = p .row (r .within) ∙ ap rowShown (r .is)
 
@@ -71,7 +71,7 @@ module _ {want : Reply Row} {area part : Bytes} {s : Seen} where
   shows-part r p e = reply-part r p ∙ ap rowShown e
 
 -- "its primary a stretch of the store's bytes"
-module _ {want : Reply Lock} {area part : Bytes} {p : Pointed} where
+module _ {want : Reply Lock} {area part : Bytes} {p : LockSeen} where
   pub reply-primary : PointedAs want area p → PrimaryPart area p part → part ≡ primaryShown want
   reply-primary r q = q .primary (r .within) ∙ ap primaryShown (r .is)
 
@@ -80,14 +80,14 @@ module _ {want : Reply Lock} {area part : Bytes} {p : Pointed} where
 
 -- ---- no second answer fits: two answers that keep the promise are one reply and hand back the same bytes. Where those bytes lie is left open
 
-module _ {want : Reply Row} {area : Bytes} {s t : Seen} (a : SeenAs want area s) (b : SeenAs want area t) where
+module _ {want : Reply Row} {area : Bytes} {s t : RowSeen} (a : SeenAs want area s) (b : SeenAs want area t) where
   pub one-reply : seenIn area s ≡ seenIn area t
   one-reply = a .is ∙ sym (b .is)
 
   pub one-row : {p q : Bytes} → RowPart area s p → RowPart area t q → p ≡ q
   one-row x y = reply-part a x ∙ sym (reply-part b y)
 
-module _ {want : Reply Lock} {area : Bytes} {s t : Pointed} (a : PointedAs want area s) (b : PointedAs want area t) where
+module _ {want : Reply Lock} {area : Bytes} {s t : LockSeen} (a : PointedAs want area s) (b : PointedAs want area t) where
   pub one-lock : pointedIn area s ≡ pointedIn area t
   one-lock = a .is ∙ sym (b .is)
 

@@ -26,21 +26,21 @@ use Rattle.rules.specs.Calls.{foundIf}
 use Rattle.rules.specs.Sound.{soundRecord, allSound}
 use Rattle.rules.specs.Read.{lockLets, keepIf, atOrBelow, newestFirst, showRow, Examined, oneRecord, walk, readSteps, examine, read}
 use Rattle.laws.proofs.StepLaws.{answered, and-left, and-right, and-both}
-use Rattle.lines.specs.declared.store.Store.{Store}
-use Rattle.lines.specs.declared.views.Intent.{Intent}
-use Rattle.lines.specs.declared.keys.Found.{Found}
-use Rattle.lines.specs.declared.keys.Found.the-variants.{Nothing, Is}
-use Rattle.lines.specs.declared.keys.Locked.{Locked}
-use Rattle.lines.specs.declared.keys.Locked.the-variants.{Nobody, By}
-use Rattle.lines.specs.declared.keys.Looked.{Looked}
-use Rattle.lines.specs.View.{rowIf, boxOf}
-use Rattle.lines.specs.Made.{Built}
-use Rattle.lines.specs.Looks.{lockIn, said, lockedBy, notRolled, examinedIf, examinedIn, FoundThere, LookedAt}
-use Rattle.reads.specs.declared.seen.Seen.{Seen}
-use Rattle.reads.specs.declared.seen.Seen.the-variants as seen
+use Rattle.store.specs.declared.table.Store.{Store}
+use Rattle.store.specs.declared.views.LockView.{LockView}
+use Rattle.store.specs.declared.lookup.Found.{Found}
+use Rattle.store.specs.declared.lookup.Found.the-variants.{Nothing, Is}
+use Rattle.store.specs.declared.lookup.Locked.{Locked}
+use Rattle.store.specs.declared.lookup.Locked.the-variants.{Nobody, By}
+use Rattle.store.specs.declared.lookup.KeyState.{KeyState}
+use Rattle.store.specs.View.{rowIf, boxOf}
+use Rattle.store.specs.Made.{Built}
+use Rattle.store.specs.KeyStates.{lockIn, said, lockedBy, notRolled, examinedIf, examinedIn, FoundThere, KeyStateAt}
+use Rattle.reads.specs.declared.seen.RowSeen.{RowSeen}
+use Rattle.reads.specs.declared.seen.RowSeen.the-variants as seen
 use Rattle.reads.specs.declared.seen.Reading.{Reading}
 use Rattle.reads.specs.Seen.{seenIn, SeenBelow, ReadAs, unread, newestSeen}
-use Rattle.lines.proofs.SoundLaws.{sound-records, row-shown}
+use Rattle.store.proofs.KeySoundLaws.{sound-records, row-shown}
 
 -- ---- "lock with start at or below the moment, 7"
 
@@ -49,11 +49,11 @@ module _ (m : ℕ) (lock : Locked) where
   unfolding lockLets
   lets-nobody e area = rw e
 
-  pub lets-above : {i : Intent} → lock ≡ By i → m < i .start → (area : Bytes) → Accepted ≡ lockLets m (lockedBy area lock)
+  pub lets-above : {i : LockView} → lock ≡ By i → m < i .start → (area : Bytes) → Accepted ≡ lockLets m (lockedBy area lock)
   unfolding lockLets needOwn
   lets-above {i} e h area = rw (e, lt-ltb m (i .start) h)
 
-  pub lets-held : {i : Intent} {a : Answer} → lock ≡ By i → i .start ≤ m → ((area : Bytes) → a ≡ Held (box.holderOf (lockIn area i))) → (area : Bytes) → a ≡ lockLets m (lockedBy area lock)
+  pub lets-held : {i : LockView} {a : Answer} → lock ≡ By i → i .start ≤ m → ((area : Bytes) → a ≡ Held (box.holderOf (lockIn area i))) → (area : Bytes) → a ≡ lockLets m (lockedBy area lock)
   unfolding lockLets needOwn
   lets-held {i} e h held area = held area ∙ rw (e, le-ltb m (i .start) h)
 
@@ -142,7 +142,7 @@ module _ (k : Key) (m : ℕ) (b : box.Box) where
   unfolding readSteps need _▸_
   read-invalid area h q = refused-no area (rw h) q
 
-module _ {st : Store} {area k : Bytes} {start m : ℕ} {found : Looked} (b : Built st area) (form : keyForm k ≡ true) (f : LookedAt st area k start m found) {lets : Answer} (l : (area : Bytes) → lets ≡ lockLets m (lockedBy area (found .lock))) where
+module _ {st : Store} {area k : Bytes} {start m : ℕ} {found : KeyState} (b : Built st area) (form : keyForm k ≡ true) (f : KeyStateAt st area k start m found) {lets : Answer} (l : (area : Bytes) → lets ≡ lockLets m (lockedBy area (found .lock))) where
   abbrev ds : List box.Default
   ds = boxOf st area .defaults
 
@@ -181,11 +181,11 @@ module _ {st : Store} {area k : Bytes} {start m : ℕ} {found : Looked} (b : Bui
   sound-by : allSound (newestFirst m ws) ≡ true
   sound-by = sound-newest m ws (sound-records k (boxOf st area .lines) (b .kept .good))
 
-  pub read-newest : {s : Seen} → lets ≡ Accepted → s ≡ newestSeen (found .history .newest) → ReadAs (examine k m (boxOf st area)) area (record { seen = s; count = found .history .examined })
+  pub read-newest : {s : RowSeen} → lets ≡ Accepted → s ≡ newestSeen (found .history .visible) → ReadAs (examine k m (boxOf st area)) area (record { seen = s; count = found .history .examined })
   unfolding ifPassed countIf
   read-newest e q =
-      subst (λ (s : Seen). ReadAs (examine k m (boxOf st area)) area (record { seen = s; count = found .history .examined })) (sym q)
+      subst (λ (s : RowSeen). ReadAs (examine k m (boxOf st area)) area (record { seen = s; count = found .history .examined })) (sym q)
       (read-as
-      (newest-is (found .history .newest) (f .history .newest-row) ∙ ap (showNewest k ds) (f .history .newest) ∙ walk-newest k ds (newestFirst m ws) sound-by ∙ reply-is k m (boxOf st area) (steps e))
-      (newest-in (found .history .newest) (f .history .newest-row))
+      (newest-is (found .history .visible) (f .history .visible-row) ∙ ap (showNewest k ds) (f .history .visible) ∙ walk-newest k ds (newestFirst m ws) sound-by ∙ reply-is k m (boxOf st area) (steps e))
+      (newest-in (found .history .visible) (f .history .visible-row))
       (f .history .examined ∙ walk-examined k ds (newestFirst m ws) sound-by ∙ count-is k m (boxOf st area) (steps e)))

@@ -11,30 +11,30 @@ use Rattle.rules.specs.declared.records.Kind.the-variants.{Put, Delete, Rollbac
 use Rattle.rules.specs.Answers.{Answered, Reply, nothing, shown, refused, answerOf}
 use Rattle.rules.specs.Box.{Lock}
 use Rattle.rules.specs.Read.{Examined}
-use Rattle.lines.specs.declared.keys.Found.{Found}
-use Rattle.lines.specs.declared.keys.Found.the-variants.{Nothing, Is}
-use Rattle.reads.specs.declared.seen.Seen.{Seen}
-use Rattle.reads.specs.declared.seen.Seen.the-variants as seen
+use Rattle.store.specs.declared.lookup.Found.{Found}
+use Rattle.store.specs.declared.lookup.Found.the-variants.{Nothing, Is}
+use Rattle.reads.specs.declared.seen.RowSeen.{RowSeen}
+use Rattle.reads.specs.declared.seen.RowSeen.the-variants as seen
 use Rattle.reads.specs.declared.seen.Reading.{Reading}
 use Rattle.reads.specs.declared.seen.ShownLock.{ShownLock}
-use Rattle.reads.specs.declared.seen.Pointed.{Pointed}
-use Rattle.reads.specs.declared.seen.Pointed.the-variants as pointed
+use Rattle.reads.specs.declared.seen.LockSeen.{LockSeen}
+use Rattle.reads.specs.declared.seen.LockSeen.the-variants as pointed
 
 -- ---- a read
 
-abbrev pub seenIn : Bytes → Seen → Reply Row
+abbrev pub seenIn : Bytes → RowSeen → Reply Row
 seenIn area seen.Nothing = nothing
 seenIn area (seen.Row at len) = shown (bytesAt area at len)
 seenIn area (seen.Refused a) = refused a
 
 -- what is shown ends by n
-abbrev pub SeenBelow : ℕ → Seen → Type 0
+abbrev pub SeenBelow : ℕ → RowSeen → Type 0
 SeenBelow n seen.Nothing = Unit {0}
 SeenBelow n (seen.Row at len) = at + len ≤ n
 SeenBelow n (seen.Refused a) = Unit {0}
 
 -- an answer is this reply, with its number and holder, and what it shows lies in the area
-pub record SeenAs (want : Reply Row) (area : Bytes) (r : Seen) : Type 0 where
+pub record SeenAs (want : Reply Row) (area : Bytes) (r : RowSeen) : Type 0 where
   pub answer-is : Answered (answerOf want) (answerOf (seenIn area r))
   pub is : seenIn area r ≡ want
   pub within : SeenBelow (length area) r
@@ -49,12 +49,12 @@ abbrev pub unread : Answer → Reading
 unread a = record { seen = seen.Refused a; count = 0 }
 
 -- what the newest record that counts shows
-abbrev pub ifPut : Kind → Seen → Seen
+abbrev pub ifPut : Kind → RowSeen → RowSeen
 ifPut Put s = s
 ifPut Delete s = seen.Nothing
 ifPut Rollback s = seen.Nothing
 
-abbrev pub newestSeen : Found → Seen
+abbrev pub newestSeen : Found → RowSeen
 newestSeen Nothing = seen.Nothing
 newestSeen (Is w) = ifPut (w .kind) (seen.Row (w .rowat) (w .rowlen))
 
@@ -63,19 +63,19 @@ newestSeen (Is w) = ifPut (w .kind) (seen.Row (w .rowat) (w .rowlen))
 abbrev pub shownLock : Bytes → ShownLock → Lock
 shownLock area s = record { txn = s .txn; primary = bytesAt area (s .at) (s .len); start = s .start; ttl = s .ttl; kind = s .kind }
 
-abbrev pub pointedIn : Bytes → Pointed → Reply Lock
+abbrev pub pointedIn : Bytes → LockSeen → Reply Lock
 pointedIn area pointed.Nothing = nothing
 pointedIn area (pointed.Lock s) = shown (shownLock area s)
 pointedIn area (pointed.Refused a) = refused a
 
 -- the primary of what is shown ends by n
-abbrev pub PointedBelow : ℕ → Pointed → Type 0
+abbrev pub PointedBelow : ℕ → LockSeen → Type 0
 PointedBelow n pointed.Nothing = Unit {0}
 PointedBelow n (pointed.Lock s) = s .at + s .len ≤ n
 PointedBelow n (pointed.Refused a) = Unit {0}
 
 -- an answer is this reply, with its number and holder, and the primary that it shows lies in the area
-pub record PointedAs (want : Reply Lock) (area : Bytes) (r : Pointed) : Type 0 where
+pub record PointedAs (want : Reply Lock) (area : Bytes) (r : LockSeen) : Type 0 where
   pub answer-is : Answered (answerOf want) (answerOf (pointedIn area r))
   pub is : pointedIn area r ≡ want
   pub within : PointedBelow (length area) r

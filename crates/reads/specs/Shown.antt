@@ -14,11 +14,11 @@ use Rattle.rules.specs.Box.{Box, Lock, recordsOf, lockOf}
 use Rattle.rules.specs.Sound.{allSound}
 use Rattle.rules.specs.Read.{examine}
 use Rattle.rules.specs.Shown.{NewestPut}
-use Rattle.lines.specs.View.{boxOf}
-use Rattle.lines.specs.Made.{Made}
-use Rattle.lines.specs.declared.store.Store.{Store}
-use Rattle.reads.specs.declared.seen.Seen.{Seen}
-use Rattle.reads.specs.declared.seen.Seen.the-variants as seen
+use Rattle.store.specs.View.{boxOf}
+use Rattle.store.specs.Made.{Made}
+use Rattle.store.specs.declared.table.Store.{Store}
+use Rattle.reads.specs.declared.seen.RowSeen.{RowSeen}
+use Rattle.reads.specs.declared.seen.RowSeen.the-variants as seen
 use Rattle.reads.specs.declared.seen.Reading.{Reading}
 use Rattle.reads.specs.Seen.{ReadAs}
 use Rattle.reads.specs.Parts.{RowPart}
@@ -30,7 +30,7 @@ pub record AskedOf (key : Key) (moment : ℕ) (b : Box) : Type 0 where
   pub free : (l : Lock) → lockOf key (b .lines) ≡ some l → moment < l .start
 
 -- the answer is a row, and that row is the part that it hands back
-pub record RowSeen (s : Seen) (part : Bytes) (row : Row) : Type 0 where
+pub record ShowsRow (s : RowSeen) (part : Bytes) (row : Row) : Type 0 where
   pub at : ℕ
   pub len : ℕ
   pub answers : s ≡ seen.Row at len
@@ -44,4 +44,4 @@ RowsSeen =
     → AskedOf key moment (boxOf store area)
     → ReadAs (examine key moment (boxOf store area)) area r
     → RowPart area (r .seen) part
-    → RowSeen (r .seen) part row ↔ NewestPut key moment (boxOf store area) row
+    → ShowsRow (r .seen) part row ↔ NewestPut key moment (boxOf store area) row

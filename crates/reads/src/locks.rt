@@ -1,35 +1,35 @@
 // "One intent at a point: 1; no lock or one above the moment, nothing; unsound, 9; else the lock, its primary a stretch of the store's
 // bytes." A store's locks are sound: no step tests it.
 ghost use Rattle.rules.specs.Intent.{intentAt};
-ghost use Rattle.lines.specs.View.{boxOf};
-ghost use Rattle.lines.specs.Made.{Made};
+ghost use Rattle.store.specs.View.{boxOf};
+ghost use Rattle.store.specs.Made.{Made};
 ghost use Rattle.reads.specs.Seen.{PointedAs};
-use crate::seen::Pointed;
+use crate::seen::LockSeen;
 use crate::seen::ShownLock;
-use lines::AREA;
-use lines::Locked;
-use lines::Store;
 use rules::Answer;
+use store::AREA;
+use store::Locked;
+use store::Store;
 
-pub fn intent_for_read(store: Store, area: &[u8; AREA], key: &[u8], moment: u64) -> Pointed
+pub fn intent_for_read(store: Store, area: &[u8; AREA], key: &[u8], moment: u64) -> LockSeen
     requires { ⌜ Made store (now area) ⌝ }
     ensures { λ r. ⌜ PointedAs (intentAt (now (key .entry)) moment (boxOf store (now (area .entry)))) (now (area .entry)) r ⌝ }
 {
     if !forms::key_in_form(key) {
-        return Pointed::Refused(Answer::No(1));
+        return LockSeen::Refused(Answer::No(1));
     }
     let lines = store.lines;
     let load = store.load;
-    let found = lines::look(lines, load, store.top, area, key, 0, moment);
+    let found = store::look_up(lines, load, store.top, area, key, 0, moment);
     let lock = found.lock;
     match lock {
-        Locked::Nobody => Pointed::Nothing,
+        Locked::Nobody => LockSeen::Nothing,
         Locked::By(l) => {
             if moment < l.start {
-                return Pointed::Nothing;
+                return LockSeen::Nothing;
             }
             let kind = l.kind;
-            Pointed::Lock(ShownLock {
+            LockSeen::Lock(ShownLock {
                 txn: l.txn,
                 start: l.start,
                 ttl: l.ttl,

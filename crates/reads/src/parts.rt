@@ -2,8 +2,8 @@
 // any answer and any area; where nothing is shown, or what is shown does not lie in the area, the part is empty.
 ghost use mathlib.Core.Path.{_≡_};
 ghost use Rattle.reads.specs.Parts.{partOf, rowPlace, primaryPlace, RowPart, PrimaryPart};
-use crate::seen::Pointed;
-use crate::seen::Seen;
+use crate::seen::LockSeen;
+use crate::seen::RowSeen;
 
 // The `len` bytes from `at` on; the empty part where they do not lie in the area.
 fn part(area: &[u8], at: usize, len: usize) -> &[u8]
@@ -25,31 +25,31 @@ struct Place {
     len: usize,
 }
 
-fn row_place(seen: Seen) -> Place
+fn row_place(seen: RowSeen) -> Place
     ensures { λ r. ⌜ r ≡ rowPlace seen ⌝ }
 {
     match seen {
-        Seen::Nothing => Place { at: 0, len: 0 },
-        Seen::Row { at, len } => Place { at: at, len: len },
-        Seen::Refused(_) => Place { at: 0, len: 0 },
+        RowSeen::Nothing => Place { at: 0, len: 0 },
+        RowSeen::Row { at, len } => Place { at: at, len: len },
+        RowSeen::Refused(_) => Place { at: 0, len: 0 },
     }
 }
 
-fn primary_place(pointed: Pointed) -> Place
+fn primary_place(pointed: LockSeen) -> Place
     ensures { λ r. ⌜ r ≡ primaryPlace pointed ⌝ }
 {
     match pointed {
-        Pointed::Nothing => Place { at: 0, len: 0 },
-        Pointed::Lock(l) => Place {
+        LockSeen::Nothing => Place { at: 0, len: 0 },
+        LockSeen::Lock(l) => Place {
             at: l.at,
             len: l.len,
         },
-        Pointed::Refused(_) => Place { at: 0, len: 0 },
+        LockSeen::Refused(_) => Place { at: 0, len: 0 },
     }
 }
 
 // The row that a read showed.
-pub fn row_of(area: &[u8], seen: Seen) -> &[u8]
+pub fn row_of(area: &[u8], seen: RowSeen) -> &[u8]
     ensures { λ r. ⌜ RowPart (now (area .entry)) seen (now r) ⌝ }
 {
     let p = row_place(seen);
@@ -57,7 +57,7 @@ pub fn row_of(area: &[u8], seen: Seen) -> &[u8]
 }
 
 // The primary of the lock that an intent at a point showed.
-pub fn primary_of(area: &[u8], pointed: Pointed) -> &[u8]
+pub fn primary_of(area: &[u8], pointed: LockSeen) -> &[u8]
     ensures { λ r. ⌜ PrimaryPart (now (area .entry)) pointed (now r) ⌝ }
 {
     let p = primary_place(pointed);

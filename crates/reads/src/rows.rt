@@ -4,18 +4,18 @@
 ghost use mathlib.Core.Path.{_≡_};
 ghost use Rattle.forms.specs.Bytes.{Bytes};
 ghost use Rattle.rules.specs.Read.{lockLets, examine};
-ghost use Rattle.lines.specs.View.{boxOf};
-ghost use Rattle.lines.specs.Made.{Made};
-ghost use Rattle.lines.specs.Looks.{lockedBy};
+ghost use Rattle.store.specs.View.{boxOf};
+ghost use Rattle.store.specs.Made.{Made};
+ghost use Rattle.store.specs.KeyStates.{lockedBy};
 ghost use Rattle.reads.specs.Seen.{newestSeen, unread, ReadAs};
 use crate::seen::Reading;
-use crate::seen::Seen;
-use lines::AREA;
-use lines::Found;
-use lines::Locked;
-use lines::Store;
+use crate::seen::RowSeen;
 use rules::Answer;
 use rules::Kind;
+use store::AREA;
+use store::Found;
+use store::Locked;
+use store::Store;
 
 // "lock with start at or below the moment, 7"
 pub fn lock_lets(lock: Locked, moment: u64) -> Answer
@@ -27,26 +27,26 @@ pub fn lock_lets(lock: Locked, moment: u64) -> Answer
             if moment < l.start {
                 return Answer::Accepted;
             }
-            lines::held_by(l)
+            store::held_by(l)
         }
     }
 }
 
 // What the newest record that counts shows.
-fn newest_row(newest: Found) -> Seen
+fn newest_row(newest: Found) -> RowSeen
     ensures { λ r. ⌜ r ≡ newestSeen newest ⌝ }
 {
     match newest {
-        Found::Nothing => Seen::Nothing,
+        Found::Nothing => RowSeen::Nothing,
         Found::Is(w) => {
             let kind = w.kind;
             match kind {
-                Kind::Put => Seen::Row {
+                Kind::Put => RowSeen::Row {
                     at: w.rowat,
                     len: w.rowlen,
                 },
-                Kind::Delete => Seen::Nothing,
-                Kind::Rollback => Seen::Nothing,
+                Kind::Delete => RowSeen::Nothing,
+                Kind::Rollback => RowSeen::Nothing,
             }
         }
     }
@@ -57,7 +57,7 @@ fn refusal(answer: Answer) -> Reading
     ensures { λ r. ⌜ r ≡ unread answer ⌝ }
 {
     Reading {
-        seen: Seen::Refused(answer),
+        seen: RowSeen::Refused(answer),
         count: 0,
     }
 }
@@ -71,13 +71,13 @@ pub fn read(store: Store, area: &[u8; AREA], key: &[u8], moment: u64) -> Reading
     }
     let lines = store.lines;
     let load = store.load;
-    let found = lines::look(lines, load, store.top, area, key, 0, moment);
+    let found = store::look_up(lines, load, store.top, area, key, 0, moment);
     let lock = found.lock;
     let lets = lock_lets(lock, moment);
     match lets {
         Answer::Accepted => {
             let history = found.history;
-            let newest = history.newest;
+            let newest = history.visible;
             let seen = newest_row(newest);
             Reading {
                 seen: seen,

@@ -1,9 +1,9 @@
-// What a read and an intent at a point answer, as numbers. specs/Seen.antt gives the paper's reply of each case, the area given.
+// What a read and an intent at a point answer, as numbers. specs/RowSeen.antt gives the paper's reply of each case, the area given.
 use rules::Answer;
 use rules::Kind;
 
 // Of a read: nothing is shown, or the row that is the `len` bytes of the area from `at`, or a refusal.
-pub enum Seen {
+pub enum RowSeen {
     Nothing,
     Row { at: usize, len: usize },
     Refused(Answer),
@@ -11,7 +11,7 @@ pub enum Seen {
 
 // What a read gives: what is seen, and "the number of write records it examined" (document 02, CR 6).
 pub struct Reading {
-    pub seen: Seen,
+    pub seen: RowSeen,
     pub count: usize,
 }
 
@@ -26,7 +26,7 @@ pub struct ShownLock {
 }
 
 // Of an intent at a point: nothing is shown, or the lock, or a refusal.
-pub enum Pointed {
+pub enum LockSeen {
     Nothing,
     Lock(ShownLock),
     Refused(Answer),

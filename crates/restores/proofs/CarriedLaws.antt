@@ -27,17 +27,17 @@ use Rattle.laws.proofs.Sorted.{In, sum-insert, insert-in, in-insert, good-weake
 use Rattle.laws.proofs.BoxOrder.{rowBefore-apart′, order-defaults, same-defaults}
 use Rattle.laws.proofs.KeyLaws.{pair-refl}
 use Rattle.laws.proofs.RecordLaws.{eqKind-true}
-use Rattle.laws.proofs.RestoreLaws.{good-image, healthy-image, good-lines, boxOf-order}
-use Rattle.lines.specs.View.{carries, addIf, stored}
-use Rattle.lines.specs.Made.{goodLine, goodRow, Kept}
-use Rattle.lines.proofs.MemberLaws.{row-found}
-use Rattle.lines.proofs.SoundLaws.{good-in}
-use Rattle.lines.proofs.StoredLaws.{pair-sym, once-insert, stored-order}
+use Rattle.laws.proofs.ImageBoxLaws.{good-image, healthy-image, good-lines, boxOf-order}
+use Rattle.store.specs.View.{carries, addIf, stored}
+use Rattle.store.specs.Made.{goodLine, goodRow, Tallied}
+use Rattle.store.proofs.MemberLaws.{row-found}
+use Rattle.store.proofs.KeySoundLaws.{good-in}
+use Rattle.store.proofs.StoredLaws.{pair-sym, once-insert, stored-order}
 use Rattle.orders.specs.Sorts.{sorted}
 use Rattle.verdicts.proofs.SortedLaws.{sorted-good, none-good}
-use Rattle.verdicts.proofs.PlaceLaws.{rows-sorted, lines-sorted}
-use Rattle.verdicts.proofs.PairLaws as pairs
-use Rattle.verdicts.proofs.PairLaws.{any-sorted, good-same, lineHas, points, lines-have}
+use Rattle.verdicts.proofs.SortedPlaceLaws.{rows-sorted, lines-sorted}
+use Rattle.verdicts.proofs.EntryPairLaws as pairs
+use Rattle.verdicts.proofs.EntryPairLaws.{any-sorted, good-same, lineHas, points, lines-have}
 use Rattle.restores.specs.Rows.{orNone, rowFor}
 use Rattle.restores.specs.Fills.{Laid, defaultFor, laid, rowBytes, tailBytes, sizeOf}
 
@@ -166,7 +166,7 @@ module _ (i : Image) (g : goodImage i ≡ true) (h : healthyImage i ≡ true) wh
   pub image-stored : stored (map (λ (e : KeyLine). laid (boxOf i .defaults) e .default) (boxOf i .lines)) ≡ boxOf i .defaults
   image-stored = stored-is (boxOf i .defaults) (order-defaults (boxOf i) (boxOf-order i g)) (boxOf i .lines) image-once image-has image-pointed
 
-  pub image-kept : {load : Load} → load ≡ loadOf (boxOf i) → Kept (boxOf i) load
+  pub image-kept : {load : Load} → load ≡ loadOf (boxOf i) → Tallied (boxOf i) load
   image-kept e = record {
     load-is = e;
     sorted = boxOf-order i g;

@@ -16,11 +16,11 @@ use Rattle.seqs.proofs.Tables.{table-empty, table-wider, table-added, shown-sam
 use Rattle.forms.specs.Bytes.{Bytes}
 use Rattle.rules.specs.Box as box
 use Rattle.rules.specs.Room.{sumOf}
-use Rattle.lines.specs.declared.store.Slot.{Slot}
-use Rattle.lines.specs.View.{noSlot}
-use Rattle.lines.specs.Made.{SlotBelow}
-use Rattle.stretches.specs.Writes.{Past}
-use Rattle.stretches.proofs.StretchLaws.{slot-kept, default-kept}
+use Rattle.store.specs.declared.table.Slot.{Slot}
+use Rattle.store.specs.View.{noSlot}
+use Rattle.store.specs.Made.{SlotBelow}
+use Rattle.changes.specs.Writes.{Past}
+use Rattle.changes.proofs.StretchLaws.{slot-kept, default-kept}
 use Rattle.restores.specs.Fills.{Laid, laidIn, sizeOf, Comes, ComesIf}
 
 -- ---- the first k slots, and empty ones after them
@@ -28,7 +28,7 @@ use Rattle.restores.specs.Fills.{Laid, laidIn, sizeOf, Comes, ComesIf}
 abbrev blank : ℕ → List Slot → List Slot
 blank k t = take k t ++ replicate (1024 - k) noSlot
 
-module _ (k : ℕ) (t : List Slot) (long : length t ≡ 1024) (h : k < 1024) where
+module _ (k : ℕ) (t : List Slot) (length-is : length t ≡ 1024) (h : k < 1024) where
   one-less : replicate (1024 - k) noSlot ≡ noSlot ∷ replicate (1024 - (k + 1)) noSlot
   one-less = let e : 1024 - k ≡ suc (1024 - (k + 1)) = omega arith in ap (λ (n : ℕ). replicate n noSlot) e
 
@@ -70,7 +70,7 @@ module _ {top n : ℕ} {area : Bytes} {t : List Slot} {all : List Laid} (v : See
   seen-more : n < 1024 → {x : Slot} {y : Laid} → laidIn area x ≡ y → SlotBelow top x → Seen top area (n + 1) (set t n x) (all ++ (y ∷ []))
   seen-more l {x} e p = record {
     table = table-added (v .table) x p l;
-    shows = shown-added (laidIn area) t n x (omega (arith, v .table .long)) ∙ ap₂ (λ (r : List Laid) (y : Laid). r ++ (y ∷ [])) (v .shows) e;
+    shows = shown-added (laidIn area) t n x (omega (arith, v .table .length-is)) ∙ ap₂ (λ (r : List Laid) (y : Laid). r ++ (y ∷ [])) (v .shows) e;
   }
 
   -- other bytes come past the top
@@ -88,7 +88,7 @@ module _ {top n : ℕ} {area : Bytes} {t : List Slot} {all : List Laid} (v : See
 -- the first k slots of t show the first k of `all`, or all of them and are empty from there on; past k is what stood there
 pub record Half (old : List Slot) (all : List Laid) (k top : ℕ) (area : Bytes) (t : List Slot) : Type 0 where
   pub low : k ≤ 1024
-  pub long : length t ≡ 1024
+  pub length-is : length t ≡ 1024
   pub seen : Seen top area (min k (length all)) (blank k t) (take k all)
   pub rest : drop k t ≡ drop k old
 
@@ -96,7 +96,7 @@ pub half-start : (old : List Slot) (all : List Laid) (top : ℕ) (area : Bytes) 
 unfolding shown
 half-start old all top area h = record {
   low = omega arith;
-  long = h;
+  length-is = h;
   seen = seen-as (record { table = table-empty (SlotBelow top) noSlot 1024; shows = refl }) (omega arith) refl refl;
   rest = refl;
 }
@@ -105,7 +105,7 @@ module _ {old : List Slot} {all : List Laid} {k top : ℕ} {area : Bytes} {t : L
   half-next : k < 1024 → (x : Slot) {end : ℕ} {area′ : Bytes} → Seen end area′ (min (k + 1) (length all)) (blank (k + 1) (set t k x)) (take (k + 1) all) → Half old all (k + 1) end area′ (set t k x)
   half-next l x v = record {
     low = omega arith;
-    long = length-set t k x ∙ h .long;
+    length-is = length-set t k x ∙ h .length-is;
     seen = v;
     rest = drop-set-lt (k + 1) t k x (omega arith) ∙ sym (drop-drop 1 k t) ∙ ap (drop 1) (h .rest) ∙ drop-drop 1 k old;
   }
@@ -113,11 +113,11 @@ module _ {old : List Slot} {all : List Laid} {k top : ℕ} {area : Bytes} {t : L
   pub half-more : k < 1024 → k < length all → (z : Laid) {x : Slot} {end : ℕ} {area′ : Bytes} → Comes (getD all k z) area top x end area′ → Half old all (k + 1) end area′ (set t k x)
   half-more l g z {x} c =
       half-next l x
-      (seen-as (seen-more (seen-as (seen-kept (h .seen) (c .past) (omega (arith, c .end-low))) (omega arith) refl refl) l (c .shows) (c .below)) (omega arith) (sym (blank-put k t (h .long) l x))
+      (seen-as (seen-more (seen-as (seen-kept (h .seen) (c .past) (omega (arith, c .end-low))) (omega arith) refl refl) l (c .shows) (c .below)) (omega arith) (sym (blank-put k t (h .length-is) l x))
       (sym (take-suc all k z g) ∙ ap (λ (n : ℕ). take n all) (sym (add-one k))))
 
   pub half-past : k < 1024 → length all ≤ k → Half old all (k + 1) top area (set t k noSlot)
-  half-past l g = half-next l noSlot (seen-as (h .seen) (omega arith) (sym (blank-past k t (h .long) l)) (take-all k all g ∙ sym (take-all (k + 1) all (omega arith))))
+  half-past l g = half-next l noSlot (seen-as (h .seen) (omega arith) (sym (blank-past k t (h .length-is) l)) (take-all k all g ∙ sym (take-all (k + 1) all (omega arith))))
 
   -- all are there
   pub half-end : {P : Slot → Type 0} {m : ℕ} → Table P noSlot 1024 m old → m ≤ k → length all ≤ k → Seen top area (length all) t all
@@ -129,12 +129,12 @@ module _ {old : List Slot} {all : List Laid} {k top : ℕ} {area : Bytes} {t : L
 abbrev pub entries : (ℕ → Laid) → List ℕ → ℕ → List Laid
 entries at places n = map at (take n places)
 
-pub record Told (at : ℕ → Laid) (places : List ℕ) (n : ℕ) : Type 0 where
-  pub few : n ≤ length places
+pub record LineView (at : ℕ → Laid) (places : List ℕ) (n : ℕ) : Type 0 where
+  pub count-fits : n ≤ length places
 
-module _ {at : ℕ → Laid} {places : List ℕ} {n : ℕ} (w : Told at places n) where
+module _ {at : ℕ → Laid} {places : List ℕ} {n : ℕ} (w : LineView at places n) where
   pub told-long : length (entries at places n) ≡ n
-  told-long = length-map (take n places) at ∙ length-take-le n places (w .few)
+  told-long = length-map (take n places) at ∙ length-take-le n places (w .count-fits)
 
   told-at : {k : ℕ} → k < n → getD (entries at places n) k (at 0) ≡ at (getD places k 0)
   told-at {k} l = List·getD-map at (take n places) k 0 ∙ ap at (getD-take n places k 0 l)

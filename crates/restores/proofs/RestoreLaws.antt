@@ -23,25 +23,25 @@ use Rattle.laws.proofs.StepLaws.{answered, and-left, and-right}
 use Rattle.laws.proofs.BoxOrder.{order-defaults}
 use Rattle.laws.proofs.LoadLaws.{load-fields}
 use Rattle.laws.proofs.SettleLaws.{settle-answer, settle-new, settle-leaves, Leaves}
-use Rattle.laws.proofs.RestoreLaws.{boxOf-order}
-use Rattle.lines.specs.declared.store.Slot.{Slot}
-use Rattle.lines.specs.declared.store.Store.{Store}
-use Rattle.lines.specs.View as view
-use Rattle.lines.specs.View.{stored}
-use Rattle.lines.specs.Made.{goodLine, Made}
-use Rattle.stretches.specs.Changes as changes
-use Rattle.stretches.proofs.ChangeLaws.{shows-box}
+use Rattle.laws.proofs.ImageBoxLaws.{boxOf-order}
+use Rattle.store.specs.declared.table.Slot.{Slot}
+use Rattle.store.specs.declared.table.Store.{Store}
+use Rattle.store.specs.View as view
+use Rattle.store.specs.View.{stored}
+use Rattle.store.specs.Made.{goodLine, Made}
+use Rattle.changes.specs.Changes as changes
+use Rattle.changes.proofs.ChangeLaws.{shows-box}
 use Rattle.calls.specs.Settled.{isAccepted}
 use Rattle.calls.proofs.SettledLaws.{is-accepted, is-refusal, untouched}
-use Rattle.judging.specs.Sections.{rowAt, lineAt, Placed}
-use Rattle.verdicts.specs.declared.outcome.Verdict.{Verdict}
+use Rattle.images.specs.Sections.{rowAt, lineAt, Placed}
+use Rattle.verdicts.specs.declared.outcome.ImageVerdict.{ImageVerdict}
 use Rattle.verdicts.specs.Verdicts.{Decided}
-use Rattle.verdicts.proofs.PairLaws.{lineHas}
+use Rattle.verdicts.proofs.EntryPairLaws.{lineHas}
 use Rattle.restores.specs.Rows.{rowsAt}
 use Rattle.restores.specs.Fills.{Laid, laidIn, laid, sizeOf, ComesIf, AsksIf}
 use Rattle.restores.specs.Replaced.{Replaced}
 use Rattle.restores.proofs.CarriedLaws.{image-good, image-has, image-stored, image-kept, sizes-need}
-use Rattle.restores.proofs.FillLaws.{Seen, Half, half-start, half-comes, half-end, entries, Told, told-long, told-next, told-past}
+use Rattle.restores.proofs.FillLaws.{Seen, Half, half-start, half-comes, half-end, entries, LineView, told-long, told-next, told-past}
 
 -- ---- the lines that two lists of places tell, each with its row
 
@@ -49,7 +49,7 @@ abbrev rowsTold : Bytes → Load → List ℕ → List box.Default
 rowsTold s load rows = rowsAt s (take (load .defaults) rows)
 
 abbrev linesTold : Bytes → Load → ℕ → List ℕ → List ℕ → List Laid
-linesTold s load wat rows places = entries (λ (p : ℕ). laid (rowsTold s load rows) (lineAt s wat p)) places (load .lines)
+linesTold s load writesat rows places = entries (λ (p : ℕ). laid (rowsTold s load rows) (lineAt s writesat p)) places (load .lines)
 
 good-at : {A : Type 0} (p : A → Bool) (l : List A) (i : ℕ) (z : A) → allGood p l ≡ true → i < length l → p (getD l i z) ≡ true
 unfolding allGood
@@ -57,32 +57,32 @@ good-at p [] i z a h = absurd (omega arith)
 good-at p (x ∷ xs) zero z a h = and-left _ _ a
 good-at p (x ∷ xs) (suc i) z a h = good-at p xs i z (and-right (p x) _ a) (omega arith)
 
-module _ {s : Bytes} {load : Load} {wat : ℕ} {rows places : List ℕ} (p : Placed s load wat rows places) where
+module _ {s : Bytes} {load : Load} {writesat : ℕ} {rows places : List ℕ} (p : Placed s load writesat rows places) where
   abbrev all : List Laid
-  all = linesTold s load wat rows places
+  all = linesTold s load writesat rows places
 
-  few : load .lines ≤ length places
+  count-fits : load .lines ≤ length places
   unfolding loadOf
-  few = omega (arith, load-fields (p .load-is) .lines, ap length (p .lines-are), length-map (take (load .lines) places) (lineAt s wat), length-take (load .lines) places)
+  count-fits = omega (arith, load-fields (p .load-is) .lines, ap length (p .lines-are), length-map (take (load .lines) places) (lineAt s writesat), length-take (load .lines) places)
 
-  told : Told (λ (q : ℕ). laid (rowsTold s load rows) (lineAt s wat q)) places (load .lines)
-  told = record { few = few }
+  told : LineView (λ (q : ℕ). laid (rowsTold s load rows) (lineAt s writesat q)) places (load .lines)
+  told = record { count-fits = count-fits }
 
   lines-told : map (λ (y : Laid). y .line) all ≡ boxOf (p .img) .lines
-  lines-told = map-map (λ (y : Laid). y .line) (λ (q : ℕ). laid (rowsTold s load rows) (lineAt s wat q)) (take (load .lines) places) ∙ p .lines-are
+  lines-told = map-map (λ (y : Laid). y .line) (λ (q : ℕ). laid (rowsTold s load rows) (lineAt s writesat q)) (take (load .lines) places) ∙ p .lines-are
 
   rows-told : stored (map (λ (y : Laid). y .default) all) ≡ boxOf (p .img) .defaults
   rows-told =
-      ap stored (map-map (λ (y : Laid). y .default) (λ (q : ℕ). laid (rowsTold s load rows) (lineAt s wat q)) (take (load .lines) places)
-      ∙ sym (map-map (λ (e : box.KeyLine). laid (rowsTold s load rows) e .default) (lineAt s wat) (take (load .lines) places)))
+      ap stored (map-map (λ (y : Laid). y .default) (λ (q : ℕ). laid (rowsTold s load rows) (lineAt s writesat q)) (take (load .lines) places)
+      ∙ sym (map-map (λ (e : box.KeyLine). laid (rowsTold s load rows) e .default) (lineAt s writesat) (take (load .lines) places)))
       ∙ ap₂ (λ (ds : List box.Default) (es : List box.KeyLine). stored (map (λ (e : box.KeyLine). laid ds e .default) es)) (p .rows-are) (p .lines-are)
       ∙ image-stored (p .img) (p .good) (p .healthy)
 
   -- what each line holds
-  line-at : (t : box.KeyLine → Bool) → allGood t (boxOf (p .img) .lines) ≡ true → {k : ℕ} → k < load .lines → t (lineAt s wat (getD places k 0)) ≡ true
+  line-at : (t : box.KeyLine → Bool) → allGood t (boxOf (p .img) .lines) ≡ true → {k : ℕ} → k < load .lines → t (lineAt s writesat (getD places k 0)) ≡ true
   line-at t a {k} l =
-      ap t (sym (List·getD-map (lineAt s wat) (take (load .lines) places) k 0 ∙ ap (lineAt s wat) (getD-take (load .lines) places k 0 l)))
-      ∙ good-at t (map (lineAt s wat) (take (load .lines) places)) k (lineAt s wat 0) (ap (allGood t) (p .lines-are) ∙ a) (omega (arith, length-map (take (load .lines) places) (lineAt s wat), length-take-le (load .lines) places few))
+      ap t (sym (List·getD-map (lineAt s writesat) (take (load .lines) places) k 0 ∙ ap (lineAt s writesat) (getD-take (load .lines) places k 0 l)))
+      ∙ good-at t (map (lineAt s writesat) (take (load .lines) places)) k (lineAt s writesat 0) (ap (allGood t) (p .lines-are) ∙ a) (omega (arith, length-map (take (load .lines) places) (lineAt s writesat), length-take-le (load .lines) places count-fits))
 
   room : sumOf sizeOf all ≤ 67584
   unfolding loadOf
@@ -94,68 +94,68 @@ module _ {s : Bytes} {load : Load} {wat : ℕ} {rows places : List ℕ} (p : Pla
 -- ---- the loop
 
 -- the first k places of the table are filled, and there is place for the lines that are left
-pub record Filling (s : Bytes) (load : Load) (wat : ℕ) (rows places : List ℕ) (old : Store) (end k top : ℕ) (area : Bytes) (st : Store) : Type 0 where
-  pub placed : Placed s load wat rows places
-  pub few : end ≤ 1024
-  pub half : Half (old .lines) (linesTold s load wat rows places) k top area (st .lines)
-  pub long : length area ≡ 131072
-  pub left : top + sumOf sizeOf (drop k (linesTold s load wat rows places)) + (load .lines - k) ≤ 68608
+pub record Filling (s : Bytes) (load : Load) (writesat : ℕ) (rows places : List ℕ) (old : Store) (end k top : ℕ) (area : Bytes) (st : Store) : Type 0 where
+  pub placed : Placed s load writesat rows places
+  pub count-fits : end ≤ 1024
+  pub half : Half (old .lines) (linesTold s load writesat rows places) k top area (st .lines)
+  pub length-is : length area ≡ 131072
+  pub left : top + sumOf sizeOf (drop k (linesTold s load writesat rows places)) + (load .lines - k) ≤ 68608
 
-pub filling-start : {s : Bytes} {v : Verdict} {rows places : List ℕ} {old : Store} {area : Bytes} {t : Bool} {end : ℕ} → Decided s v rows places → t ≡ isAccepted (v .answer) → t ≡ true → Made old area
-    → end ≡ max (v .load .lines) (old .load .lines) → Filling s (v .load) (v .wat) rows places old end 0 0 area old
+pub filling-start : {s : Bytes} {v : ImageVerdict} {rows places : List ℕ} {old : Store} {area : Bytes} {t : Bool} {end : ℕ} → Decided s v rows places → t ≡ isAccepted (v .answer) → t ≡ true → Made old area
+    → end ≡ max (v .load .lines) (old .load .lines) → Filling s (v .load) (v .writesat) rows places old end 0 0 area old
 filling-start {v = v} {old = old} {area = area} d e h m q =
     let p = d .placed (is-accepted (v .answer) e (ap not h)) in
     record {
       placed = p;
-      few = omega (arith, p .fit .lines, m .fit .lines);
-      half = half-start (old .lines) _ 0 area (m .built .lines .long);
-      long = m .built .area-long;
+      count-fits = omega (arith, p .fit .lines, m .fit .lines);
+      half = half-start (old .lines) _ 0 area (m .built .lines .length-is);
+      length-is = m .built .area-long;
       left = omega (arith, room p, p .fit .lines);
     }
 
-module _ {s : Bytes} {load : Load} {wat : ℕ} {rows places : List ℕ} {old st : Store} {end k top : ℕ} {area : Bytes} (f : Filling s load wat rows places old end k top area st) where
+module _ {s : Bytes} {load : Load} {writesat : ℕ} {rows places : List ℕ} {old st : Store} {end k top : ℕ} {area : Bytes} (f : Filling s load writesat rows places old end k top area st) where
   pub rows-few : load .defaults ≤ length rows
   unfolding loadOf
   rows-few = omega (arith, load-fields (f .placed .load-is) .defaults, ap length (f .placed .rows-are), length-map (take (load .defaults) rows) (rowAt s), length-take (load .defaults) rows)
 
-  asks : (b : Bool) → ltb k (load .lines) ≡ b → AsksIf b (lineAt s wat (getD places k 0)) (rowsTold s load rows) area top
+  asks : (b : Bool) → ltb k (load .lines) ≡ b → AsksIf b (lineAt s writesat (getD places k 0)) (rowsTold s load rows) area top
   asks true e =
       let p = f .placed in
       let l : k < load .lines = ltb-true k (load .lines) e in
       record {
         sorted = ap (box.ordered box.rowBefore) (p .rows-are) ∙ order-defaults (boxOf (p .img)) (boxOf-order (p .img) (p .good));
-        has = ap (λ (ds : List box.Default). lineHas ds (lineAt s wat (getD places k 0))) (p .rows-are) ∙ line-at p (lineHas (boxOf (p .img) .defaults)) (image-has (p .img) (p .good) (p .healthy)) l;
+        has = ap (λ (ds : List box.Default). lineHas ds (lineAt s writesat (getD places k 0))) (p .rows-are) ∙ line-at p (lineHas (boxOf (p .img) .defaults)) (image-has (p .img) (p .good) (p .healthy)) l;
         good = line-at p goodLine (image-good (p .img) (p .good) (p .healthy)) l;
-        long = f .long;
+        length-is = f .length-is;
         room = omega (arith, f .left, told-next (told p) l, l);
       }
   asks false e = tt
 
-  pub line-asks : AsksIf (ltb k (load .lines)) (lineAt s wat (getD places k 0)) (rowsAt s (take (load .defaults) rows)) area top
+  pub line-asks : AsksIf (ltb k (load .lines)) (lineAt s writesat (getD places k 0)) (rowsAt s (take (load .defaults) rows)) area top
   line-asks = asks (ltb k (load .lines)) refl
 
-  left-next : (b : Bool) → ltb k (load .lines) ≡ b → (x : Slot) (on : ℕ) (area′ : Bytes) → ComesIf b (laid (rowsTold s load rows) (lineAt s wat (getD places k 0))) area top x on area′
-      → (length area′ ≡ 131072) × (on + sumOf sizeOf (drop (k + 1) (linesTold s load wat rows places)) + (load .lines - (k + 1)) ≤ 68608)
-  left-next true e x on area′ c = (c .past .long ∙ f .long, omega (arith, f .left, c .end-most, told-next (told (f .placed)) (ltb-true k (load .lines) e), ltb-true k (load .lines) e))
-  left-next false e x on area′ c = (ap length (c .area-is) ∙ f .long, omega (arith, f .left, c .end-is, told-past (told (f .placed)) (ltb-false k (load .lines) e)))
+  left-next : (b : Bool) → ltb k (load .lines) ≡ b → (x : Slot) (on : ℕ) (area′ : Bytes) → ComesIf b (laid (rowsTold s load rows) (lineAt s writesat (getD places k 0))) area top x on area′
+      → (length area′ ≡ 131072) × (on + sumOf sizeOf (drop (k + 1) (linesTold s load writesat rows places)) + (load .lines - (k + 1)) ≤ 68608)
+  left-next true e x on area′ c = (c .past .length-is ∙ f .length-is, omega (arith, f .left, c .end-most, told-next (told (f .placed)) (ltb-true k (load .lines) e), ltb-true k (load .lines) e))
+  left-next false e x on area′ c = (ap length (c .area-is) ∙ f .length-is, omega (arith, f .left, c .end-is, told-past (told (f .placed)) (ltb-false k (load .lines) e)))
 
-  pub filling-more : (x : Slot) (on : ℕ) (area′ : Bytes) → ComesIf (ltb k (load .lines)) (laid (rowsAt s (take (load .defaults) rows)) (lineAt s wat (getD places k 0))) area top x on area′ → k < end
-      → Filling s load wat rows places old end (k + 1) on area′ (record { lines = set (st .lines) k x; load = st .load; top = st .top })
+  pub filling-more : (x : Slot) (on : ℕ) (area′ : Bytes) → ComesIf (ltb k (load .lines)) (laid (rowsAt s (take (load .defaults) rows)) (lineAt s writesat (getD places k 0))) area top x on area′ → k < end
+      → Filling s load writesat rows places old end (k + 1) on area′ (record { lines = set (st .lines) k x; load = st .load; top = st .top })
   filling-more x on area′ c g =
       let n = left-next (ltb k (load .lines)) refl x on area′ c in
-      record { placed = f .placed; few = f .few; half = half-comes (told (f .placed)) (f .half) (omega (arith, f .few)) (ltb k (load .lines)) refl x on area′ c; long = n .0; left = n .1 }
+      record { placed = f .placed; count-fits = f .count-fits; half = half-comes (told (f .placed)) (f .half) (omega (arith, f .count-fits)) (ltb k (load .lines)) refl x on area′ c; length-is = n .0; left = n .1 }
 
   module _ {area₀ : Bytes} (m : Made old area₀) (e : end ≡ max (load .lines) (old .load .lines)) (g : end ≤ k) where
-    seen : Seen top area (load .lines) (st .lines) (linesTold s load wat rows places)
+    seen : Seen top area (load .lines) (st .lines) (linesTold s load writesat rows places)
     seen =
-        subst (λ (n : ℕ). Seen top area n (st .lines) (linesTold s load wat rows places)) (told-long (told (f .placed)))
+        subst (λ (n : ℕ). Seen top area n (st .lines) (linesTold s load writesat rows places)) (told-long (told (f .placed)))
         (half-end (f .half) (m .built .lines) (omega arith) (omega (arith, told-long (told (f .placed)))))
 
     filled : changes.Leaves (boxOf (f .placed .img)) top (record { lines = st .lines; load = load; top = top }) area
     unfolding shown
     filled =
         let p = f .placed in
-        shows-box (f .long) (omega (arith, f .left)) (seen .table)
+        shows-box (f .length-is) (omega (arith, f .left)) (seen .table)
         (sym (map-map (λ (y : Laid). y .line) (laidIn area) (take (load .lines) (st .lines))) ∙ ap (map (λ (y : Laid). y .line)) (seen .shows) ∙ lines-told p)
         (ap stored (sym (map-map (λ (y : Laid). y .default) (laidIn area) (take (load .lines) (st .lines))) ∙ ap (map (λ (y : Laid). y .default)) (seen .shows)) ∙ rows-told p)
         (image-kept (p .img) (p .good) (p .healthy) (p .load-is)) (omega arith)
@@ -171,7 +171,7 @@ accepted-takes : (i : Image) (b : box.Box) → restoreTo (some i) b .answer ≡ 
 unfolding restoreTo
 accepted-takes i b a = ap (λ (d : Done). d .box) (settle-new (restoreSteps i) (boxOf i) b (sym (settle-answer (restoreSteps i) (boxOf i) b) ∙ a))
 
-module _ {s : Bytes} {v : Verdict} {rows places : List ℕ} {st : Store} {area : Bytes} {t : Bool} (d : Decided s v rows places) (e : t ≡ isAccepted (v .answer)) (m : Made st area) where
+module _ {s : Bytes} {v : ImageVerdict} {rows places : List ℕ} {st : Store} {area : Bytes} {t : Bool} (d : Decided s v rows places) (e : t ≡ isAccepted (v .answer)) (m : Made st area) where
   pub restore-refused : t ≡ false → Replaced st area (restore s (view.boxOf st area)) (record { store = st; answer = v .answer }) area
   unfolding restore
   restore-refused h =
@@ -179,7 +179,7 @@ module _ {s : Bytes} {v : Verdict} {rows places : List ℕ} {st : Store} {area :
       let q = d .answer-is (view.boxOf st area) in
       record { answer-is = answered q; made = m; shown = sym (refusal-leaves (image s) (view.boxOf st area) (λ a. n (q ∙ a))); refused = λ _. untouched }
 
-  pub restore-done : t ≡ true → {end k top : ℕ} {area′ : Bytes} {r : Store} → Filling s (v .load) (v .wat) rows places st end k top area′ r → end ≡ max (v .load .lines) (st .load .lines) → end ≤ k
+  pub restore-done : t ≡ true → {end k top : ℕ} {area′ : Bytes} {r : Store} → Filling s (v .load) (v .writesat) rows places st end k top area′ r → end ≡ max (v .load .lines) (st .load .lines) → end ≤ k
       → Replaced st area (restore s (view.boxOf st area)) (record { store = record { lines = r .lines; load = v .load; top = top }; answer = v .answer }) area′
   unfolding restore
   restore-done h f l g =

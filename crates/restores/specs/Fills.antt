@@ -12,13 +12,13 @@ use Rattle.forms.specs.Row.{Row}
 use Rattle.forms.specs.Readers.{isSome}
 use Rattle.rules.specs.declared.records.Kind.{Kind}
 use Rattle.rules.specs.Box as box
-use Rattle.lines.specs.declared.store.Slot.{Slot}
-use Rattle.lines.specs.View.{lineOf, ifPut, carries, defaultIn, noSlot}
-use Rattle.lines.specs.Made.{LeanRow, SlotBelow, goodLine}
-use Rattle.stretches.specs.Writes.{Past}
+use Rattle.store.specs.declared.table.Slot.{Slot}
+use Rattle.store.specs.View.{lineOf, ifPut, carries, defaultIn, noSlot}
+use Rattle.store.specs.Made.{LeanRow, SlotBelow, goodLine}
+use Rattle.changes.specs.Writes.{Past}
 use Rattle.images.specs.Entries.{Raw}
-use Rattle.images.specs.declared.entries.Entry.{Entry}
-use Rattle.judging.specs.Good.{kindOf, keyLockOf, keyRecordOf}
+use Rattle.images.specs.declared.entries.ImageEntry.{ImageEntry}
+use Rattle.images.specs.Good.{kindOf, keyLockOf, keyRecordOf}
 use Rattle.rules.specs.Restore.{kindHasDefault}
 use Rattle.restores.specs.declared.rows.RowPlace.{RowPlace}
 use Rattle.restores.specs.Rows.{rowFor}
@@ -83,25 +83,25 @@ abbrev pub lineFrom : Bool → Raw → box.KeyLine
 lineFrom true x = record { key = x .key; line = box.Standing (keyLockOf x .lock) }
 lineFrom false x = record { key = x .key; line = box.Finished (keyRecordOf x .write) }
 
-abbrev pub tailIn : Bool → Entry → ℕ
-tailIn true e = 8 + e .plen
+abbrev pub tailIn : Bool → ImageEntry → ℕ
+tailIn true e = 8 + e .piecelen
 tailIn false e = 0
 
 -- "its commit equals its write stamp": only the stamp is written
-abbrev pub OneStamp : Bool → Entry → Type 0
+abbrev pub OneStamp : Bool → ImageEntry → Type 0
 OneStamp true e = Unit {0}
-OneStamp false e = e .three ≡ e .one
+OneStamp false e = e .third ≡ e .first
 
-pub record WriteAsks (s : Bytes) (lock : Bool) (e : Entry) (row : RowPlace) (area : Bytes) (top : ℕ) : Type 0 where
+pub record WriteAsks (s : Bytes) (lock : Bool) (e : ImageEntry) (row : RowPlace) (area : Bytes) (top : ℕ) : Type 0 where
   pub key-in : e .at + e .len ≤ length s
-  pub piece-in : e .pat + e .plen ≤ length s
+  pub piece-in : e .pieceat + e .piecelen ≤ length s
   pub row-in : row .at + row .len ≤ length s
   pub key-small : e .len ≤ 255
-  pub piece-small : e .plen ≤ 255
+  pub piece-small : e .piecelen ≤ 255
   pub row-small : row .len ≤ 255
   pub lean : LeanRow (kindOf (e .kind)) (row .len)
   pub stamp : OneStamp lock e
-  pub long : length area ≡ 131072
+  pub length-is : length area ≡ 131072
   pub room : top + 1 + e .len + 8 + 8 + row .len + tailIn lock e ≤ 131072
 
 -- a good line that has its default, with place for its stretch
@@ -109,7 +109,7 @@ pub record LineAsks (x : box.KeyLine) (ds : List box.Default) (area : Bytes) (to
   pub sorted : box.ordered box.rowBefore ds ≡ true
   pub has : kindHasDefault (box.kindIn (x .line)) (isSome (box.rowOf (x .key) (box.startOf (x .line)) ds)) ≡ true
   pub good : goodLine x ≡ true
-  pub long : length area ≡ 131072
+  pub length-is : length area ≡ 131072
   pub room : top + 1 + sizeOf (laid ds x) ≤ 131072
 
 abbrev pub AsksIf : Bool → box.KeyLine → List box.Default → Bytes → ℕ → Type 0

@@ -15,9 +15,9 @@ use Rattle.rules.specs.declared.records.Kind.the-variants.{Put, Delete, Rollbac
 use Rattle.rules.specs.Box.{Default, rowOf, rowBefore, ordered}
 use Rattle.rules.specs.Restore.{kindHasDefault}
 use Rattle.laws.specs.Places.{pairsBefore}
-use Rattle.images.specs.declared.entries.Entry.{Entry}
-use Rattle.judging.specs.Good.{kindOf}
-use Rattle.judging.specs.Sections.{rowAt}
+use Rattle.images.specs.declared.entries.ImageEntry.{ImageEntry}
+use Rattle.images.specs.Good.{kindOf}
+use Rattle.images.specs.Sections.{rowAt}
 use Rattle.restores.specs.declared.rows.RowPlace.{RowPlace}
 
 -- the defaults at a list of places
@@ -37,7 +37,7 @@ rowFor Rollback o = []
 -- ---- the search
 
 -- an entry's key
-abbrev pub keyIn : Bytes → Entry → Key
+abbrev pub keyIn : Bytes → ImageEntry → Key
 keyIn s e = bytesAt s (e .at) (e .len)
 
 -- where the default of a key and a start stands
@@ -45,12 +45,12 @@ abbrev pub placeOf : Bytes → List ℕ → Key → ℕ → ℕ
 placeOf s rows k n = pairsBefore k n (rowsAt s rows)
 
 -- defaults in order, and a line that has its own if it is a Put
-pub record RowAsks (s : Bytes) (rows : List ℕ) (e : Entry) : Type 0 where
+pub record RowAsks (s : Bytes) (rows : List ℕ) (e : ImageEntry) : Type 0 where
   pub sorted : ordered rowBefore (rowsAt s rows) ≡ true
-  pub has : kindHasDefault (kindOf (e .kind)) (isSome (rowOf (keyIn s e) (e .two) (rowsAt s rows))) ≡ true
+  pub has : kindHasDefault (kindOf (e .kind)) (isSome (rowOf (keyIn s e) (e .second) (rowsAt s rows))) ≡ true
   pub key-in : e .at + e .len ≤ length s
 
-pub record RowFound (s : Bytes) (rows : List ℕ) (e : Entry) (r : RowPlace) : Type 0 where
-  pub is : bytesAt s (r .at) (r .len) ≡ rowFor (kindOf (e .kind)) (rowOf (keyIn s e) (e .two) (rowsAt s rows))
+pub record RowFound (s : Bytes) (rows : List ℕ) (e : ImageEntry) (r : RowPlace) : Type 0 where
+  pub is : bytesAt s (r .at) (r .len) ≡ rowFor (kindOf (e .kind)) (rowOf (keyIn s e) (e .second) (rowsAt s rows))
   pub within : r .at + r .len ≤ length s
   pub small : r .len ≤ 255

@@ -1,24 +1,24 @@
 // A line of the image comes into the store: its stretch to the top of the area, and its slot into a place of the table.
 ghost use mathlib.Core.Bool.{true, false};
 ghost use Rattle.images.specs.Entries.{rawOf};
-ghost use Rattle.judging.specs.Sections.{lineAt};
+ghost use Rattle.images.specs.Sections.{lineAt};
 ghost use Rattle.forms.specs.Bytes.{bytesAt};
 ghost use Rattle.restores.specs.Rows.{rowsAt};
 ghost use Rattle.restores.specs.Fills.{WriteAsks, lineFrom, carrying, Comes, laid, AsksIf, ComesIf};
 use crate::rows::RowPlace;
 use crate::rows::find_row;
-use images::Entry;
+use changes::append_lock;
+use changes::append_record;
+use images::ImageEntry;
 use images::entry_at;
-use judging::kind_of;
-use lines::Ended;
-use lines::Line;
-use lines::Slot;
-use lines::Stood;
-use lines::pairs_in;
-use lines::store::no_slot;
+use images::kind_of;
 use orders::section_of;
-use stretches::append_lock;
-use stretches::append_record;
+use store::Line;
+use store::LockSlot;
+use store::RecordSlot;
+use store::Slot;
+use store::pairs_in;
+use store::table::no_slot;
 
 // A slot, the first byte past its stretch, and the place of the last default that was found.
 pub struct Filled {
@@ -28,7 +28,7 @@ pub struct Filled {
 }
 
 // "a standing intent with its kind": the entry's key and numbers, its row, its time to live and its primary.
-fn write_lock(area: &mut [u8], top: usize, s: &[u8], e: Entry, row: RowPlace) -> Filled
+fn write_lock(area: &mut [u8], top: usize, s: &[u8], e: ImageEntry, row: RowPlace) -> Filled
     requires { ⌜ WriteAsks (now s) true e row (now area) top ⌝ }
     ensures { λ r. ⌜ Comes (carrying (lineFrom true (rawOf (now (s .entry)) e)) (bytesAt (now (s .entry)) (row .at) (row .len))) (now (area .entry)) top (r .slot) (r .top) (now (area .exit)) ⌝ }
 {
@@ -36,17 +36,17 @@ fn write_lock(area: &mut [u8], top: usize, s: &[u8], e: Entry, row: RowPlace) ->
     let b = a + e.len;
     let c = row.at;
     let d = c + row.len;
-    let x = e.pat;
-    let y = x + e.plen;
+    let x = e.pieceat;
+    let y = x + e.piecelen;
     let kind = kind_of(e.kind);
-    let ttl = e.three;
+    let ttl = e.third;
     let at = pairs_in(top);
     let end = append_lock(
         area,
         at + at,
         &s[a..b],
-        e.one,
-        e.two,
+        e.first,
+        e.second,
         &s[c..d],
         ttl,
         &s[x..y],
@@ -56,8 +56,8 @@ fn write_lock(area: &mut [u8], top: usize, s: &[u8], e: Entry, row: RowPlace) ->
             at: at as u16,
             len: e.len as u8,
             used: true,
-            line: Line::Standing(Stood {
-                plen: e.plen as u8,
+            line: Line::Standing(LockSlot {
+                plen: e.piecelen as u8,
                 rowlen: row.len as u8,
                 kind: kind,
             }),
@@ -68,7 +68,7 @@ fn write_lock(area: &mut [u8], top: usize, s: &[u8], e: Entry, row: RowPlace) ->
 }
 
 // "a finished record": the entry's key and numbers, and its row.
-fn write_record(area: &mut [u8], top: usize, s: &[u8], e: Entry, row: RowPlace) -> Filled
+fn write_record(area: &mut [u8], top: usize, s: &[u8], e: ImageEntry, row: RowPlace) -> Filled
     requires { ⌜ WriteAsks (now s) false e row (now area) top ⌝ }
     ensures { λ r. ⌜ Comes (carrying (lineFrom false (rawOf (now (s .entry)) e)) (bytesAt (now (s .entry)) (row .at) (row .len))) (now (area .entry)) top (r .slot) (r .top) (now (area .exit)) ⌝ }
 {
@@ -78,13 +78,13 @@ fn write_record(area: &mut [u8], top: usize, s: &[u8], e: Entry, row: RowPlace) 
     let d = c + row.len;
     let kind = kind_of(e.kind);
     let at = pairs_in(top);
-    let end = append_record(area, at + at, &s[a..b], e.one, e.two, &s[c..d]);
+    let end = append_record(area, at + at, &s[a..b], e.first, e.second, &s[c..d]);
     Filled {
         slot: Slot {
             at: at as u16,
             len: e.len as u8,
             used: true,
-            line: Line::Finished(Ended {
+            line: Line::Finished(RecordSlot {
                 rowlen: row.len as u8,
                 kind: kind,
             }),

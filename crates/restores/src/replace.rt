@@ -1,25 +1,15 @@
 // "Restore (replaces the whole store): .. Any fault 13, then 11."
-ghost use mathlib.Core.Path.{_≡_};
-ghost use Prim.Native.Nat.{max};
 ghost use Rattle.rules.specs.Restore.{restore};
-ghost use Rattle.lines.specs.View.{boxOf};
-ghost use Rattle.lines.specs.Made.{Made};
+ghost use Rattle.store.specs.View.{boxOf};
+ghost use Rattle.store.specs.Made.{Made};
 ghost use Rattle.restores.specs.Replaced.{Replaced};
 use crate::fill::put_line;
 use calls::Changed;
 use calls::accepted;
-use lines::AREA;
-use lines::Store;
+use forms::longer;
+use store::AREA;
+use store::Store;
 use verdicts::verdict;
-
-fn larger(a: usize, b: usize) -> usize
-    ensures { λ r. ⌜ r ≡ max a b ⌝ }
-{
-    if a < b {
-        return b;
-    }
-    a
-}
 
 // "form, table number not zero, then each entry ..": the whole image is judged before anything is written. Then the table is filled where it
 // stands, a place at a time, up to the last place that was or is in use.
@@ -36,12 +26,21 @@ pub fn restore(mut store: Store, area: &mut [u8; AREA], image: &[u8]) -> Changed
         let old = store.load;
         let n = load.lines;
         let d = load.defaults;
-        let end = larger(n, old.lines);
+        let end = longer(n, old.lines);
         let mut top: usize = 0;
         let mut last: usize = 0;
         let mut k: usize = 0;
         while k < end {
-            let l = put_line(area, top, image, v.wat, &rows[..d], k < n, places[k], last);
+            let l = put_line(
+                area,
+                top,
+                image,
+                v.writesat,
+                &rows[..d],
+                k < n,
+                places[k],
+                last,
+            );
             let slot = l.slot;
             store.lines[k] = slot;
             top = l.top;

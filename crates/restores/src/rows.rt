@@ -2,7 +2,7 @@
 ghost use mathlib.Core.Path.{_≡_};
 ghost use Prim.Native.Nat.{_≤_, _<_};
 ghost use Rattle.restores.specs.Rows.{keyIn, placeOf, RowAsks, RowFound};
-use images::Entry;
+use images::ImageEntry;
 use images::Section;
 use images::entry_at;
 use orders::Mark;
@@ -35,15 +35,15 @@ fn probe(low: usize, high: usize, last: usize) -> usize
 
 // Where the default of a line's key and start stands, by halves, so that an image whose starts stand in any order costs no more. In most images
 // it is the one after the last.
-fn row_place(s: &[u8], rows: &[u32], e: Entry, last: usize) -> usize
+fn row_place(s: &[u8], rows: &[u32], e: ImageEntry, last: usize) -> usize
     requires { ⌜ RowAsks (now s) (now rows) e ⌝ }
-    ensures { λ r. ⌜ r ≡ placeOf (now (s .entry)) (now (rows .entry)) (keyIn (now (s .entry)) e) (e .two) ⌝ }
+    ensures { λ r. ⌜ r ≡ placeOf (now (s .entry)) (now (rows .entry)) (keyIn (now (s .entry)) e) (e .second) ⌝ }
 {
     let pair = Mark {
         at: e.at,
         len: e.len,
         lock: false,
-        value: e.two,
+        value: e.second,
     };
     let mut low: usize = 0;
     let mut high = rows.len();
@@ -54,7 +54,7 @@ fn row_place(s: &[u8], rows: &[u32], e: Entry, last: usize) -> usize
             at: d.at,
             len: d.len,
             lock: false,
-            value: d.one,
+            value: d.first,
         };
         if mark_before(s, mark, pair) {
             low = i + 1;
@@ -66,7 +66,7 @@ fn row_place(s: &[u8], rows: &[u32], e: Entry, last: usize) -> usize
 }
 
 // A Put's row, and no bytes for another kind.
-pub fn find_row(s: &[u8], rows: &[u32], e: Entry, last: usize) -> RowPlace
+pub fn find_row(s: &[u8], rows: &[u32], e: ImageEntry, last: usize) -> RowPlace
     requires { ⌜ RowAsks (now s) (now rows) e ⌝ }
     ensures { λ r. ⌜ RowFound (now (s .entry)) (now (rows .entry)) e r ⌝ }
 {
@@ -80,8 +80,8 @@ pub fn find_row(s: &[u8], rows: &[u32], e: Entry, last: usize) -> RowPlace
     let i = row_place(s, rows, e, last);
     let d = entry_at(s, rows[i] as usize, Section::Default);
     RowPlace {
-        at: d.pat,
-        len: d.plen,
+        at: d.pieceat,
+        len: d.piecelen,
         last: i,
     }
 }

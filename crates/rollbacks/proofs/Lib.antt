@@ -1,2 +1,3 @@
-pub mod KeyLaws
-pub mod ApplyLaws
+-- The laws of `rollbacks`, in the order in which they build on each other.
+pub mod RollbackKeyLaws
+pub mod RollbackApplyLaws

@@ -16,12 +16,12 @@ use Rattle.rules.specs.Box.{Lock, holderOf, eqKind}
 use Rattle.rules.specs.Calls.{owns}
 use Rattle.rules.specs.Rollback.{rollbackKey}
 use Rattle.laws.specs.Adds.{rollbackAdds, rollbackFrees}
-use Rattle.lines.specs.declared.store.Store.{Store}
-use Rattle.lines.specs.declared.keys.Found.{Found}
-use Rattle.lines.specs.declared.keys.Found.the-variants.{Nothing, Is}
-use Rattle.lines.specs.declared.keys.Locked.{Locked}
-use Rattle.lines.specs.Made.{Built}
-use Rattle.stretches.specs.Loads.{recordSize, freedBy, FreedAsks}
+use Rattle.store.specs.declared.table.Store.{Store}
+use Rattle.store.specs.declared.lookup.Found.{Found}
+use Rattle.store.specs.declared.lookup.Found.the-variants.{Nothing, Is}
+use Rattle.store.specs.declared.lookup.Locked.{Locked}
+use Rattle.store.specs.Made.{Built}
+use Rattle.changes.specs.Loads.{recordSize, freedBy, FreedAsks}
 use Rattle.calls.specs.Weights.{noWeight, Steps}
 use Rattle.calls.specs.declared.weights.Weight.{Weight}
 

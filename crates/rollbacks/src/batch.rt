@@ -8,18 +8,18 @@ ghost use Rattle.rules.specs.declared.answers.Answer.the-variants.{Accepted};
 ghost use Rattle.rules.specs.Answers.{_▸_, need};
 ghost use Rattle.rules.specs.Calls.{zeroStep};
 ghost use Rattle.rules.specs.Rollback.{rollbackKey, applyRollback, rollbackBatch};
-ghost use Rattle.lines.specs.View.{boxOf};
-ghost use Rattle.lines.specs.Made.{Made};
+ghost use Rattle.store.specs.View.{boxOf};
+ghost use Rattle.store.specs.Made.{Made};
 ghost use Rattle.calls.specs.Settled.{Settled};
-ghost use Rattle.calls.specs.Walks.{AllAsks};
+ghost use Rattle.calls.specs.Entries.{AllAsks};
 ghost use Rattle.calls.specs.Passes.{allDone};
 use crate::passes::check_all;
-use applies::Deed;
+use actions::Action;
 use calls::Changed;
 use forms::Entry;
-use lines::AREA;
-use lines::Store;
 use rules::Answer;
+use store::AREA;
+use store::Store;
 
 // The steps of a batch that is in form and not empty, its head passed: "per key: ..; Then 11", and the applying pass. Where nothing
 // changes no key is applied.
@@ -37,13 +37,13 @@ fn rollback_all(
 {
     let v = check_all(store, area, txn, start, batch, n, list);
     let answer = v.answer;
-    let deed = Deed::Rollback {
+    let action = Action::Rollback {
         txn: txn,
         start: start,
     };
     let m = calls::only_if(v.moves, n);
     let none = &batch[0..0];
-    let applied = calls::apply_all(store, area, deed, none, batch, m, list);
+    let applied = calls::apply_all(store, area, action, none, batch, m, list);
     Changed {
         store: applied,
         answer: answer,

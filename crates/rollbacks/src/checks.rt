@@ -1,27 +1,27 @@
 // The check of one key: look it up, and judge it by what was found. That records are sound, that a start has one line of a key, and that
-// every row has its line is the store's own: no step tests it (KeyLaws: the definition passes there).
+// every row has its line is the store's own: no step tests it (RollbackKeyLaws: the definition passes there).
 ghost use mathlib.Core.Path.{_≡_};
 ghost use Rattle.forms.specs.Bytes.{Bytes};
-ghost use Rattle.lines.specs.View.{boxOf};
-ghost use Rattle.lines.specs.Looks.{said, lockedBy};
+ghost use Rattle.store.specs.View.{boxOf};
+ghost use Rattle.store.specs.KeyStates.{said, lockedBy};
 ghost use Rattle.calls.specs.Weights.{EntryChecked};
 ghost use Rattle.rollbacks.specs.Checks.{stepsOf, rolledBy, ownStep, stampedStep, keySteps, weightOf, WeightAsks, KeyAsks};
-use calls::Seen;
+use calls::Checked;
 use calls::Weight;
-use lines::Found;
-use lines::Locked;
-use lines::Store;
-use lines::look;
+use changes::freed_by;
+use changes::record_load;
 use rules::Answer;
 use rules::Kind;
-use stretches::freed_by;
-use stretches::record_load;
+use store::Found;
+use store::Locked;
+use store::Store;
+use store::look_up;
 
 // The record with this start, if the key has one, is a Rollback.
-fn rolled_by(with: Found) -> bool
-    ensures { λ r. ⌜ r ≡ rolledBy (said with) ⌝ }
+fn rolled_by(started: Found) -> bool
+    ensures { λ r. ⌜ r ≡ rolledBy (said started) ⌝ }
 {
-    match with {
+    match started {
         Found::Nothing => true,
         Found::Is(w) => {
             let kind = w.kind;
@@ -38,7 +38,7 @@ fn own_step(lock: Locked, txn: u64, start: u64) -> Answer
         Locked::Nobody => Answer::Accepted,
         Locked::By(l) => {
             if !calls::owns(l, txn, start) {
-                return lines::held_by(l);
+                return store::held_by(l);
             }
             Answer::Accepted
         }
@@ -62,13 +62,13 @@ fn stamped_step(at: Found, lock: Locked, txn: u64, start: u64) -> Answer
 
 // "1; records by ascending stamp, .. with this start and not Rollback 8; ..": by what was found at the key. All records are walked before the
 // one that is stamped with this start is judged, so 8 comes before 9.
-fn key_step(with: Found, at: Found, lock: Locked, txn: u64, start: u64, key: &[u8]) -> Answer
-    ensures { λ r. ⌜ ((area : Bytes) → r ≡ keySteps txn start (now (key .entry)) (said with) (said at) (lockedBy area lock)) ⌝ }
+fn key_step(started: Found, at: Found, lock: Locked, txn: u64, start: u64, key: &[u8]) -> Answer
+    ensures { λ r. ⌜ ((area : Bytes) → r ≡ keySteps txn start (now (key .entry)) (said started) (said at) (lockedBy area lock)) ⌝ }
 {
     if !forms::key_in_form(key) {
         return Answer::No(1);
     }
-    if !rolled_by(with) {
+    if !rolled_by(started) {
         return Answer::No(8);
     }
     stamped_step(at, lock, txn, start)
@@ -93,23 +93,23 @@ fn weight_of(at: Found, lock: Locked, key: usize) -> Weight
 }
 
 // The answer of a key, and what it would add and free.
-pub fn check_key(store: Store, area: &[u8], txn: u64, start: u64, key: &[u8]) -> Seen
+pub fn check_key(store: Store, area: &[u8], txn: u64, start: u64, key: &[u8]) -> Checked
     requires { ⌜ KeyAsks store (now area) (now key) ⌝ }
     ensures { λ r. ⌜ EntryChecked (stepsOf txn start) (boxOf store (now (area .entry))) (now (key .entry)) r ⌝ }
 {
     let lines = store.lines;
     let load = store.load;
-    let found = look(lines, load, store.top, area, key, start, start);
+    let found = look_up(lines, load, store.top, area, key, start, start);
     let lock = found.lock;
     let history = found.history;
-    let with = history.with;
-    let at = history.at;
-    let answer = key_step(with, at, lock, txn, start, key);
+    let started = history.started;
+    let at = history.stamped;
+    let answer = key_step(started, at, lock, txn, start, key);
     if !calls::accepted(answer) {
         return calls::refusal(answer);
     }
     let weight = weight_of(at, lock, key.len());
-    Seen {
+    Checked {
         answer: answer,
         weight: weight,
     }

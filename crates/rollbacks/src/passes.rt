@@ -2,16 +2,16 @@
 ghost use Rattle.seqs.specs.Tables.{shown};
 ghost use Rattle.forms.specs.Places.{keyAt};
 ghost use Rattle.rules.specs.Rollback.{rollbackKey, applyRollback};
-ghost use Rattle.lines.specs.View.{boxOf};
-ghost use Rattle.calls.specs.Walks.{AllAsks};
+ghost use Rattle.store.specs.View.{boxOf};
+ghost use Rattle.calls.specs.Entries.{AllAsks};
 ghost use Rattle.calls.specs.Passes.{Judged};
 use crate::checks::check_key;
-use calls::Verdict;
+use calls::BatchVerdict;
 use calls::key_of;
 use forms::Entry;
-use lines::Store;
+use store::Store;
 
-// "per key: ..": every key on the store as it came, the whole list for one key before the next, and then what all of them would add to its
+// "per key: ..": every key on the store before the call, the whole list for one key before the next, and then what all of them would add to its
 // load and free of it.
 pub fn check_all(
     store: Store,
@@ -21,7 +21,7 @@ pub fn check_all(
     batch: &[u8],
     n: usize,
     list: [Entry; 32],
-) -> Verdict
+) -> BatchVerdict
     requires { ⌜ AllAsks store (now area) (now batch) n list ⌝ }
     ensures { λ r. ⌜ Judged (rollbackKey txn start) (applyRollback start) (boxOf store (now (area .entry))) (shown (keyAt (now (batch .entry))) n list) r ⌝ }
 {
@@ -33,7 +33,7 @@ pub fn check_all(
         let seen = check_key(store, area, txn, start, key);
         let answer = seen.answer;
         if !calls::accepted(answer) {
-            return Verdict {
+            return BatchVerdict {
                 answer: answer,
                 moves: false,
             };

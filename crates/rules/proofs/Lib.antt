@@ -1,6 +1,7 @@
 -- The laws of this crate that others cite, and its theorems.
 pub mod SoundLaws
 pub mod RoomLaws
+pub mod WriterLaws
 pub mod Worked
 pub mod ShownRows
 pub mod ExaminedLaws

@@ -27,8 +27,9 @@ use Rattle.rules.specs.Read.{lockLets, keepIf, atOrBelow, newestFirst, s
 use Rattle.rules.specs.Page.{Bounds, Limits, boundsStep, pageArguments, keysOf, keysWithin, onPage, tooLarge, costStep, limitStep, onJudged, pageWalk, unlessPast, readKey, page}
 use Rattle.rules.specs.Written.{keyRowBytes, allBytes, pageBytes, Written, writeIf, written, scanPage}
 use Rattle.rules.specs.Calls.{Done, settle, ofBatch, zeroStep, allBelow, foundIf, stampedAt, recordFor}
-use Rattle.rules.specs.Prewrite.{Head, headStep, lockStep, prewriteEntry, prewriteEntries, storeIf, lockLine, unlessLocked, applyPrewrite, applyPrewrites, prewriteRoom, prewriteSteps, prewriteAll, prewriteBatch, prewrite}
-use Rattle.rules.specs.Commit.{Ending, endingStep, withStart, commitLock, commitStep, commitKey, commitKeys, commitTo, applyCommit, applyCommits, commitSteps, commitAll, commitBatch, commit}
+use Rattle.rules.specs.Prewrite.{PrewriteTerms, prewriteTermsStep, lockStep, prewriteEntry, prewriteEntries, storeIf, lockLine, unlessLocked, applyPrewrite, applyPrewrites, prewriteRoom, prewriteSteps, prewriteAll, prewriteBatch, prewrite}
+use Rattle.rules.specs.declared.terms.CommitTerms.{CommitTerms}
+use Rattle.rules.specs.Commit.{commitTermsStep, withStart, commitLock, commitStep, commitKey, commitKeys, commitTo, applyCommit, applyCommits, commitSteps, commitAll, commitBatch, commit}
 use Rattle.rules.specs.Rollback.{rollbackRecords, rollbackLock, rollbackStep, rollbackKey, rollbackKeys, rollbackTo, applyRollback, applyRollbacks, rollbackRoom, rollbackSteps, rollbackAll, rollbackBatch, rollback}
 use Rattle.rules.specs.OneStep.{Counted, argumentsStep, appliedIf, appliedBy, appliedIn, noneOther, allApplied, someApplied, stepLock, stepEntry, stepEntries, newestStep, replaceIf, applyStep, applySteps, stepNew, stepApplied, stepArguments, thenApplied, countIf, stepDone, stepAll, ofCounted, oneStep}
 
@@ -105,10 +106,10 @@ row = 0 ∷ 0 ∷ []
 put : Key → Mutation
 put k = record { key = k; row = some row }
 
-head : ℕ → Head
+head : ℕ → PrewriteTerms
 head start = record { txn = 7; start = start; primary = keyA; ttl = 1 }
 
-ending : ℕ → ℕ → Ending
+ending : ℕ → ℕ → CommitTerms
 ending start commit = record { txn = 7; start = start; commit = commit }
 
 prewriteA : ℕ → Box → Done
@@ -203,7 +204,7 @@ roomTable =
 
 -- no row of either table differs
 both : (differing table ≡ []) × (differing roomTable ≡ [])
-unfolding sawLoad locks full roomTable nameUnless differing saw plain sawDone sawRow sawRead sawCount sawPage flatLine flatLines flatDefaults flat keyA keyB row put head ending prewriteA commitA rollbackA batchA batchAB noBounds buffer pageAt12 box1 box2 box6 box11 table cmp eqBytes ltBytes readOn _>>=_ just only byte stretch piece upTo times section ended whole numberFrom digits numberOf tableOf keyForm integers texts fields rowForm ofKind mutation above ascend ifAscend batchOf mutations keys fitted oneMutation oneKey _▸_ need needOwn ifPassed fresh recordsOf addRecord lockOf addLock rowOf addRow before rowBefore putIn insertBy dropLock unlessLock dropRow unlessRow allSound soundLock sumOf loadOf fits roomFor lockLets keepIf atOrBelow newestFirst showIf showRow oneRecord walk readSteps examine read boundsStep pageArguments keysOf keysWithin onPage tooLarge costStep limitStep onJudged pageWalk unlessPast readKey page keyRowBytes allBytes pageBytes writeIf written scanPage settle ofBatch zeroStep allBelow foundIf stampedAt headStep lockStep prewriteEntry prewriteEntries storeIf lockLine unlessLocked applyPrewrite applyPrewrites prewriteRoom prewriteSteps prewriteAll prewriteBatch prewrite endingStep withStart commitLock commitStep commitKey commitKeys commitTo applyCommit applyCommits commitSteps commitAll commitBatch commit rollbackRecords rollbackLock rollbackStep rollbackKey rollbackKeys rollbackTo applyRollback applyRollbacks rollbackRoom rollbackSteps rollbackAll rollbackBatch rollback argumentsStep appliedIf appliedBy appliedIn noneOther allApplied someApplied stepLock stepEntry stepEntries newestStep replaceIf applyStep applySteps stepNew stepApplied stepArguments thenApplied countIf stepDone stepAll ofCounted oneStep
+unfolding sawLoad locks full roomTable nameUnless differing saw plain sawDone sawRow sawRead sawCount sawPage flatLine flatLines flatDefaults flat keyA keyB row put head ending prewriteA commitA rollbackA batchA batchAB noBounds buffer pageAt12 box1 box2 box6 box11 table cmp eqBytes ltBytes readOn _>>=_ just only byte stretch piece upTo times section ended whole numberFrom digits numberOf tableOf keyForm integers texts fields rowForm ofKind mutation above ascend ifAscend batchOf mutations keys fitted oneMutation oneKey _▸_ need needOwn ifPassed fresh recordsOf addRecord lockOf addLock rowOf addRow before rowBefore putIn insertBy dropLock unlessLock dropRow unlessRow allSound soundLock sumOf loadOf fits roomFor lockLets keepIf atOrBelow newestFirst showIf showRow oneRecord walk readSteps examine read boundsStep pageArguments keysOf keysWithin onPage tooLarge costStep limitStep onJudged pageWalk unlessPast readKey page keyRowBytes allBytes pageBytes writeIf written scanPage settle ofBatch zeroStep allBelow foundIf stampedAt prewriteTermsStep lockStep prewriteEntry prewriteEntries storeIf lockLine unlessLocked applyPrewrite applyPrewrites prewriteRoom prewriteSteps prewriteAll prewriteBatch prewrite commitTermsStep withStart commitLock commitStep commitKey commitKeys commitTo applyCommit applyCommits commitSteps commitAll commitBatch commit rollbackRecords rollbackLock rollbackStep rollbackKey rollbackKeys rollbackTo applyRollback applyRollbacks rollbackRoom rollbackSteps rollbackAll rollbackBatch rollback argumentsStep appliedIf appliedBy appliedIn noneOther allApplied someApplied stepLock stepEntry stepEntries newestStep replaceIf applyStep applySteps stepNew stepApplied stepArguments thenApplied countIf stepDone stepAll ofCounted oneStep
 both = (refl, refl)
 
 pub worked : differing table ≡ []

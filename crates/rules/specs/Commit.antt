@@ -19,20 +19,15 @@ use Rattle.rules.specs.declared.answers.Answer.the-variants.{Accepted, N
 use Rattle.rules.specs.declared.records.Kind.{Kind}
 use Rattle.rules.specs.declared.records.Kind.the-variants.{Put, Delete, Rollback}
 use Rattle.rules.specs.declared.records.Record.{Record}
+use Rattle.rules.specs.declared.terms.CommitTerms.{CommitTerms}
 use Rattle.rules.specs.Answers.{_▸_, need, needOwn}
 use Rattle.rules.specs.Box.{Box, Lock, Finished, holderOf, recordsOf, lockOf, rowOf, eqKind, insertLine, dropLock}
 use Rattle.rules.specs.Sound.{allSound}
 use Rattle.rules.specs.Calls.{Done, settle, ofBatch, nonEmpty, owns, zeroStep, allBelow, lockAt, kindReady, foundIf, recordFor}
 
--- what a call says of its transaction and commit
-pub record Ending : Type 0 where
-  pub txn : ℕ
-  pub start : ℕ
-  pub commit : ℕ
-
 -- "3": "zero transaction, start ..; commit not above start"
-unfoldable pub endingStep : Ending → Answer
-endingStep h =
+unfoldable pub commitTermsStep : CommitTerms → Answer
+commitTermsStep h =
     zeroStep (h .txn) (h .start) ▸
     need (ltb (h .start) (h .commit)) 3
 
@@ -48,7 +43,7 @@ putHasRow Delete stored = true
 putHasRow Rollback stored = true
 
 -- "None: no lock, 8; another's lock, 7; newest stamp at or above commit, 8; Put whose default .., 9"
-unfoldable pub commitLock : Ending → List Record → Option Row → Option Lock → Answer
+unfoldable pub commitLock : CommitTerms → List Record → Option Row → Option Lock → Answer
 commitLock h ws stored none = No 8
 commitLock h ws stored (some l) =
     needOwn (owns (h .txn) (h .start) l) (holderOf l) ▸
@@ -56,7 +51,7 @@ commitLock h ws stored (some l) =
     need (kindReady (l .kind) stored) 9
 
 -- "Rollback, 8; other commit, 8; equal commit, accepted and unchanged, but 9 if this start's lock stands or a Put's default is missing"
-unfoldable pub commitStep : Ending → List Record → Option Row → Option Lock → Option Record → Answer
+unfoldable pub commitStep : CommitTerms → List Record → Option Row → Option Lock → Option Record → Answer
 commitStep h ws stored lock (some w) =
     need (not (eqKind (w .kind) Rollback)) 8 ▸
     need (eqb (w .commit) (h .commit)) 8 ▸
@@ -64,14 +59,14 @@ commitStep h ws stored lock (some w) =
 commitStep h ws stored lock none = commitLock h ws stored lock
 
 -- "per key: 1; records sound, 9; .."
-unfoldable pub commitKey : Ending → Box → Key → Answer
+unfoldable pub commitKey : CommitTerms → Box → Key → Answer
 commitKey h b k =
     need (keyForm k) 1 ▸
     need (allSound (recordsOf k (b .lines))) 9 ▸
     commitStep h (recordsOf k (b .lines)) (rowOf k (h .start) (b .defaults)) (lockOf k (b .lines))
     (withStart (h .start) (recordsOf k (b .lines)))
 
-unfoldable pub commitKeys : Ending → Box → List Key → Answer
+unfoldable pub commitKeys : CommitTerms → Box → List Key → Answer
 commitKeys h b [] = Accepted
 commitKeys h b (k ∷ ks) = commitKey h b k ▸ commitKeys h b ks
 
@@ -85,26 +80,26 @@ commitTo commit b k none (some l) =
       defaults = b .defaults;
     }
 
-unfoldable pub applyCommit : Ending → Key → Box → Box
+unfoldable pub applyCommit : CommitTerms → Key → Box → Box
 applyCommit h k b = commitTo (h .commit) b k (withStart (h .start) (recordsOf k (b .lines))) (lockOf k (b .lines))
 
-unfoldable pub applyCommits : Ending → List Key → Box → Box
+unfoldable pub applyCommits : CommitTerms → List Key → Box → Box
 applyCommits h [] b = b
 applyCommits h (k ∷ ks) b = applyCommits h ks (applyCommit h k b)
 
 -- the steps after 6 and 5; no 11: a line replaces a line, and live bytes fall by the primary
-unfoldable pub commitSteps : Ending → List Key → Box → Answer
+unfoldable pub commitSteps : CommitTerms → List Key → Box → Answer
 commitSteps h ks b =
-    endingStep h ▸
+    commitTermsStep h ▸
     commitKeys h b ks
 
-unfoldable pub commitAll : Ending → List Key → Box → Done
+unfoldable pub commitAll : CommitTerms → List Key → Box → Done
 commitAll h ks b = settle (need (nonEmpty ks) 5 ▸ commitSteps h ks b) (applyCommits h ks b) b
 
 -- "6, 5; 3; per key: .."
-unfoldable pub commitBatch : Ending → Bytes → Box → Done
+unfoldable pub commitBatch : CommitTerms → Bytes → Box → Done
 commitBatch h s b = ofBatch (keys s) (commitAll h) b
 
 -- document 02, CR 10: "the single form disappears as a step of its own and is a batch of one"
-unfoldable pub commit : Ending → Key → Box → Done
+unfoldable pub commit : CommitTerms → Key → Box → Done
 commit h k b = commitBatch h (oneKey k) b

@@ -1,3 +1,4 @@
+-- The definitions of `rules`, in the order in which they build on each other.
 pub mod Answers
 pub mod Box
 pub mod Sound
@@ -16,3 +17,4 @@ pub mod OneStep
 pub mod Image
 pub mod Restore
 pub mod Figures
+pub mod Call

@@ -24,7 +24,8 @@ use Rattle.rules.specs.Box.{Box, Lock, Finished, Default, holderOf, reco
 use Rattle.rules.specs.Sound.{allSound}
 use Rattle.rules.specs.Room.{roomFor}
 use Rattle.rules.specs.Calls.{Done, settle, kindOf, owns, allBelow, rowArgument, rowStands, stampedAt, recordFor}
-use Rattle.rules.specs.Commit.{Ending, endingStep}
+use Rattle.rules.specs.declared.terms.CommitTerms.{CommitTerms}
+use Rattle.rules.specs.Commit.{commitTermsStep}
 
 -- "each entry in turn 1, 2"
 unfoldable pub argumentsStep : List Mutation → Answer
@@ -48,7 +49,7 @@ unfoldable pub appliedBy : ℕ → Option Row → Option Row → Option Record �
 appliedBy start row stored none = notYet
 appliedBy start row stored (some w) = appliedIf (eqb (w .start) start) (eqKind (w .kind) (kindOf row) && rowStands row stored)
 
-unfoldable pub appliedIn : Ending → Box → Mutation → Applied
+unfoldable pub appliedIn : CommitTerms → Box → Mutation → Applied
 appliedIn h b m = appliedBy (h .start) (m .row) (rowOf (m .key) (h .start) (b .defaults)) (stampedAt (h .commit) (recordsOf (m .key) (b .lines)))
 
 abbrev pub isOther : Applied → Bool
@@ -62,38 +63,38 @@ isAlready notYet = false
 isAlready otherwise = false
 
 -- "same start but other kind or row, 9": of no entry
-unfoldable pub noneOther : Ending → Box → List Mutation → Bool
+unfoldable pub noneOther : CommitTerms → Box → List Mutation → Bool
 noneOther h b [] = true
 noneOther h b (m ∷ ms) = not (isOther (appliedIn h b m)) && noneOther h b ms
 
-unfoldable pub allApplied : Ending → Box → List Mutation → Bool
+unfoldable pub allApplied : CommitTerms → Box → List Mutation → Bool
 allApplied h b [] = true
 allApplied h b (m ∷ ms) = isAlready (appliedIn h b m) && allApplied h b ms
 
-unfoldable pub someApplied : Ending → Box → List Mutation → Bool
+unfoldable pub someApplied : CommitTerms → Box → List Mutation → Bool
 someApplied h b [] = false
 someApplied h b (m ∷ ms) = isAlready (appliedIn h b m) || someApplied h b ms
 
 -- "another's lock 7, own lock of other kind 9"
-unfoldable pub stepLock : Ending → Kind → Option Lock → Answer
+unfoldable pub stepLock : CommitTerms → Kind → Option Lock → Answer
 stepLock h kind none = Accepted
 stepLock h kind (some l) =
     needOwn (owns (h .txn) (h .start) l) (holderOf l) ▸
     need (eqKind (l .kind) kind) 9
 
 -- "per entry, another's lock 7, own lock of other kind 9, unsound record 9, record at or above start 8"
-unfoldable pub stepEntry : Ending → Box → Mutation → Answer
+unfoldable pub stepEntry : CommitTerms → Box → Mutation → Answer
 stepEntry h b m =
     stepLock h (kindOf (m .row)) (lockOf (m .key) (b .lines)) ▸
     need (allSound (recordsOf (m .key) (b .lines))) 9 ▸
     need (allBelow (h .start) (recordsOf (m .key) (b .lines))) 8
 
-unfoldable pub stepEntries : Ending → Box → List Mutation → Answer
+unfoldable pub stepEntries : CommitTerms → Box → List Mutation → Answer
 stepEntries h b [] = Accepted
 stepEntries h b (m ∷ ms) = stepEntry h b m ▸ stepEntries h b ms
 
 -- "then per entry newest at or above commit 8"
-unfoldable pub newestStep : Ending → Box → List Mutation → Answer
+unfoldable pub newestStep : CommitTerms → Box → List Mutation → Answer
 newestStep h b [] = Accepted
 newestStep h b (m ∷ ms) = need (allBelow (h .commit) (recordsOf (m .key) (b .lines))) 8 ▸ newestStep h b ms
 
@@ -103,26 +104,26 @@ replaceIf k s none ds = ds
 replaceIf k s (some r) ds = insertDefault (record { key = k; start = s; row = r }) (dropRow k s ds)
 
 -- "Each entry gets a record of this start and its kind, stamped with the commit; ..; an own lock goes"
-unfoldable pub applyStep : Ending → Mutation → Box → Box
+unfoldable pub applyStep : CommitTerms → Mutation → Box → Box
 applyStep h m b =
     record {
       lines = insertLine (record { key = m .key; line = Finished (recordFor (h .start) (h .commit) (kindOf (m .row))) }) (dropLock (m .key) (b .lines));
       defaults = replaceIf (m .key) (h .start) (m .row) (b .defaults);
     }
 
-unfoldable pub applySteps : Ending → List Mutation → Box → Box
+unfoldable pub applySteps : CommitTerms → List Mutation → Box → Box
 applySteps h [] b = b
 applySteps h (m ∷ ms) b = applySteps h ms (applyStep h m b)
 
 -- "None: per entry ..; then per entry ..; 11"
-unfoldable pub stepNew : Ending → List Mutation → Box → Answer
+unfoldable pub stepNew : CommitTerms → List Mutation → Box → Answer
 stepNew h ms b =
     stepEntries h b ms ▸
     newestStep h b ms ▸
     need (roomFor (applySteps h ms b)) 11
 
 -- "All applied: accepted, unchanged. Some: 9. None: .." The empty batch has all applied: accepted, unchanged, with count 0.
-unfoldable pub stepApplied : Bool → Ending → List Mutation → Box → Done
+unfoldable pub stepApplied : Bool → CommitTerms → List Mutation → Box → Done
 stepApplied true h ms b = record { answer = Accepted; box = b }
 stepApplied false h ms b =
     settle
@@ -132,9 +133,9 @@ stepApplied false h ms b =
     b
 
 -- "3; each entry in turn 1, 2; .. same start but other kind or row, 9"
-unfoldable pub stepArguments : Ending → List Mutation → Box → Answer
+unfoldable pub stepArguments : CommitTerms → List Mutation → Box → Answer
 stepArguments h ms b =
-    endingStep h ▸
+    commitTermsStep h ▸
     argumentsStep ms ▸
     need (noneOther h b ms) 9
 
@@ -148,10 +149,10 @@ pub record Counted : Type 0 where
   pub done : Done
   pub count : ℕ
 
-unfoldable pub stepDone : Ending → List Mutation → Box → Done
+unfoldable pub stepDone : CommitTerms → List Mutation → Box → Done
 stepDone h ms b = thenApplied (stepArguments h ms b) b (stepApplied (allApplied h b ms) h ms b)
 
-unfoldable pub stepAll : Ending → List Mutation → Box → Counted
+unfoldable pub stepAll : CommitTerms → List Mutation → Box → Counted
 stepAll h ms b = record { done = stepDone h ms b; count = countIf (stepDone h ms b .answer) (length ms) }
 
 unfoldable pub ofCounted : Option (List Mutation) → (List Mutation → Box → Counted) → Box → Counted
@@ -159,5 +160,5 @@ ofCounted none call b = record { done = record { answer = No 6; box = b }; count
 ofCounted (some ms) call b = call ms b
 
 -- "6; 3; .."
-unfoldable pub oneStep : Ending → Bytes → Box → Counted
+unfoldable pub oneStep : CommitTerms → Bytes → Box → Counted
 oneStep h s b = ofCounted (mutations s) (stepAll h) b

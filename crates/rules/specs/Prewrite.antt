@@ -26,34 +26,34 @@ use Rattle.rules.specs.Room.{roomFor}
 use Rattle.rules.specs.Calls.{Done, settle, ofBatch, nonEmpty, kindOf, owns, allBelow, rowArgument, rowStands}
 
 -- what a call says of its transaction
-pub record Head : Type 0 where
+pub record PrewriteTerms : Type 0 where
   pub txn : ℕ
   pub start : ℕ
   pub primary : Key
   pub ttl : ℕ
 
 -- "transaction, start 3; primary 1; time to live 3"
-unfoldable pub headStep : Head → Answer
-headStep h =
+unfoldable pub prewriteTermsStep : PrewriteTerms → Answer
+prewriteTermsStep h =
     need (not (eqb (h .txn) 0)) 3 ▸
     need (not (eqb (h .start) 0)) 3 ▸
     need (keyForm (h .primary)) 1 ▸
     need (not (eqb (h .ttl) 0)) 3
 
 -- own lock with no other field
-abbrev pub sameLock : Head → Kind → Lock → Bool
+abbrev pub sameLock : PrewriteTerms → Kind → Lock → Bool
 sameLock h kind l = eqBytes (l .primary) (h .primary) && eqb (l .ttl) (h .ttl) && eqKind (l .kind) kind
 
 -- "a lock of another transaction or start, 7; own lock with any other field, or a Put whose stored row is missing or different, 9; own equal
 -- lock, accepted and unchanged; a default without lock, 9"
-unfoldable pub lockStep : Head → Option Row → Option Row → Option Lock → Answer
+unfoldable pub lockStep : PrewriteTerms → Option Row → Option Row → Option Lock → Answer
 lockStep h row stored none = need (not (isSome stored)) 9
 lockStep h row stored (some l) =
     needOwn (owns (h .txn) (h .start) l) (holderOf l) ▸
     need (sameLock h (kindOf row) l && rowStands row stored) 9
 
 -- "per entry ascending: 1, 2; each record of the key sound (9); any record stamp at or above start, 8; .."
-unfoldable pub prewriteEntry : Head → Box → Mutation → Answer
+unfoldable pub prewriteEntry : PrewriteTerms → Box → Mutation → Answer
 prewriteEntry h b m =
     need (keyForm (m .key)) 1 ▸
     need (rowArgument (m .row)) 2 ▸
@@ -61,12 +61,12 @@ prewriteEntry h b m =
     need (allBelow (h .start) (recordsOf (m .key) (b .lines))) 8 ▸
     lockStep h (m .row) (rowOf (m .key) (h .start) (b .defaults)) (lockOf (m .key) (b .lines))
 
-unfoldable pub prewriteEntries : Head → Box → List Mutation → Answer
+unfoldable pub prewriteEntries : PrewriteTerms → Box → List Mutation → Answer
 prewriteEntries h b [] = Accepted
 prewriteEntries h b (m ∷ ms) = prewriteEntry h b m ▸ prewriteEntries h b ms
 
 -- "a lock with the call's fields and the entry's kind"
-abbrev pub lockFor : Head → Kind → Lock
+abbrev pub lockFor : PrewriteTerms → Kind → Lock
 lockFor h kind = record { txn = h .txn; primary = h .primary; start = h .start; ttl = h .ttl; kind = kind }
 
 -- "a Put's row is stored at this start"
@@ -74,7 +74,7 @@ unfoldable pub storeIf : Key → ℕ → Option Row → List Default → List De
 storeIf k s none ds = ds
 storeIf k s (some r) ds = insertDefault (record { key = k; start = s; row = r }) ds
 
-unfoldable pub lockLine : Head → Mutation → Box → Box
+unfoldable pub lockLine : PrewriteTerms → Mutation → Box → Box
 lockLine h m b =
     record {
       lines = insertLine (record { key = m .key; line = Standing (lockFor h (kindOf (m .row))) }) (b .lines);
@@ -86,31 +86,31 @@ unfoldable pub unlessLocked : {A : Type 0} → Option Lock → A → A → A
 unlessLocked none new old = new
 unlessLocked (some l) new old = old
 
-unfoldable pub applyPrewrite : Head → Mutation → Box → Box
+unfoldable pub applyPrewrite : PrewriteTerms → Mutation → Box → Box
 applyPrewrite h m b = unlessLocked (lockOf (m .key) (b .lines)) (lockLine h m b) b
 
-unfoldable pub applyPrewrites : Head → List Mutation → Box → Box
+unfoldable pub applyPrewrites : PrewriteTerms → List Mutation → Box → Box
 applyPrewrites h [] b = b
 applyPrewrites h (m ∷ ms) b = applyPrewrites h ms (applyPrewrite h m b)
 
 -- "Then 11"
-unfoldable pub prewriteRoom : Head → List Mutation → Box → Answer
+unfoldable pub prewriteRoom : PrewriteTerms → List Mutation → Box → Answer
 prewriteRoom h ms b = need (roomFor (applyPrewrites h ms b)) 11
 
 -- the steps after 6 and 5
-unfoldable pub prewriteSteps : Head → List Mutation → Box → Answer
+unfoldable pub prewriteSteps : PrewriteTerms → List Mutation → Box → Answer
 prewriteSteps h ms b =
-    headStep h ▸
+    prewriteTermsStep h ▸
     prewriteEntries h b ms ▸
     prewriteRoom h ms b
 
-unfoldable pub prewriteAll : Head → List Mutation → Box → Done
+unfoldable pub prewriteAll : PrewriteTerms → List Mutation → Box → Done
 prewriteAll h ms b = settle (need (nonEmpty ms) 5 ▸ prewriteSteps h ms b) (applyPrewrites h ms b) b
 
 -- "batch 6, 5; .."
-unfoldable pub prewriteBatch : Head → Bytes → Box → Done
+unfoldable pub prewriteBatch : PrewriteTerms → Bytes → Box → Done
 prewriteBatch h s b = ofBatch (mutations s) (prewriteAll h) b
 
 -- document 02, CR 10: "the single form disappears as a step of its own and is a batch of one"
-unfoldable pub prewrite : Head → Mutation → Box → Done
+unfoldable pub prewrite : PrewriteTerms → Mutation → Box → Done
 prewrite h m b = prewriteBatch h (oneMutation m) b

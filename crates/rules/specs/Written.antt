@@ -3,6 +3,7 @@
 -- after each key, the lock as in the image."
 -- Assumes nothing.
 use Prim.Native.Nat.{ℕ}
+use mathlib.Core.Path.{_≡_}
 use mathlib.Core.Bool.{Bool, true, false}
 use mathlib.Core.List.{List, [], _∷_, _++_}
 use lib.ListN.{length, drop}
@@ -12,7 +13,8 @@ pub use Rattle.forms.specs.Bytes.{pieceBytes}
 use Rattle.forms.specs.Numbers.{digits}
 use Rattle.rules.specs.declared.answers.Answer.{Answer}
 use Rattle.rules.specs.declared.answers.Answer.the-variants.{Accepted, No}
-use Rattle.rules.specs.Answers.{Reply, nothing, shown, refused}
+use Rattle.rules.specs.declared.written.Wrote.{Wrote}
+use Rattle.rules.specs.Answers.{Answered, Reply, nothing, shown, refused}
 use Rattle.rules.specs.Box.{Box, Lock, kindByte}
 use Rattle.rules.specs.Page.{Bounds, Limits, Page, KeyRow, KeyLock, page, intentPage, conflictPage}
 
@@ -45,6 +47,12 @@ pub record Written : Type 0 where
   pub answer : Answer
   pub count : ℕ
   pub buffer : Bytes
+
+-- what such a call promises: the answer with its holder, the count, and the whole of the buffer
+pub record WroteAs (w : Written) (r : Wrote) (out : Bytes) : Type 0 where
+  pub answer-is : Answered (w .answer) (r .answer)
+  pub count-is : r .count ≡ w .count
+  pub out-is : out ≡ w .buffer
 
 -- "Last, 12"; "bytes beyond the page keep what they held"
 unfoldable pub writeIf : Bool → Bytes → Bytes → Written

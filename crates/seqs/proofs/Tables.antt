@@ -86,11 +86,11 @@ module _ {A : Type 0} (l : List A) (i n : ℕ) (x : A) (h : i ≤ n) (room : n <
   pub length-inserted : length (inserted i n x l) ≡ length l
   length-inserted = ap length apart-in ∙ omega (arith, length-append (take i l ++ x ∷ slice i n l) (drop (suc n) l), front-in, length-drop (suc n) l)
 
-module _ {A : Type 0} (l : List A) (i j : ℕ) (x : A) (h : i < j) (long : j ≤ length l) where
+module _ {A : Type 0} (l : List A) (i j : ℕ) (x : A) (h : i < j) (length-is : j ≤ length l) where
   front-out : length (take i l ++ slice (suc i) j l) ≡ j - 1
   front-out =
       let hi : i ≤ length l = omega arith in
-      omega (arith, length-append (take i l) (slice (suc i) j l), length-take-le i l hi, length-slice (suc i) j l long)
+      omega (arith, length-append (take i l) (slice (suc i) j l), length-take-le i l hi, length-slice (suc i) j l length-is)
 
   pub length-moved : length (moveTo i j x l) ≡ length l
   unfolding moveTo
@@ -150,11 +150,11 @@ module _ {A B : Type 0} (f : A → B) (l : List A) where
 
   pub shown-removed : (i n : ℕ) (x : A) → i < n → n ≤ length l → shown f (n - 1) (moveTo i n x l) ≡ removeAt i (shown f n l)
   unfolding shown
-  shown-removed i n x h long = ap (map f) (take-out l i n x h long) ∙ map-remove f i (take n l)
+  shown-removed i n x h length-is = ap (map f) (take-out l i n x h length-is) ∙ map-remove f i (take n l)
 
   pub shown-moved : (i j n : ℕ) (x : A) → i < j → j ≤ n → n ≤ length l → shown f n (moveTo i j x l) ≡ moveTo i j (f x) (shown f n l)
   unfolding shown
-  shown-moved i j n x h k long = ap (map f) (take-moved l i j x h (omega arith) n k) ∙ map-move f i j x (take n l)
+  shown-moved i j n x h k length-is = ap (map f) (take-moved l i j x h (omega arith) n k) ∙ map-move f i j x (take n l)
 
   pub shown-set : (i n : ℕ) (x : A) → i < n → shown f n (set l i x) ≡ set (shown f n l) i (f x)
   unfolding shown
@@ -173,7 +173,7 @@ shown-same f g P same n l a = map-same f g P same (take n l) a
 
 module _ {A : Type 0} {P : A → Type 0} {empty : A} {size n : ℕ} {l : List A} (t : Table P empty size n l) where
   pub table-long : n ≤ length l
-  table-long = omega (arith, t .long, t .few)
+  table-long = omega (arith, t .length-is, t .count-fits)
 
   pub table-at : (i : ℕ) → i < n → P (getD l i empty)
   table-at i h =
@@ -202,16 +202,16 @@ module _ {A : Type 0} {P : A → Type 0} {empty : A} {size n : ℕ} {l : List A}
     shown-past i h = let g : length (shown f n l) ≤ i = omega (arith, shown-length) in drop-of-length-le (shown f n l) g
 
   pub table-wider : (Q : A → Type 0) → ((x : A) → P x → Q x) → Table Q empty size n l
-  table-wider Q w = record { long = t .long; few = t .few; holds = all-weaken P Q (take n l) w (t .holds); rest = t .rest }
+  table-wider Q w = record { length-is = t .length-is; count-fits = t .count-fits; holds = all-weaken P Q (take n l) w (t .holds); rest = t .rest }
 
   module _ (i : ℕ) (x : A) (p : P x) where
     pub table-inserted : i ≤ n → n < size → Table P empty size (n + 1) (inserted i n x l)
     table-inserted h room =
-        let g : n < length l = omega (arith, t .long) in
+        let g : n < length l = omega (arith, t .length-is) in
         let k : size - n ≡ suc (size - (n + 1)) = omega arith in
         record {
-          long = length-inserted l i n x h g ∙ t .long;
-          few = omega arith;
+          length-is = length-inserted l i n x h g ∙ t .length-is;
+          count-fits = omega arith;
           holds = rw (take-inserted l i n x h g) (all-insert P i x (take n l) p (t .holds));
           rest =
               drop-inserted l i n x h g ∙ ap (λ (m : ℕ). drop m l) (sym (add-one n)) ∙ sym (drop-drop 1 n l) ∙ ap (drop 1) (t .rest ∙ ap (λ (m : ℕ). replicate m empty) k);
@@ -221,16 +221,16 @@ module _ {A : Type 0} {P : A → Type 0} {empty : A} {size n : ℕ} {l : List A}
     table-moved j h k =
         let g : j ≤ length l = omega (arith, table-long) in
         record {
-          long = length-moved l i j x h g ∙ t .long;
-          few = t .few;
+          length-is = length-moved l i j x h g ∙ t .length-is;
+          count-fits = t .count-fits;
           holds = rw (take-moved l i j x h g n k) (all-move P i j x (take n l) p (t .holds));
           rest = drop-moved l i j x h g n k ∙ t .rest;
         }
 
     pub table-set : i < n → Table P empty size n (set l i x)
     table-set h = record {
-      long = length-set l i x ∙ t .long;
-      few = t .few;
+      length-is = length-set l i x ∙ t .length-is;
+      count-fits = t .count-fits;
       holds = rw (take-set-lt n l i x h) (all-set P i x (take n l) p (t .holds));
       rest = drop-set-lt n l i x h ∙ t .rest;
     }
@@ -238,21 +238,21 @@ module _ {A : Type 0} {P : A → Type 0} {empty : A} {size n : ℕ} {l : List A}
   -- one more comes past those that count
   pub table-added : (x : A) → P x → n < size → Table P empty size (n + 1) (set l n x)
   table-added x p room =
-      let g : n < length l = omega (arith, t .long) in
+      let g : n < length l = omega (arith, t .length-is) in
       let k : size - n ≡ suc (size - (n + 1)) = omega arith in
       record {
-        long = length-set l n x ∙ t .long;
-        few = omega arith;
+        length-is = length-set l n x ∙ t .length-is;
+        count-fits = omega arith;
         holds = rw (add-one, take-suc-set l n x g) (all-append P (take n l) (x ∷ []) (t .holds) (all-cons P x [] p (all-none P)));
         rest = drop-set-lt (n + 1) l n x (omega arith) ∙ sym (drop-drop 1 n l) ∙ ap (drop 1) (t .rest ∙ ap (λ (m : ℕ). replicate m empty) k);
       }
 
   pub table-removed : (i : ℕ) → i < n → Table P empty size (n - 1) (moveTo i n empty l)
   table-removed i h =
-      let k : size - (n - 1) ≡ suc (size - n) = omega (arith, t .few) in
+      let k : size - (n - 1) ≡ suc (size - n) = omega (arith, t .count-fits) in
       record {
-        long = length-moved l i n empty h table-long ∙ t .long;
-        few = omega (arith, t .few);
+        length-is = length-moved l i n empty h table-long ∙ t .length-is;
+        count-fits = omega (arith, t .count-fits);
         holds = rw (take-out l i n empty h table-long) (all-remove P i (take n l) (t .holds));
         rest = drop-out l i n empty h table-long ∙ ap (λ (m : List A). empty ∷ m) (t .rest) ∙ ap (λ (m : ℕ). replicate m empty) (sym k);
       }
@@ -262,4 +262,4 @@ pub table-empty : {A : Type 0} (P : A → Type 0) (empty : A) (size : ℕ) → T
 unfolding All
 table-empty P empty size =
     let e : size ≡ size - 0 = omega arith in
-    record { long = length-replicate size empty; few = omega arith; holds = tt; rest = ap (λ (m : ℕ). replicate m empty) e }
+    record { length-is = length-replicate size empty; count-fits = omega arith; holds = tt; rest = ap (λ (m : ℕ). replicate m empty) e }

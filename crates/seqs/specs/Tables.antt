@@ -42,8 +42,8 @@ module _ {A : Type 0} where
 
   -- a table of `size` places: P holds of the first n, and the rest are the empty one
   pub record Table (P : A → Type 0) (empty : A) (size n : ℕ) (l : List A) : Type 0 where
-    pub long : length l ≡ size
-    pub few : n ≤ size
+    pub length-is : length l ≡ size
+    pub count-fits : n ≤ size
     pub holds : All P (take n l)
     pub rest : drop n l ≡ replicate (size - n) empty
 

@@ -1,2 +1,3 @@
+-- The laws of `session`, in the order in which they build on each other.
 pub mod LabelLaws
-pub mod PageLaws
+pub mod WrittenPageLaws

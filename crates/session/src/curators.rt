@@ -1,6 +1,6 @@
 // What a curator asks of the box. Each function says who asks for what, makes the call, says what was answered, and hands on the store: after
 // a refusal it is the one that came. `names` are the words for what the call is about.
-ghost use Rattle.lines.specs.Made.{Made};
+ghost use Rattle.store.specs.Made.{Made};
 use crate::telling::say;
 use crate::telling::say_answer;
 use crate::telling::tell;

@@ -5,7 +5,7 @@ mod curators;
 mod telling;
 mod visitors;
 
-ghost use Rattle.lines.specs.Made.{Made};
+ghost use Rattle.store.specs.Made.{Made};
 use curators::commits;
 use curators::prewrites;
 use curators::withdraws;

@@ -1,5 +1,5 @@
 // What a visitor asks of the box, and the support desk, and what is shown. Nothing here changes the store.
-ghost use Rattle.lines.specs.Made.{Made};
+ghost use Rattle.store.specs.Made.{Made};
 use crate::telling::say;
 use crate::telling::say_answer;
 use crate::telling::say_label;
@@ -8,15 +8,15 @@ use crate::telling::tell;
 use forms::Width;
 use mvcc::AREA;
 use mvcc::Answer;
-use mvcc::Seen;
+use mvcc::RowSeen;
 use mvcc::Store;
 
 // A read's answer; a row that is shown is taken from the store's own bytes.
-fn say_seen(area: &[u8], seen: Seen) {
+fn say_seen(area: &[u8], seen: RowSeen) {
     match seen {
-        Seen::Nothing => say(b"nothing to see\n"),
-        Seen::Row { at: _, len: _ } => say_label(mvcc::row_of(area, seen)),
-        Seen::Refused(answer) => say_answer(answer),
+        RowSeen::Nothing => say(b"nothing to see\n"),
+        RowSeen::Row { at: _, len: _ } => say_label(mvcc::row_of(area, seen)),
+        RowSeen::Refused(answer) => say_answer(answer),
     }
 }
 

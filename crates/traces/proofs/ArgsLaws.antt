@@ -13,16 +13,18 @@ use borrow.Author.Tests.{not-true, not-false}
 use Rattle.forms.specs.Bytes.{Bytes}
 use Rattle.forms.specs.Readers.{Read, Reader, readOn, _>>=_, just, ended, whole}
 use Rattle.forms.specs.Key.{Key}
-use Rattle.forms.proofs.ReadLaws.{after, byte-none, byte-at}
+use Rattle.forms.proofs.ReaderLaws.{after, byte-none, byte-at}
 use Rattle.rules.specs.declared.records.Kind.{Kind}
 use Rattle.rules.specs.declared.records.Kind.the-variants.{Delete}
+use Rattle.traces.specs.declared.op.ShowOp.{ShowOp}
+use Rattle.traces.specs.declared.op.ChangeOp.{ChangeOp}
 use Rattle.traces.specs.declared.op.Op.{Op}
 use Rattle.traces.specs.declared.shape.Shape.{Shape}
 use Rattle.traces.specs.declared.args.Args.{Args}
 use Rattle.traces.specs.Ops.{knownOp, opOf}
 use Rattle.traces.specs.Arguments.{number, kind, text, bound, buffer, remaining}
 use Rattle.traces.specs.Calls as calls
-use Rattle.traces.specs.Calls.{Call, call}
+use Rattle.traces.specs.Calls.{TraceCall, lending, call}
 use Rattle.traces.specs.Shapes.{shapeOf, shapeBy}
 use Rattle.traces.specs.Places.{goOn, given, Goes}
 use Rattle.traces.specs.Args.{callBy, shaped, ArgsIn, ArgsFor, ArgsOf, noArgs}
@@ -38,7 +40,7 @@ next {before = false} {ok = true} v f e = let z : _≡_ {A = ℕ} 0 1 = cc (v .i
 next {before = false} {ok = false} v f e = e
 
 -- the arguments that a shape names were read, or refused
-pub record Walked (s : Bytes) (w : Shape) (ok : Bool) (x : Call) (end : ℕ) : Type 0 where
+pub record Walked (s : Bytes) (w : Shape) (ok : Bool) (x : TraceCall) (end : ℕ) : Type 0 where
   pub is : shaped w (drop 1 s) ≡ goOn (just x) s ok end
   pub within : end ≤ length s
 
@@ -55,7 +57,7 @@ module _ {s : Bytes} (w : Shape)
     {oka : Bool} {u : Option Key} {na : ℕ} (va : Goes (w .page) bound none s ok9 n9 oka u na)
     {okb : Bool} {n nb : ℕ} (vb : Goes (w .page) buffer 0 s oka na okb n nb)
     {ok : Bool} {m : Bytes} {end : ℕ} (vc : Goes (w .rest) remaining [] s okb nb ok m end) where
-  pub walked : Walked s w ok (callBy (w .op) a b c d p k r f t u n m) end
+  pub walked : Walked s w ok (lending n (callBy (w .op) a b c d p k r f t u m)) end
   unfolding shaped
   walked = record { within = vc .within; is = next v1 _ (next v2 _ (next v3 _ (next v4 _ (next v5 _ (next v6 _ (next v7 _ (next v8 _ (next v9 _ (next va _ (next vb _ (next vc _ refl))))))))))) }
 
@@ -81,11 +83,11 @@ ended-left x (y ∷ t) h = refl
 sub-pos : {a b : ℕ} → a ≤ b → (a ≡ b → ⊥) → 0 < b - a
 sub-pos {a} {b} l n = omega (arith, n)
 
-read-on : {s : Bytes} {w : Shape} {ok : Bool} {x : Call} {end : ℕ} → Walked s w ok x end → not ok ≡ false → shaped w (drop 1 s) ≡ some (record { got = x; rest = drop end s })
+read-on : {s : Bytes} {w : Shape} {ok : Bool} {x : TraceCall} {end : ℕ} → Walked s w ok x end → not ok ≡ false → shaped w (drop 1 s) ≡ some (record { got = x; rest = drop end s })
 unfolding just
 read-on {s} {w} {ok} {x} {end} v h = v .is ∙ ap (λ (b : Bool). goOn (just x) s b end) (not-false ok h)
 
-module _ {s : Bytes} {w : Shape} {ok : Bool} {x : Call} {end : ℕ} (v : Walked s w ok x end) where
+module _ {s : Bytes} {w : Shape} {ok : Bool} {x : TraceCall} {end : ℕ} (v : Walked s w ok x end) where
   pub args-bad : not ok ≡ true → ArgsFor s w noArgs
   unfolding whole ended
   args-bad h = record { is = ap ended (v .is ∙ ap (λ (b : Bool). goOn (just x) s b end) (not-true ok h)); places = no-places s }
@@ -103,21 +105,21 @@ module _ {s : Bytes} {w : Shape} {ok : Bool} {x : Call} {end : ℕ} (v : Walked 
 -- the arguments of a call are those that its shape names
 ops-shaped : (op : Op) (t : Bytes) → shaped (shapeOf op) t ≡ calls.argumentsOf op t
 unfolding shaped calls.argumentsOf _>>=_ readOn just calls.readArguments calls.pageArguments calls.intentPageArguments calls.conflictingIntentsArguments calls.oneIntentArguments calls.prewriteArguments calls.prewriteBatchArguments calls.commitArguments calls.commitBatchArguments calls.rollbackArguments calls.rollbackBatchArguments calls.oneStepArguments calls.restoreArguments calls.statisticsArguments calls.marksArguments
-ops-shaped Op.Read t = refl
-ops-shaped Op.Page t = refl
-ops-shaped Op.IntentPage t = refl
-ops-shaped Op.ConflictingIntents t = refl
-ops-shaped Op.OneIntent t = refl
-ops-shaped Op.Prewrite t = refl
-ops-shaped Op.PrewriteBatch t = refl
-ops-shaped Op.Commit t = refl
-ops-shaped Op.CommitBatch t = refl
-ops-shaped Op.Rollback t = refl
-ops-shaped Op.RollbackBatch t = refl
+ops-shaped (Op.Shows ShowOp.Read) t = refl
+ops-shaped (Op.Shows ShowOp.Page) t = refl
+ops-shaped (Op.Shows ShowOp.IntentPage) t = refl
+ops-shaped (Op.Shows ShowOp.ConflictingIntents) t = refl
+ops-shaped (Op.Shows ShowOp.OneIntent) t = refl
+ops-shaped (Op.Changes ChangeOp.Prewrite) t = refl
+ops-shaped (Op.Changes ChangeOp.PrewriteBatch) t = refl
+ops-shaped (Op.Changes ChangeOp.Commit) t = refl
+ops-shaped (Op.Changes ChangeOp.CommitBatch) t = refl
+ops-shaped (Op.Changes ChangeOp.Rollback) t = refl
+ops-shaped (Op.Changes ChangeOp.RollbackBatch) t = refl
 ops-shaped Op.OneStep t = refl
-ops-shaped Op.Restore t = refl
-ops-shaped Op.Statistics t = refl
-ops-shaped Op.Marks t = refl
+ops-shaped (Op.Changes ChangeOp.Restore) t = refl
+ops-shaped (Op.Shows ShowOp.Statistics) t = refl
+ops-shaped (Op.Shows ShowOp.Marks) t = refl
 
 begin : (s : Bytes) → 0 < length s → calls.callFrom s ≡ calls.ofOp (knownOp (getD s 0 0)) (opOf (getD s 0 0)) (drop 1 s)
 unfolding calls.callFrom _>>=_ readOn
@@ -142,21 +144,21 @@ module _ {s : Bytes} where
       args-nameless {w} q n = record { is = ap ended (known s l e h ∙ go (opOf (getD s 0 0)) refl); places = no-places s }
         where
           good : (op : Op) → shapeOf op .ok ≡ true
-          good Op.Read = refl
-          good Op.Page = refl
-          good Op.IntentPage = refl
-          good Op.ConflictingIntents = refl
-          good Op.OneIntent = refl
-          good Op.Prewrite = refl
-          good Op.PrewriteBatch = refl
-          good Op.Commit = refl
-          good Op.CommitBatch = refl
-          good Op.Rollback = refl
-          good Op.RollbackBatch = refl
+          good (Op.Shows ShowOp.Read) = refl
+          good (Op.Shows ShowOp.Page) = refl
+          good (Op.Shows ShowOp.IntentPage) = refl
+          good (Op.Shows ShowOp.ConflictingIntents) = refl
+          good (Op.Shows ShowOp.OneIntent) = refl
+          good (Op.Changes ChangeOp.Prewrite) = refl
+          good (Op.Changes ChangeOp.PrewriteBatch) = refl
+          good (Op.Changes ChangeOp.Commit) = refl
+          good (Op.Changes ChangeOp.CommitBatch) = refl
+          good (Op.Changes ChangeOp.Rollback) = refl
+          good (Op.Changes ChangeOp.RollbackBatch) = refl
           good Op.OneStep = refl
-          good Op.Restore = refl
-          good Op.Statistics = refl
-          good Op.Marks = refl
+          good (Op.Changes ChangeOp.Restore) = refl
+          good (Op.Shows ShowOp.Statistics) = refl
+          good (Op.Shows ShowOp.Marks) = refl
 
           go : (o : Option Op) → opOf (getD s 0 0) ≡ o → calls.ofOp true o (drop 1 s) ≡ none
           go none p = refl

@@ -16,7 +16,7 @@ use Rattle.forms.specs.Numbers.{widthOf}
 use Rattle.forms.specs.Places.{found, NumberAt}
 use Rattle.forms.specs.declared.number.Number.{Number}
 use Rattle.forms.specs.declared.number.Width.{Width}
-use Rattle.forms.proofs.ReadLaws.{after, byte-none, byte-at, stretch-good, stretch-short}
+use Rattle.forms.proofs.ReaderLaws.{after, byte-none, byte-at, stretch-good, stretch-short}
 use Rattle.forms.proofs.NumberLaws.{power-pos, number-bad, number-good, number-long, width-some}
 use Rattle.rules.specs.declared.records.Kind.the-variants.{Put, Delete}
 use Rattle.traces.specs.Arguments.{kindIf, kind, text, boundIf, bound, remaining}

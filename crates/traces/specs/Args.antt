@@ -13,33 +13,36 @@ use Rattle.forms.specs.Key.{Key}
 use Rattle.forms.specs.Ones.{oneKey}
 use Rattle.rules.specs.declared.records.Kind.{Kind}
 use Rattle.rules.specs.declared.records.Kind.the-variants.{Delete}
+use Rattle.rules.specs.Call.{Changing, Call}
+use Rattle.traces.specs.declared.op.ShowOp.{ShowOp}
+use Rattle.traces.specs.declared.op.ChangeOp.{ChangeOp}
 use Rattle.traces.specs.declared.op.Op.{Op}
 use Rattle.traces.specs.declared.shape.Shape.{Shape}
 use Rattle.traces.specs.declared.args.Args.{Args}
 use Rattle.traces.specs.Arguments.{number, kind, text, bound, buffer, remaining}
-use Rattle.traces.specs.Calls.{Call, oneEntry, call}
+use Rattle.traces.specs.Calls.{TraceCall, lending, oneEntry, call}
 use Rattle.traces.specs.Places.{given, kindOf}
 
 -- a call from its arguments, of which each takes its own
-abbrev pub callBy : Op → (one two three : ℕ) → Kind → (primary key row : Bytes) → (from to resume : Option Key) → (buffer : ℕ) → (rest : Bytes) → Call
-callBy Op.Read a b c d p k r f t u n s = Call.Read a k
-callBy Op.Page a b c d p k r f t u n s = Call.Page a (record { rows = b; bytes = c }) (record { from = f; to = t; resume = u }) n
-callBy Op.IntentPage a b c d p k r f t u n s = Call.IntentPage a (record { from = f; to = t; resume = u }) n
-callBy Op.ConflictingIntents a b c d p k r f t u n s = Call.ConflictingIntents a (record { rows = b; bytes = c }) (record { from = f; to = t; resume = u }) n
-callBy Op.OneIntent a b c d p k r f t u n s = Call.OneIntent a k
-callBy Op.Prewrite a b c d p k r f t u n s = Call.PrewriteBatch (record { txn = a; start = b; primary = p; ttl = c }) (oneEntry d k r)
-callBy Op.PrewriteBatch a b c d p k r f t u n s = Call.PrewriteBatch (record { txn = a; start = b; primary = p; ttl = c }) s
-callBy Op.Commit a b c d p k r f t u n s = Call.CommitBatch (record { txn = a; start = b; commit = c }) (oneKey k)
-callBy Op.CommitBatch a b c d p k r f t u n s = Call.CommitBatch (record { txn = a; start = b; commit = c }) s
-callBy Op.Rollback a b c d p k r f t u n s = Call.RollbackBatch a b (oneKey k)
-callBy Op.RollbackBatch a b c d p k r f t u n s = Call.RollbackBatch a b s
-callBy Op.OneStep a b c d p k r f t u n s = Call.OneStep (record { txn = a; start = b; commit = c }) s
-callBy Op.Restore a b c d p k r f t u n s = Call.Restore s
-callBy Op.Statistics a b c d p k r f t u n s = Call.Statistics
-callBy Op.Marks a b c d p k r f t u n s = Call.Marks
+abbrev pub callBy : Op → (first second third : ℕ) → Kind → (primary key row : Bytes) → (from to resume : Option Key) → (rest : Bytes) → Call
+callBy (Op.Shows ShowOp.Read) a b c d p k r f t u s = Call.Read k a
+callBy (Op.Shows ShowOp.Page) a b c d p k r f t u s = Call.Page (record { from = f; to = t; resume = u }) a (record { rows = b; bytes = c })
+callBy (Op.Shows ShowOp.IntentPage) a b c d p k r f t u s = Call.IntentPage (record { from = f; to = t; resume = u }) a
+callBy (Op.Shows ShowOp.ConflictingIntents) a b c d p k r f t u s = Call.ConflictingIntents (record { from = f; to = t; resume = u }) a (record { rows = b; bytes = c })
+callBy (Op.Shows ShowOp.OneIntent) a b c d p k r f t u s = Call.OneIntent k a
+callBy (Op.Changes ChangeOp.Prewrite) a b c d p k r f t u s = Call.Change (Changing.Prewrite (record { txn = a; start = b; primary = p; ttl = c }) (oneEntry d k r))
+callBy (Op.Changes ChangeOp.PrewriteBatch) a b c d p k r f t u s = Call.Change (Changing.Prewrite (record { txn = a; start = b; primary = p; ttl = c }) s)
+callBy (Op.Changes ChangeOp.Commit) a b c d p k r f t u s = Call.Change (Changing.Commit (record { txn = a; start = b; commit = c }) (oneKey k))
+callBy (Op.Changes ChangeOp.CommitBatch) a b c d p k r f t u s = Call.Change (Changing.Commit (record { txn = a; start = b; commit = c }) s)
+callBy (Op.Changes ChangeOp.Rollback) a b c d p k r f t u s = Call.Change (Changing.Rollback a b (oneKey k))
+callBy (Op.Changes ChangeOp.RollbackBatch) a b c d p k r f t u s = Call.Change (Changing.Rollback a b s)
+callBy Op.OneStep a b c d p k r f t u s = Call.Change (Changing.OneStep (record { txn = a; start = b; commit = c }) s)
+callBy (Op.Changes ChangeOp.Restore) a b c d p k r f t u s = Call.Restore s
+callBy (Op.Shows ShowOp.Statistics) a b c d p k r f t u s = Call.Statistics
+callBy (Op.Shows ShowOp.Marks) a b c d p k r f t u s = Call.Marks
 
 -- the arguments that a shape names, in their order
-unfoldable pub shaped : Shape → Reader Call
+unfoldable pub shaped : Shape → Reader TraceCall
 shaped w = do
   a ← given (ltb 0 (w .numbers)) number 0
   b ← given (ltb 1 (w .numbers)) number 0
@@ -53,7 +56,7 @@ shaped w = do
   u ← given (w .page) bound none
   n ← given (w .page) buffer 0
   s ← given (w .rest) remaining []
-  just (callBy (w .op) a b c d p k r f t u n s)
+  just (lending n (callBy (w .op) a b c d p k r f t u s))
 
 -- ---- what the numbers and places say
 
@@ -63,18 +66,17 @@ boundOf s present at len = when present (bytesAt s at len)
 -- read as the arguments of an op
 abbrev pub callAs : Op → Bytes → Args → Call
 callAs op s a =
-    callBy op (a .one) (a .two) (a .three) (kindOf (a .put))
+    callBy op (a .first) (a .second) (a .third) (kindOf (a .put))
     (bytesAt s (a .primaryat) (a .primarylen))
     (bytesAt s (a .keyat) (a .keylen))
     (bytesAt s (a .rowat) (a .rowlen))
     (boundOf s (a .from) (a .fromat) (a .fromlen))
     (boundOf s (a .to) (a .toat) (a .tolen))
     (boundOf s (a .resume) (a .resumeat) (a .resumelen))
-    (a .buffer)
     (bytesAt s (a .restat) (a .restlen))
 
-abbrev pub callOf : Bytes → Args → Call
-callOf s a = callAs (a .op) s a
+abbrev pub callOf : Bytes → Args → TraceCall
+callOf s a = lending (a .buffer) (callAs (a .op) s a)
 
 -- where they lie
 pub record ArgsIn (s : Bytes) (a : Args) : Type 0 where
@@ -99,10 +101,10 @@ pub record ArgsOf (s : Bytes) (r : Args) : Type 0 where
 abbrev pub noArgs : Args
 noArgs = record {
   ok = false;
-  op = Op.Read;
-  one = 0;
-  two = 0;
-  three = 0;
+  op = Op.Shows ShowOp.Read;
+  first = 0;
+  second = 0;
+  third = 0;
   put = false;
   primaryat = 0;
   primarylen = 0;

@@ -10,37 +10,34 @@ use Rattle.forms.specs.Row.{Row}
 use Rattle.forms.specs.Ones.{oneMutation, oneKey}
 use Rattle.rules.specs.declared.records.Kind.{Kind}
 use Rattle.rules.specs.declared.records.Kind.the-variants.{Put, Delete, Rollback}
-use Rattle.rules.specs.Page.{Bounds, Limits}
-use Rattle.rules.specs.Prewrite.{Head}
-use Rattle.rules.specs.Commit.{Ending}
+use Rattle.rules.specs.Call.{Changing, Call}
+use Rattle.traces.specs.declared.op.ShowOp.{ShowOp}
+use Rattle.traces.specs.declared.op.ChangeOp.{ChangeOp}
 use Rattle.traces.specs.declared.op.Op.{Op}
 use Rattle.traces.specs.Ops.{knownOp, opOf}
 use Rattle.traces.specs.Arguments.{number, kind, text, bound, buffer, remaining}
 
--- what a call says: its name, and its arguments as document 01's steps take them. A single prewrite, commit or rollback says its batch of one.
-pub data Call : Type 0 where
-  Read : (moment : ℕ) → Key → Call
-  Page : (moment : ℕ) → Limits → Bounds → (buffer : ℕ) → Call
-  IntentPage : (limit : ℕ) → Bounds → (buffer : ℕ) → Call
-  ConflictingIntents : (moment : ℕ) → Limits → Bounds → (buffer : ℕ) → Call
-  OneIntent : (moment : ℕ) → Key → Call
-  PrewriteBatch : Head → (batch : Bytes) → Call
-  CommitBatch : Ending → (batch : Bytes) → Call
-  RollbackBatch : (txn start : ℕ) → (batch : Bytes) → Call
-  OneStep : Ending → (batch : Bytes) → Call
-  Restore : (image : Bytes) → Call
-  Statistics : Call
-  Marks : Call
+-- what a call of a trace says: the call of document 01, and the length of the buffer that it is lent for its page; a call that writes none is
+-- lent none, and has 0. A single prewrite, commit or rollback says its batch of one.
+pub record TraceCall : Type 0 where
+  pub call : Call
+  pub buffer : ℕ
+
+abbrev pub lentNone : Call → TraceCall
+lentNone c = record { call = c; buffer = 0 }
+
+abbrev pub lending : ℕ → Call → TraceCall
+lending n c = record { call = c; buffer = n }
 
 -- "1 | read | moment, key"
-unfoldable pub readArguments : Reader Call
+unfoldable pub readArguments : Reader TraceCall
 readArguments = do
   m ← number
   k ← text
-  just (Call.Read m k)
+  just (lentNone (Call.Read k m))
 
 -- "2 | page | moment, row limit, byte limit, start bound, end bound, resume bound, buffer"
-unfoldable pub pageArguments : Reader Call
+unfoldable pub pageArguments : Reader TraceCall
 pageArguments = do
   m ← number
   rows ← number
@@ -49,20 +46,20 @@ pageArguments = do
   e ← bound
   r ← bound
   n ← buffer
-  just (Call.Page m (record { rows = rows; bytes = bytes }) (record { from = s; to = e; resume = r }) n)
+  just (lending n (Call.Page (record { from = s; to = e; resume = r }) m (record { rows = rows; bytes = bytes })))
 
 -- "3 | intent page | lock limit, start bound, end bound, resume bound, buffer"
-unfoldable pub intentPageArguments : Reader Call
+unfoldable pub intentPageArguments : Reader TraceCall
 intentPageArguments = do
   limit ← number
   s ← bound
   e ← bound
   r ← bound
   n ← buffer
-  just (Call.IntentPage limit (record { from = s; to = e; resume = r }) n)
+  just (lending n (Call.IntentPage (record { from = s; to = e; resume = r }) limit))
 
 -- "4 | conflicting intents | moment, lock limit, byte limit, start bound, end bound, resume bound, buffer"
-unfoldable pub conflictingIntentsArguments : Reader Call
+unfoldable pub conflictingIntentsArguments : Reader TraceCall
 conflictingIntentsArguments = do
   m ← number
   locks ← number
@@ -71,14 +68,14 @@ conflictingIntentsArguments = do
   e ← bound
   r ← bound
   n ← buffer
-  just (Call.ConflictingIntents m (record { rows = locks; bytes = bytes }) (record { from = s; to = e; resume = r }) n)
+  just (lending n (Call.ConflictingIntents (record { from = s; to = e; resume = r }) m (record { rows = locks; bytes = bytes })))
 
 -- "5 | one intent at a point | moment, key"
-unfoldable pub oneIntentArguments : Reader Call
+unfoldable pub oneIntentArguments : Reader TraceCall
 oneIntentArguments = do
   m ← number
   k ← text
-  just (Call.OneIntent m k)
+  just (lentNone (Call.OneIntent k m))
 
 -- "a Delete's row argument is ignored"; no call says Rollback
 abbrev pub rowFor : Kind → Row → Option Row
@@ -90,7 +87,7 @@ abbrev pub oneEntry : Kind → Key → Row → Bytes
 oneEntry d k r = oneMutation (record { key = k; row = rowFor d r })
 
 -- "6 | prewrite | transaction, start, time to live, kind, primary, key, row"
-unfoldable pub prewriteArguments : Reader Call
+unfoldable pub prewriteArguments : Reader TraceCall
 prewriteArguments = do
   t ← number
   s ← number
@@ -99,104 +96,104 @@ prewriteArguments = do
   p ← text
   k ← text
   r ← text
-  just (Call.PrewriteBatch (record { txn = t; start = s; primary = p; ttl = l }) (oneEntry d k r))
+  just (lentNone (Call.Change (Changing.Prewrite (record { txn = t; start = s; primary = p; ttl = l }) (oneEntry d k r))))
 
 -- "7 | prewrite of a batch | transaction, start, time to live, primary, batch"
-unfoldable pub prewriteBatchArguments : Reader Call
+unfoldable pub prewriteBatchArguments : Reader TraceCall
 prewriteBatchArguments = do
   t ← number
   s ← number
   l ← number
   p ← text
   b ← remaining
-  just (Call.PrewriteBatch (record { txn = t; start = s; primary = p; ttl = l }) b)
+  just (lentNone (Call.Change (Changing.Prewrite (record { txn = t; start = s; primary = p; ttl = l }) b)))
 
 -- "8 | commit | transaction, start, commit, key"
-unfoldable pub commitArguments : Reader Call
+unfoldable pub commitArguments : Reader TraceCall
 commitArguments = do
   t ← number
   s ← number
   c ← number
   k ← text
-  just (Call.CommitBatch (record { txn = t; start = s; commit = c }) (oneKey k))
+  just (lentNone (Call.Change (Changing.Commit (record { txn = t; start = s; commit = c }) (oneKey k))))
 
 -- "9 | commit of a key batch | transaction, start, commit, batch"
-unfoldable pub commitBatchArguments : Reader Call
+unfoldable pub commitBatchArguments : Reader TraceCall
 commitBatchArguments = do
   t ← number
   s ← number
   c ← number
   b ← remaining
-  just (Call.CommitBatch (record { txn = t; start = s; commit = c }) b)
+  just (lentNone (Call.Change (Changing.Commit (record { txn = t; start = s; commit = c }) b)))
 
 -- "10 | rollback | transaction, start, key"
-unfoldable pub rollbackArguments : Reader Call
+unfoldable pub rollbackArguments : Reader TraceCall
 rollbackArguments = do
   t ← number
   s ← number
   k ← text
-  just (Call.RollbackBatch t s (oneKey k))
+  just (lentNone (Call.Change (Changing.Rollback t s (oneKey k))))
 
 -- "11 | rollback of a key batch | transaction, start, batch"
-unfoldable pub rollbackBatchArguments : Reader Call
+unfoldable pub rollbackBatchArguments : Reader TraceCall
 rollbackBatchArguments = do
   t ← number
   s ← number
   b ← remaining
-  just (Call.RollbackBatch t s b)
+  just (lentNone (Call.Change (Changing.Rollback t s b)))
 
 -- "12 | one-step batch | transaction, start, commit, batch"
-unfoldable pub oneStepArguments : Reader Call
+unfoldable pub oneStepArguments : Reader TraceCall
 oneStepArguments = do
   t ← number
   s ← number
   c ← number
   b ← remaining
-  just (Call.OneStep (record { txn = t; start = s; commit = c }) b)
+  just (lentNone (Call.Change (Changing.OneStep (record { txn = t; start = s; commit = c }) b)))
 
 -- "32 | restore | image"
-unfoldable pub restoreArguments : Reader Call
+unfoldable pub restoreArguments : Reader TraceCall
 restoreArguments = do
   i ← remaining
-  just (Call.Restore i)
+  just (lentNone (Call.Restore i))
 
 -- "33 | statistics |"
-unfoldable pub statisticsArguments : Reader Call
-statisticsArguments = just Call.Statistics
+unfoldable pub statisticsArguments : Reader TraceCall
+statisticsArguments = just (lentNone Call.Statistics)
 
 -- "34 | high-water marks |"
-unfoldable pub marksArguments : Reader Call
-marksArguments = just Call.Marks
+unfoldable pub marksArguments : Reader TraceCall
+marksArguments = just (lentNone Call.Marks)
 
-unfoldable pub argumentsOf : Op → Reader Call
-argumentsOf Op.Read = readArguments
-argumentsOf Op.Page = pageArguments
-argumentsOf Op.IntentPage = intentPageArguments
-argumentsOf Op.ConflictingIntents = conflictingIntentsArguments
-argumentsOf Op.OneIntent = oneIntentArguments
-argumentsOf Op.Prewrite = prewriteArguments
-argumentsOf Op.PrewriteBatch = prewriteBatchArguments
-argumentsOf Op.Commit = commitArguments
-argumentsOf Op.CommitBatch = commitBatchArguments
-argumentsOf Op.Rollback = rollbackArguments
-argumentsOf Op.RollbackBatch = rollbackBatchArguments
+unfoldable pub argumentsOf : Op → Reader TraceCall
+argumentsOf (Op.Shows ShowOp.Read) = readArguments
+argumentsOf (Op.Shows ShowOp.Page) = pageArguments
+argumentsOf (Op.Shows ShowOp.IntentPage) = intentPageArguments
+argumentsOf (Op.Shows ShowOp.ConflictingIntents) = conflictingIntentsArguments
+argumentsOf (Op.Shows ShowOp.OneIntent) = oneIntentArguments
+argumentsOf (Op.Changes ChangeOp.Prewrite) = prewriteArguments
+argumentsOf (Op.Changes ChangeOp.PrewriteBatch) = prewriteBatchArguments
+argumentsOf (Op.Changes ChangeOp.Commit) = commitArguments
+argumentsOf (Op.Changes ChangeOp.CommitBatch) = commitBatchArguments
+argumentsOf (Op.Changes ChangeOp.Rollback) = rollbackArguments
+argumentsOf (Op.Changes ChangeOp.RollbackBatch) = rollbackBatchArguments
 argumentsOf Op.OneStep = oneStepArguments
-argumentsOf Op.Restore = restoreArguments
-argumentsOf Op.Statistics = statisticsArguments
-argumentsOf Op.Marks = marksArguments
+argumentsOf (Op.Changes ChangeOp.Restore) = restoreArguments
+argumentsOf (Op.Shows ShowOp.Statistics) = statisticsArguments
+argumentsOf (Op.Shows ShowOp.Marks) = marksArguments
 
 -- the arguments of a known op; "Not in form: .. an unknown op"
-unfoldable pub ofOp : Bool → Option Op → Reader Call
+unfoldable pub ofOp : Bool → Option Op → Reader TraceCall
 ofOp true (some op) = argumentsOf op
 ofOp true none = λ s. none
 ofOp false op = λ s. none
 
 -- "A call is an op byte and its arguments"
-unfoldable pub callFrom : Reader Call
+unfoldable pub callFrom : Reader TraceCall
 callFrom = do
   b ← byte
   ofOp (knownOp b) (opOf b)
 
 -- "Not in form: .. bytes missing or left over in a call"
-unfoldable pub call : Bytes → Option Call
+unfoldable pub call : Bytes → Option TraceCall
 call s = whole callFrom s

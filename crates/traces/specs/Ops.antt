@@ -5,6 +5,8 @@ use mathlib.Core.Bool.{Bool, true, false, _||_}
 use mathlib.Core.List.{List, [], _∷_}
 use mathlib.Core.Option.{Option, none, some}
 use lib.Dec.{eqb}
+use Rattle.traces.specs.declared.op.ShowOp.{ShowOp}
+use Rattle.traces.specs.declared.op.ChangeOp.{ChangeOp}
 use Rattle.traces.specs.declared.op.Op.{Op}
 
 abbrev pub knownOps : List ℕ
@@ -42,19 +44,19 @@ false ⇒ op else other = other
 
 unfoldable pub opOf : ℕ → Option Op
 opOf b =
-    eqb b 1 ⇒ Op.Read else
-    eqb b 2 ⇒ Op.Page else
-    eqb b 3 ⇒ Op.IntentPage else
-    eqb b 4 ⇒ Op.ConflictingIntents else
-    eqb b 5 ⇒ Op.OneIntent else
-    eqb b 6 ⇒ Op.Prewrite else
-    eqb b 7 ⇒ Op.PrewriteBatch else
-    eqb b 8 ⇒ Op.Commit else
-    eqb b 9 ⇒ Op.CommitBatch else
-    eqb b 10 ⇒ Op.Rollback else
-    eqb b 11 ⇒ Op.RollbackBatch else
+    eqb b 1 ⇒ Op.Shows ShowOp.Read else
+    eqb b 2 ⇒ Op.Shows ShowOp.Page else
+    eqb b 3 ⇒ Op.Shows ShowOp.IntentPage else
+    eqb b 4 ⇒ Op.Shows ShowOp.ConflictingIntents else
+    eqb b 5 ⇒ Op.Shows ShowOp.OneIntent else
+    eqb b 6 ⇒ Op.Changes ChangeOp.Prewrite else
+    eqb b 7 ⇒ Op.Changes ChangeOp.PrewriteBatch else
+    eqb b 8 ⇒ Op.Changes ChangeOp.Commit else
+    eqb b 9 ⇒ Op.Changes ChangeOp.CommitBatch else
+    eqb b 10 ⇒ Op.Changes ChangeOp.Rollback else
+    eqb b 11 ⇒ Op.Changes ChangeOp.RollbackBatch else
     eqb b 12 ⇒ Op.OneStep else
-    eqb b 32 ⇒ Op.Restore else
-    eqb b 33 ⇒ Op.Statistics else
-    eqb b 34 ⇒ Op.Marks else
+    eqb b 32 ⇒ Op.Changes ChangeOp.Restore else
+    eqb b 33 ⇒ Op.Shows ShowOp.Statistics else
+    eqb b 34 ⇒ Op.Shows ShowOp.Marks else
     none

@@ -3,11 +3,13 @@
 use Prim.Native.Nat.{ℕ}
 use mathlib.Core.Bool.{Bool, true, false}
 use mathlib.Core.Option.{Option, none, some}
+use Rattle.traces.specs.declared.op.ShowOp.{ShowOp}
+use Rattle.traces.specs.declared.op.ChangeOp.{ChangeOp}
 use Rattle.traces.specs.declared.op.Op.{Op}
 use Rattle.traces.specs.declared.shape.Shape.{Shape}
 
 abbrev pub noShape : Shape
-noShape = record { ok = false; op = Op.Read; numbers = 0; kind = false; primary = false; key = false; row = false; page = false; rest = false }
+noShape = record { ok = false; op = Op.Shows ShowOp.Read; numbers = 0; kind = false; primary = false; key = false; row = false; page = false; rest = false }
 
 abbrev pub withKey : Op → ℕ → Bool → Shape
 withKey op n prewrite = record { ok = true; op = op; numbers = n; kind = prewrite; primary = prewrite; key = true; row = prewrite; page = false; rest = false }
@@ -19,21 +21,21 @@ abbrev pub withRest : Op → ℕ → Bool → Bool → Shape
 withRest op n primary rest = record { ok = true; op = op; numbers = n; kind = false; primary = primary; key = false; row = false; page = false; rest = rest }
 
 abbrev pub shapeOf : Op → Shape
-shapeOf Op.Read = withKey Op.Read 1 false
-shapeOf Op.Page = withPage Op.Page 3
-shapeOf Op.IntentPage = withPage Op.IntentPage 1
-shapeOf Op.ConflictingIntents = withPage Op.ConflictingIntents 3
-shapeOf Op.OneIntent = withKey Op.OneIntent 1 false
-shapeOf Op.Prewrite = withKey Op.Prewrite 3 true
-shapeOf Op.PrewriteBatch = withRest Op.PrewriteBatch 3 true true
-shapeOf Op.Commit = withKey Op.Commit 3 false
-shapeOf Op.CommitBatch = withRest Op.CommitBatch 3 false true
-shapeOf Op.Rollback = withKey Op.Rollback 2 false
-shapeOf Op.RollbackBatch = withRest Op.RollbackBatch 2 false true
+shapeOf (Op.Shows ShowOp.Read) = withKey (Op.Shows ShowOp.Read) 1 false
+shapeOf (Op.Shows ShowOp.Page) = withPage (Op.Shows ShowOp.Page) 3
+shapeOf (Op.Shows ShowOp.IntentPage) = withPage (Op.Shows ShowOp.IntentPage) 1
+shapeOf (Op.Shows ShowOp.ConflictingIntents) = withPage (Op.Shows ShowOp.ConflictingIntents) 3
+shapeOf (Op.Shows ShowOp.OneIntent) = withKey (Op.Shows ShowOp.OneIntent) 1 false
+shapeOf (Op.Changes ChangeOp.Prewrite) = withKey (Op.Changes ChangeOp.Prewrite) 3 true
+shapeOf (Op.Changes ChangeOp.PrewriteBatch) = withRest (Op.Changes ChangeOp.PrewriteBatch) 3 true true
+shapeOf (Op.Changes ChangeOp.Commit) = withKey (Op.Changes ChangeOp.Commit) 3 false
+shapeOf (Op.Changes ChangeOp.CommitBatch) = withRest (Op.Changes ChangeOp.CommitBatch) 3 false true
+shapeOf (Op.Changes ChangeOp.Rollback) = withKey (Op.Changes ChangeOp.Rollback) 2 false
+shapeOf (Op.Changes ChangeOp.RollbackBatch) = withRest (Op.Changes ChangeOp.RollbackBatch) 2 false true
 shapeOf Op.OneStep = withRest Op.OneStep 3 false true
-shapeOf Op.Restore = withRest Op.Restore 0 false true
-shapeOf Op.Statistics = withRest Op.Statistics 0 false false
-shapeOf Op.Marks = withRest Op.Marks 0 false false
+shapeOf (Op.Changes ChangeOp.Restore) = withRest (Op.Changes ChangeOp.Restore) 0 false true
+shapeOf (Op.Shows ShowOp.Statistics) = withRest (Op.Shows ShowOp.Statistics) 0 false false
+shapeOf (Op.Shows ShowOp.Marks) = withRest (Op.Shows ShowOp.Marks) 0 false false
 
 abbrev pub shapeBy : Option Op → Shape
 shapeBy none = noShape

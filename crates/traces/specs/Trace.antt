@@ -11,7 +11,7 @@ use lib.Dec.{leb, eqb}
 use Rattle.forms.specs.Bytes.{Bytes}
 use Rattle.forms.specs.Readers.{Reader, _>>=_, just, stretch, section, whole, isSome}
 use Rattle.forms.specs.Numbers.{numberOf}
-use Rattle.traces.specs.Calls.{Call, call}
+use Rattle.traces.specs.Calls.{TraceCall, call}
 
 -- "A length of 65,535 is followed by a 4-byte length, which is then the call's own"
 unfoldable pub lengthIf : Bool → ℕ → Reader ℕ
@@ -34,13 +34,13 @@ unfoldable pub taken : {A : Type 0} → Option A → Reader A
 taken none = λ s. none
 taken (some x) = just x
 
-unfoldable pub framedCall : Reader Call
+unfoldable pub framedCall : Reader TraceCall
 framedCall = do
   s ← framed
   taken (call s)
 
 -- "A trace is a 2-byte count of calls, then each call"
-unfoldable pub callsFrom : Reader (List Call)
+unfoldable pub callsFrom : Reader (List TraceCall)
 callsFrom = section (numberOf 2) framedCall
 
 unfoldable pub upToLength : {A : Type 0} → Bool → Option A → Option A
@@ -48,7 +48,7 @@ upToLength true o = o
 upToLength false o = none
 
 -- "nothing may follow"; "up to 262,144 bytes". An empty input has no count.
-unfoldable pub trace : Bytes → Option (List Call)
+unfoldable pub trace : Bytes → Option (List TraceCall)
 trace s = upToLength (leb (length s) 262144) (whole callsFrom s)
 
 unfoldable pub traceForm : Bytes → Bool

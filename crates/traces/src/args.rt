@@ -9,6 +9,7 @@ use crate::argument::number_from;
 use crate::argument::rest_from;
 use crate::argument::text_from;
 use crate::op::Op;
+use crate::op::ShowOp;
 use crate::op::known_op;
 use crate::shape::Shape;
 use crate::shape::shape_of;
@@ -18,9 +19,9 @@ use forms::Width;
 pub struct Args {
     pub ok: bool,
     pub op: Op,
-    pub one: u64,
-    pub two: u64,
-    pub three: u64,
+    pub first: u64,
+    pub second: u64,
+    pub third: u64,
     pub put: bool,
     pub primaryat: usize,
     pub primarylen: usize,
@@ -47,10 +48,10 @@ fn no_args() -> Args
 {
     Args {
         ok: false,
-        op: Op::Read,
-        one: 0,
-        two: 0,
-        three: 0,
+        op: Op::Shows(ShowOp::Read),
+        first: 0,
+        second: 0,
+        third: 0,
         put: false,
         primaryat: 0,
         primarylen: 0,
@@ -79,10 +80,16 @@ fn args_for(call: &[u8], shape: Shape) -> Args
     ensures { λ r. ⌜ ArgsFor (now (call .entry)) shape r ⌝ }
 {
     let op = shape.op;
-    let one = number_from(call, true, 1, Width::Eight, 0 < shape.numbers);
-    let two = number_from(call, one.ok, one.next, Width::Eight, 1 < shape.numbers);
-    let three = number_from(call, two.ok, two.next, Width::Eight, 2 < shape.numbers);
-    let kind = kind_from(call, three.ok, three.next, shape.kind);
+    let first = number_from(call, true, 1, Width::Eight, 0 < shape.numbers);
+    let second = number_from(call, first.ok, first.next, Width::Eight, 1 < shape.numbers);
+    let third = number_from(
+        call,
+        second.ok,
+        second.next,
+        Width::Eight,
+        2 < shape.numbers,
+    );
+    let kind = kind_from(call, third.ok, third.next, shape.kind);
     let primary = text_from(call, kind.ok, kind.next, shape.primary);
     let key = text_from(call, primary.ok, primary.next, shape.key);
     let row = text_from(call, key.ok, key.next, shape.row);
@@ -100,9 +107,9 @@ fn args_for(call: &[u8], shape: Shape) -> Args
     Args {
         ok: true,
         op,
-        one: one.value,
-        two: two.value,
-        three: three.value,
+        first: first.value,
+        second: second.value,
+        third: third.value,
         put: kind.put,
         primaryat: primary.at,
         primarylen: primary.len,

@@ -3,23 +3,33 @@
 ghost use mathlib.Core.Path.{_≡_};
 ghost use Rattle.traces.specs.Ops.{knownOp, isIn};
 
-// The calls, by their names in the table.
-pub enum Op {
+// The calls that show something and leave the store as it was, by their names in the table.
+pub enum ShowOp {
     Read,
     Page,
     IntentPage,
     ConflictingIntents,
     OneIntent,
+    Statistics,
+    Marks,
+}
+
+// The calls that change the store and give no count.
+pub enum ChangeOp {
     Prewrite,
     PrewriteBatch,
     Commit,
     CommitBatch,
     Rollback,
     RollbackBatch,
-    OneStep,
     Restore,
-    Statistics,
-    Marks,
+}
+
+// Every call.
+pub enum Op {
+    Shows(ShowOp),
+    Changes(ChangeOp),
+    OneStep,
 }
 
 fn is_in(x: u8, list: &[u8]) -> bool

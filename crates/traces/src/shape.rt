@@ -3,7 +3,9 @@
 ghost use mathlib.Core.Path.{_≡_};
 ghost use Rattle.traces.specs.Ops.{opOf};
 ghost use Rattle.traces.specs.Shapes.{shapeBy, noShape, withKey, withPage, withRest};
+use crate::op::ChangeOp;
 use crate::op::Op;
+use crate::op::ShowOp;
 
 // Not ok where no call has the op byte.
 pub struct Shape {
@@ -23,7 +25,7 @@ fn no_shape() -> Shape
 {
     Shape {
         ok: false,
-        op: Op::Read,
+        op: Op::Shows(ShowOp::Read),
         numbers: 0,
         kind: false,
         primary: false,
@@ -90,21 +92,21 @@ pub(crate) fn shape_of(byte: u8) -> Shape
     ensures { λ r. ⌜ r ≡ shapeBy (opOf byte) ⌝ }
 {
     match byte {
-        1 => with_key(Op::Read, 1, false),
-        2 => with_page(Op::Page, 3),
-        3 => with_page(Op::IntentPage, 1),
-        4 => with_page(Op::ConflictingIntents, 3),
-        5 => with_key(Op::OneIntent, 1, false),
-        6 => with_key(Op::Prewrite, 3, true),
-        7 => with_rest(Op::PrewriteBatch, 3, true, true),
-        8 => with_key(Op::Commit, 3, false),
-        9 => with_rest(Op::CommitBatch, 3, false, true),
-        10 => with_key(Op::Rollback, 2, false),
-        11 => with_rest(Op::RollbackBatch, 2, false, true),
+        1 => with_key(Op::Shows(ShowOp::Read), 1, false),
+        2 => with_page(Op::Shows(ShowOp::Page), 3),
+        3 => with_page(Op::Shows(ShowOp::IntentPage), 1),
+        4 => with_page(Op::Shows(ShowOp::ConflictingIntents), 3),
+        5 => with_key(Op::Shows(ShowOp::OneIntent), 1, false),
+        6 => with_key(Op::Changes(ChangeOp::Prewrite), 3, true),
+        7 => with_rest(Op::Changes(ChangeOp::PrewriteBatch), 3, true, true),
+        8 => with_key(Op::Changes(ChangeOp::Commit), 3, false),
+        9 => with_rest(Op::Changes(ChangeOp::CommitBatch), 3, false, true),
+        10 => with_key(Op::Changes(ChangeOp::Rollback), 2, false),
+        11 => with_rest(Op::Changes(ChangeOp::RollbackBatch), 2, false, true),
         12 => with_rest(Op::OneStep, 3, false, true),
-        32 => with_rest(Op::Restore, 0, false, true),
-        33 => with_rest(Op::Statistics, 0, false, false),
-        34 => with_rest(Op::Marks, 0, false, false),
+        32 => with_rest(Op::Changes(ChangeOp::Restore), 0, false, true),
+        33 => with_rest(Op::Shows(ShowOp::Statistics), 0, false, false),
+        34 => with_rest(Op::Shows(ShowOp::Marks), 0, false, false),
         _ => no_shape(),
     }
 }

@@ -1,7 +1,8 @@
-pub mod LoadLaws
+-- The laws of `verdicts`, in the order in which they build on each other.
+pub mod ImageLoadLaws
 pub mod MarkPlaces
-pub mod PairLaws
-pub mod PlaceLaws
-pub mod PutLaws
+pub mod EntryPairLaws
+pub mod SortedPlaceLaws
+pub mod PutsMatchLaws
 pub mod SortedLaws
 pub mod VerdictLaws

@@ -16,15 +16,15 @@ use Rattle.rules.specs.Box.{Line, Standing, Finished, startOf}
 use Rattle.images.specs.Entries.{Raw, orElse, hasPiece, hasTail, tailFrom, noEnd, entryFrom, rawOr, rawAt}
 use Rattle.images.specs.declared.entries.Section.{Section}
 use Rattle.images.specs.declared.entries.Section.the-variants.{Default, Lock, Write}
-use Rattle.judging.specs.Good.{fits, pass, goodFrom}
-use Rattle.judging.specs.Sections.{Stands, rowAt, lineIf, lineAt}
+use Rattle.images.specs.Good.{fits, pass, goodFrom}
+use Rattle.images.specs.Sections.{Stands, rowAt, lineIf, lineAt}
 use Rattle.orders.specs.Marks.{rankOf, ranked, Head, headFrom, headOr, rankedBy, sectionIf, rankedPair, markAt}
 use Rattle.orders.specs.declared.marks.By.the-variants.{Rows, Pairs, Lines}
 
 -- ---- the reader of a head against that of an entry
 
 abbrev first : Raw → Head
-first x = record { key = x .key; value = x .one }
+first x = record { key = x .key; value = x .first }
 
 -- an entry, where one is read, has this head
 abbrev Heads : Head → Option (Read Raw) → Type 0

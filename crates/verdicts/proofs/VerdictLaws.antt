@@ -26,17 +26,17 @@ use Rattle.orders.specs.declared.marks.By.the-variants.{Rows, Pairs, Lines}
 use Rattle.orders.specs.Marks.{beforeAt}
 use Rattle.orders.specs.Sorts.{sorted, Sorted}
 use Rattle.orders.proofs.SortLaws.{sorted-length}
-use Rattle.judging.specs.declared.sections.Sections.{Sections}
-use Rattle.judging.specs.Sections.{Enough, isGood, imageOf, rowAt, lineAt, Listed, SectionsAt, noSections}
-use Rattle.judging.proofs.TestLaws.{fails, holds, and-out}
+use Rattle.images.specs.declared.sections.Sections.{Sections}
+use Rattle.images.specs.Sections.{Enough, isGood, imageOf, rowAt, lineAt, Listed, SectionsAt, noSections}
+use Rattle.images.proofs.TestLaws.{fails, holds, and-out}
 use Rattle.verdicts.specs.Puts.{putsOf, samePairs, putsMatch}
 use Rattle.verdicts.specs.Verdicts.{isSound, AlikeAsk, Alike, loadFrom, Judged, DecideAsk, VerdictAsk, Decided}
 use Rattle.verdicts.proofs.SortedLaws.{and-cross, sorted-once}
-use Rattle.verdicts.proofs.PlaceLaws.{likes-rows, likes-pairs, rows-in-order, rows-placed, rows-once, pairs-in-order, pairs-once, lines-placed, lines-once}
-use Rattle.verdicts.proofs.PairLaws.{lineHas, lines-have, pairs-match}
-use Rattle.verdicts.proofs.LoadLaws.{load-at}
+use Rattle.verdicts.proofs.SortedPlaceLaws.{likes-rows, likes-pairs, rows-in-order, rows-placed, rows-once, pairs-in-order, pairs-once, lines-placed, lines-once}
+use Rattle.verdicts.proofs.EntryPairLaws.{lineHas, lines-have, pairs-match}
+use Rattle.verdicts.proofs.ImageLoadLaws.{load-at}
 
--- ---- the ways out of `alike`
+-- ---- the ways out of `entries_agree`
 
 -- in the turn in which the program makes the tests
 in-turn : (d l w hw hl p n : Bool) → (d && l && w && hw) && (hl && p && n) ≡ d && (n && (((hl && hw) && p) && (l && w)))
@@ -86,9 +86,9 @@ module _ {s : Bytes} {i : Sections} {ds ls ws : List ℕ} (v : Listed s i ds ls 
     pub alike-rows : {ps′ : List ℕ} → not d ≡ true → Alike s i ds ls ws false ds′ ps′
     alike-rows h = bad (sound-is ∙ ap (λ (b : Bool). b && (paired && (pointed && apart))) (fails d-is h))
 
-    module _ (dg : not d ≡ false) {p : Bool} {ps : List ℕ} (pv : Sorted (beforeAt (Pairs (i .wat)) s) (ls ++ ws) p ps) where
+    module _ (dg : not d ≡ false) {p : Bool} {ps : List ℕ} (pv : Sorted (beforeAt (Pairs (i .writesat)) s) (ls ++ ws) p ps) where
       p-is : p ≡ paired
-      p-is = pv .ascends ∙ ap (ordered (beforeAt (Pairs (i .wat)) s)) (pv .is) ∙ pairs-once (v .table) s (v .lat) (i .wat) (length s) ls ws (v .locks) (v .writes)
+      p-is = pv .ascends ∙ ap (ordered (beforeAt (Pairs (i .writesat)) s)) (pv .is) ∙ pairs-once (v .table) s (v .lat) (i .writesat) (length s) ls ws (v .locks) (v .writes)
 
       left-two : isSound (image s) ≡ paired && (pointed && apart)
       left-two = sound-is ∙ ap (λ (b : Bool). b && (paired && (pointed && apart))) (holds d-is dg)
@@ -96,11 +96,11 @@ module _ {s : Bytes} {i : Sections} {ds ls ws : List ℕ} (v : Listed s i ds ls 
       pub alike-pairs : {ps′ : List ℕ} → not p ≡ true → Alike s i ds ls ws false ds′ ps′
       alike-pairs h = bad (left-two ∙ ap (λ (b : Bool). b && (pointed && apart)) (fails p-is h))
 
-      module _ (pg : not p ≡ false) {m : Bool} (mv : m ≡ putsMatch s (i .wat) ds′ ps) where
+      module _ (pg : not p ≡ false) {m : Bool} (mv : m ≡ putsMatch s (i .writesat) ds′ ps) where
         m-is : m ≡ pointed
         m-is =
             mv
-            ∙ ap₂ (λ (a : List KeyLine) (b : List Default). samePairs (putsOf a) b) (ap (map (lineAt s (i .wat))) (pv .is) ∙ pairs-in-order (v .table) s (v .lat) (i .wat) (length s) ls ws (v .locks) (v .writes))
+            ∙ ap₂ (λ (a : List KeyLine) (b : List Default). samePairs (putsOf a) b) (ap (map (lineAt s (i .writesat))) (pv .is) ∙ pairs-in-order (v .table) s (v .lat) (i .writesat) (length s) ls ws (v .locks) (v .writes))
             (ap (map (rowAt s)) (dv .is) ∙ rows-in-order (v .table) s 4 (v .lat) ds (v .defaults))
             ∙ pairs-match lines (img .defaults) (sorted-once likes-pairs lines ∙ holds p-is pg) (sorted-once likes-rows (img .defaults) ∙ holds d-is dg)
 
@@ -110,10 +110,10 @@ module _ {s : Bytes} {i : Sections} {ds ls ws : List ℕ} (v : Listed s i ds ls 
         pub alike-puts : {ps′ : List ℕ} → not m ≡ true → Alike s i ds ls ws false ds′ ps′
         alike-puts h = bad (left-one ∙ ap (λ (b : Bool). b && apart) (fails m-is h))
 
-        pub alike-end : not m ≡ false → {l : Bool} {ps′ : List ℕ} → Sorted (beforeAt (Lines (i .wat)) s) (ls ++ ws) l ps′ → Alike s i ds ls ws l ds′ ps′
+        pub alike-end : not m ≡ false → {l : Bool} {ps′ : List ℕ} → Sorted (beforeAt (Lines (i .writesat)) s) (ls ++ ws) l ps′ → Alike s i ds ls ws l ds′ ps′
         alike-end h lv = record {
           is =
-              lv .ascends ∙ ap (ordered (beforeAt (Lines (i .wat)) s)) (lv .is) ∙ lines-once (v .table) s (v .lat) (i .wat) (length s) ls ws (v .locks) (v .writes)
+              lv .ascends ∙ ap (ordered (beforeAt (Lines (i .writesat)) s)) (lv .is) ∙ lines-once (v .table) s (v .lat) (i .writesat) (length s) ls ws (v .locks) (v .writes)
               ∙ sym (left-one ∙ ap (λ (b : Bool). b && apart) (holds m-is h));
           rows = λ e. dv .is;
           lines = λ e. lv .is;
@@ -144,8 +144,8 @@ module _ {s : Bytes} {i : Sections} {ds ls ws : List ℕ} (v : SectionsAt s i ds
     few-lines = omega (arith, v .few-locks, v .few-writes);
   }
 
-  long : length (take (i .locks) ls ++ take (i .writes) ws) ≡ n
-  long = omega (arith, length-append (take (i .locks) ls) (take (i .writes) ws), length-take-le (i .locks) ls (v .few-locks), length-take-le (i .writes) ws (v .few-writes))
+  length-is : length (take (i .locks) ls ++ take (i .writes) ws) ≡ n
+  length-is = omega (arith, length-append (take (i .locks) ls) (take (i .writes) ws), length-take-le (i .locks) ls (v .few-locks), length-take-le (i .writes) ws (v .few-writes))
 
   pub judge-asks : not (i .ok) ≡ false → (ps room : List ℕ) → length ls + length ws ≤ length ps → length ds ≤ length room → length ps ≤ length room
       → AlikeAsk s i (take (i .defaults) ds) (take (i .locks) ls) (take (i .writes) ws) (take n ps) room
@@ -180,10 +180,10 @@ module _ {s : Bytes} {i : Sections} {ds ls ws : List ℕ} (v : SectionsAt s i ds
             load-is = load-eq (loadFrom i) _ (omega (arith, w .bytes-is, length-take-le (i .locks) ls (v .few-locks), length-take-le (i .writes) ws (v .few-writes))) ∙ load-at s (w .table) d l m;
             rows-are = ap (map (rowAt s)) (part (beforeAt Rows s) (i .defaults) ds ds′ d dl (a .rows t)) ∙ rows-placed (w .table) s 4 (w .lat) d (w .defaults);
             lines-are =
-                ap (map (lineAt s (i .wat))) (part (beforeAt (Lines (i .wat)) s) n ps ps′ (l ++ m) long (a .lines t)) ∙ lines-placed (w .table) s (w .lat) (i .wat) (length s) l m (w .locks) (w .writes);
+                ap (map (lineAt s (i .writesat))) (part (beforeAt (Lines (i .writesat)) s) n ps ps′ (l ++ m) length-is (a .lines t)) ∙ lines-placed (w .table) s (w .lat) (i .writesat) (length s) l m (w .locks) (w .writes);
           };
           few-rows = part-few (beforeAt Rows s) (i .defaults) ds ds′ d dl (a .rows t);
-          few-lines = part-few (beforeAt (Lines (i .wat)) s) n ps ps′ (l ++ m) long (a .lines t);
+          few-lines = part-few (beforeAt (Lines (i .writesat)) s) n ps ps′ (l ++ m) length-is (a .lines t);
         }
 
 -- ---- restore's answer
@@ -202,7 +202,7 @@ good-answer : (i : Image) (b : Box) → goodImage i ≡ true → healthyImage i 
 unfolding restoreTo restoreSteps need _▸_ roomFor
 good-answer i b g h = settle-answer (restoreSteps i) (boxOf i) b ∙ ap₂ (λ (p q : Bool). need p 13 ▸ need q 13 ▸ need (roomFor (boxOf i)) 11) g h
 
-refused : (s : Bytes) (n : ℕ) {load : Load} {wat : ℕ} {rows lines : List ℕ} → ((b : Box) → restore s b .answer ≡ No n) → Decided s (record { answer = No n; load = load; wat = wat }) rows lines
+refused : (s : Bytes) (n : ℕ) {load : Load} {writesat : ℕ} {rows lines : List ℕ} → ((b : Box) → restore s b .answer ≡ No n) → Decided s (record { answer = No n; load = load; writesat = writesat }) rows lines
 unfolding need
 refused s n e = record { answer-is = λ b. sym (e b); placed = λ h. absurd (false≢true (need-true false n h)) }
 
@@ -218,7 +218,7 @@ module _ {s : Bytes} {i : Sections} {ds ps rows lines : List ℕ} (v : DecideAsk
   abbrev all : ℕ
   all = i .locks + i .writes
 
-  pub decided-bad : {load : Load} {wat : ℕ} → not (i .ok) ≡ true → Decided s (record { answer = No 13; load = load; wat = wat }) rows lines
+  pub decided-bad : {load : Load} {writesat : ℕ} → not (i .ok) ≡ true → Decided s (record { answer = No 13; load = load; writesat = writesat }) rows lines
   unfolding restore
   decided-bad h = refused s 13 (λ b. bad-answer (image s) b (v .judged .bad h))
 
@@ -229,7 +229,7 @@ module _ {s : Bytes} {i : Sections} {ds ps rows lines : List ℕ} (v : DecideAsk
         let g = v .judged .good ok in
         ap (λ (o : Option Image). restoreTo o b .answer) (g .is) ∙ good-answer (g .img) b (g .good) (g .healthy) ∙ ap (λ (t : Bool). need t 11) (sym (fv ∙ ap fits (g .load-is)))
 
-    pub decided-full : {wat : ℕ} → not f ≡ true → Decided s (record { answer = No 11; load = loadFrom i; wat = wat }) rows lines
+    pub decided-full : {writesat : ℕ} → not f ≡ true → Decided s (record { answer = No 11; load = loadFrom i; writesat = writesat }) rows lines
     unfolding need
     decided-full h = refused s 11 (λ b. answer b ∙ ap (λ (t : Bool). need t 11) (not-true f h))
 
@@ -250,7 +250,7 @@ module _ {s : Bytes} {i : Sections} {ds ps rows lines : List ℕ} (v : DecideAsk
       lines-fit = omega (arith, length-take-le all lines lines-in, v .judged .few-lines)
 
       pub decided : {x y : List ℕ} → x ≡ take (length (take (i .defaults) rows)) ds → y ≡ take (length (take all lines)) ps
-          → Decided s (record { answer = Accepted; load = loadFrom i; wat = i .wat }) (x ++ drop (i .defaults) rows) (y ++ drop all lines)
+          → Decided s (record { answer = Accepted; load = loadFrom i; writesat = i .writesat }) (x ++ drop (i .defaults) rows) (y ++ drop all lines)
       unfolding need
       decided {x} {y} p q =
           let g = v .judged .good ok in
@@ -264,7 +264,7 @@ module _ {s : Bytes} {i : Sections} {ds ps rows lines : List ℕ} (v : DecideAsk
               fit = fit;
               load-is = g .load-is;
               rows-are = ap (map (rowAt s)) (copied (i .defaults) ds rows x rows-in (v .judged .few-rows) p) ∙ g .rows-are;
-              lines-are = ap (map (lineAt s (i .wat))) (copied all ps lines y lines-in (v .judged .few-lines) q) ∙ g .lines-are;
+              lines-are = ap (map (lineAt s (i .writesat))) (copied all ps lines y lines-in (v .judged .few-lines) q) ∙ g .lines-are;
             };
           }
 

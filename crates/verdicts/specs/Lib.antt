@@ -1,2 +1,3 @@
+-- The definitions of `verdicts`, in the order in which they build on each other.
 pub mod Puts
 pub mod Verdicts

@@ -11,7 +11,7 @@ use Rattle.rules.specs.declared.records.Kind.the-variants.{Put, Delete, Rollbac
 use Rattle.rules.specs.Box.{KeyLine, Default, startOf, kindIn}
 use Rattle.rules.specs.Restore.{likeDefault}
 use Rattle.images.specs.Entries.{Raw}
-use Rattle.judging.specs.Sections.{rowAt, lineAt}
+use Rattle.images.specs.Sections.{rowAt, lineAt}
 
 -- a key and a start, as a default without a row
 abbrev pub pairOf : Key → ℕ → Default
@@ -21,7 +21,7 @@ abbrev pub linePair : KeyLine → Default
 linePair e = pairOf (e .key) (startOf (e .line))
 
 abbrev pub rawPair : Raw → Default
-rawPair x = pairOf (x .key) (x .two)
+rawPair x = pairOf (x .key) (x .second)
 
 abbrev pub putOn : Kind → Default → List Default → List Default
 putOn Put p ps = p ∷ ps

@@ -16,9 +16,9 @@ use Rattle.rules.specs.Restore.{goodImage, healthyImage, boxOf, restore}
 use Rattle.orders.specs.declared.marks.By.the-variants.{Rows, Lines}
 use Rattle.orders.specs.Marks.{beforeAt}
 use Rattle.orders.specs.Sorts.{sorted}
-use Rattle.judging.specs.declared.sections.Sections.{Sections}
-use Rattle.judging.specs.Sections.{Room, rowAt, lineAt, Placed, Listed}
-use Rattle.verdicts.specs.declared.outcome.Verdict.{Verdict}
+use Rattle.images.specs.declared.sections.Sections.{Sections}
+use Rattle.images.specs.Sections.{Room, rowAt, lineAt, Placed, Listed}
+use Rattle.verdicts.specs.declared.outcome.ImageVerdict.{ImageVerdict}
 
 -- ---- the entries held against each other
 
@@ -38,7 +38,7 @@ pub record AlikeAsk (s : Bytes) (i : Sections) (ds ls ws ps room : List ℕ) : T
 pub record Alike (s : Bytes) (i : Sections) (ds ls ws : List ℕ) (r : Bool) (ds′ ps′ : List ℕ) : Type 0 where
   pub is : r ≡ isSound (image s)
   pub rows : r ≡ true → ds′ ≡ sorted (beforeAt Rows s) ds
-  pub lines : r ≡ true → ps′ ≡ sorted (beforeAt (Lines (i .wat)) s) (ls ++ ws)
+  pub lines : r ≡ true → ps′ ≡ sorted (beforeAt (Lines (i .writesat)) s) (ls ++ ws)
 
 -- ---- the image judged
 
@@ -61,7 +61,7 @@ pub record InPlace (s : Bytes) (i : Sections) (ds ps : List ℕ) : Type 0 where
   pub healthy : healthyImage img ≡ true
   pub load-is : loadFrom i ≡ loadOf (boxOf img)
   pub rows-are : map (rowAt s) ds ≡ boxOf img .defaults
-  pub lines-are : map (lineAt s (i .wat)) ps ≡ boxOf img .lines
+  pub lines-are : map (lineAt s (i .writesat)) ps ≡ boxOf img .lines
 
 pub record Judged (s : Bytes) (i : Sections) (ds ps : List ℕ) : Type 0 where
   pub bad : not (i .ok) ≡ true → isSound (image s) ≡ false
@@ -85,6 +85,6 @@ pub record VerdictAsk (s : Bytes) (ds ls ws ps room rows lines : List ℕ) : Typ
   pub wide : Wide rows lines
 
 -- the answer is restore's, whatever the image replaces; of an accepted image the two lists have the places of its box
-pub record Decided (s : Bytes) (v : Verdict) (rows lines : List ℕ) : Type 0 where
+pub record Decided (s : Bytes) (v : ImageVerdict) (rows lines : List ℕ) : Type 0 where
   pub answer-is : (b : Box) → v .answer ≡ restore s b .answer
-  pub placed : v .answer ≡ Accepted → Placed s (v .load) (v .wat) rows lines
+  pub placed : v .answer ≡ Accepted → Placed s (v .load) (v .writesat) rows lines

@@ -3,8 +3,8 @@ ghost use Prim.Native.Nat.{_*_, _≤_};
 ghost use lib.ListN.{length};
 ghost use Rattle.verdicts.specs.Verdicts.{DecideAsk, VerdictAsk, Decided};
 use crate::judge::judge;
-use crate::outcome::Verdict;
-use judging::sections::Sections;
+use crate::outcome::ImageVerdict;
+use images::sections::Sections;
 use orders::copy;
 use rules::Answer;
 use rules::Load;
@@ -18,14 +18,14 @@ fn decide(
     ps: &[u32],
     rows: &mut [u32],
     lines: &mut [u32],
-) -> Verdict
+) -> ImageVerdict
     requires { ⌜ DecideAsk (now s) i (now ds) (now ps) (now rows) (now lines) ⌝ }
     ensures { λ v. ⌜ Decided (now (s .entry)) v (now (rows .exit)) (now (lines .exit)) ⌝ }
 {
     let d = i.defaults;
     let l = i.locks;
     let n = l + i.writes;
-    let wat = i.wat;
+    let writesat = i.writesat;
     let load = Load {
         lines: n,
         locks: l,
@@ -33,25 +33,25 @@ fn decide(
         bytes: i.bytes,
     };
     if !i.ok {
-        return Verdict {
+        return ImageVerdict {
             answer: Answer::No(13),
             load: load,
-            wat: wat,
+            writesat: writesat,
         };
     }
     if !load_fits(load) {
-        return Verdict {
+        return ImageVerdict {
             answer: Answer::No(11),
             load: load,
-            wat: wat,
+            writesat: writesat,
         };
     }
     copy(ds, &mut rows[..d]);
     copy(ps, &mut lines[..n]);
-    Verdict {
+    ImageVerdict {
         answer: Answer::Accepted,
         load: load,
-        wat: wat,
+        writesat: writesat,
     }
 }
 
@@ -65,7 +65,7 @@ fn verdict_with(
     room: &mut [u32],
     rows: &mut [u32],
     lines: &mut [u32],
-) -> Verdict
+) -> ImageVerdict
     requires { ⌜ VerdictAsk (now s) (now ds) (now ls) (now ws) (now ps) (now room) (now rows) (now lines) ⌝ }
     ensures { λ v. ⌜ Decided (now (s .entry)) v (now (rows .exit)) (now (lines .exit)) ⌝ }
 {
@@ -73,7 +73,7 @@ fn verdict_with(
     decide(s, i, ds, ps, rows, lines)
 }
 
-fn verdict_small(s: &[u8], rows: &mut [u32], lines: &mut [u32]) -> Verdict
+fn verdict_small(s: &[u8], rows: &mut [u32], lines: &mut [u32]) -> ImageVerdict
     requires { ⌜ (length (now s) ≤ 9 * 1024) × (1024 ≤ length (now rows)) × (1024 ≤ length (now lines)) ⌝ }
     ensures { λ v. ⌜ Decided (now (s .entry)) v (now (rows .exit)) (now (lines .exit)) ⌝ }
 {
@@ -94,7 +94,7 @@ fn verdict_small(s: &[u8], rows: &mut [u32], lines: &mut [u32]) -> Verdict
     )
 }
 
-fn verdict_large(s: &[u8], rows: &mut [u32], lines: &mut [u32]) -> Verdict
+fn verdict_large(s: &[u8], rows: &mut [u32], lines: &mut [u32]) -> ImageVerdict
     requires { ⌜ (1024 ≤ length (now rows)) × (1024 ≤ length (now lines)) ⌝ }
     ensures { λ v. ⌜ Decided (now (s .entry)) v (now (rows .exit)) (now (lines .exit)) ⌝ }
 {
@@ -116,7 +116,7 @@ fn verdict_large(s: &[u8], rows: &mut [u32], lines: &mut [u32]) -> Verdict
 }
 
 // A small image does not pay for the places of a large one: an entry has at least 9 bytes.
-pub fn verdict(s: &[u8], rows: &mut [u32], lines: &mut [u32]) -> Verdict
+pub fn verdict(s: &[u8], rows: &mut [u32], lines: &mut [u32]) -> ImageVerdict
     requires { ⌜ (1024 ≤ length (now rows)) × (1024 ≤ length (now lines)) ⌝ }
     ensures { λ v. ⌜ Decided (now (s .entry)) v (now (rows .exit)) (now (lines .exit)) ⌝ }
 {

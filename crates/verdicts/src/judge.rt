@@ -1,9 +1,9 @@
 // An image judged whole: each entry by itself, and then its entries held against each other.
 ghost use Rattle.verdicts.specs.Verdicts.{AlikeAsk, Alike, JudgeAsk, Judged};
 use crate::puts::puts_match;
-use judging::sections::Sections;
-use judging::sections::no_sections;
-use judging::sections::sections_of;
+use images::sections::Sections;
+use images::sections::no_sections;
+use images::sections::sections_of;
 use orders::By;
 use orders::order;
 use orders::order_both;
@@ -11,7 +11,7 @@ use orders::order_both;
 // The entries of an image held against each other: "no second default or write for one key and stamp, no second lock for a key, every write
 // Put has its default"; and "a Put lock without its default; a default to which no Put lock or Put record of its key and start points; two lines
 // of one key and start".
-fn alike(
+fn entries_agree(
     s: &[u8],
     i: Sections,
     ds: &mut [u32],
@@ -23,17 +23,17 @@ fn alike(
     requires { ⌜ AlikeAsk (now s) i (now ds) (now ls) (now ws) (now ps) (now room) ⌝ }
     ensures { λ r. ⌜ Alike (now (s .entry)) i (now (ds .entry)) (now (ls .entry)) (now (ws .entry)) r (now (ds .exit)) (now (ps .exit)) ⌝ }
 {
-    let wat = i.wat;
+    let writesat = i.writesat;
     if !order(s, By::Rows, ds, room) {
         return false;
     }
-    if !order_both(s, By::Pairs(wat), ls, ws, ps, room) {
+    if !order_both(s, By::Pairs(writesat), ls, ws, ps, room) {
         return false;
     }
-    if !puts_match(s, wat, ds, ps) {
+    if !puts_match(s, writesat, ds, ps) {
         return false;
     }
-    order_both(s, By::Lines(wat), ls, ws, ps, room)
+    order_both(s, By::Lines(writesat), ls, ws, ps, room)
 }
 
 // The sections of a sound image, and the places of its defaults and of its lines in order; not ok for other bytes.
@@ -56,7 +56,7 @@ pub fn judge(
     let l = i.locks;
     let w = i.writes;
     let n = l + w;
-    if !alike(s, i, &mut ds[..d], &ls[..l], &ws[..w], &mut ps[..n], room) {
+    if !entries_agree(s, i, &mut ds[..d], &ls[..l], &ws[..w], &mut ps[..n], room) {
         return no_sections();
     }
     i

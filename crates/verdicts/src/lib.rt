@@ -5,4 +5,4 @@ pub mod outcome;
 pub mod puts;
 
 pub use decide::verdict;
-pub use outcome::Verdict;
+pub use outcome::ImageVerdict;

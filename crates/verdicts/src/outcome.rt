@@ -3,8 +3,8 @@ use rules::Answer;
 use rules::Load;
 
 // The answer, the load of the box that the image would leave, and where its writes begin.
-pub struct Verdict {
+pub struct ImageVerdict {
     pub answer: Answer,
     pub load: Load,
-    pub wat: usize,
+    pub writesat: usize,
 }

@@ -4,21 +4,21 @@ ghost use Prim.Native.Nat.{_+_, _≤_};
 ghost use lib.ListN.{length};
 ghost use Rattle.rules.specs.Restore.{likeDefault};
 ghost use Rattle.images.specs.Entries.{rawOf};
-ghost use Rattle.judging.specs.Sections.{rowAt};
+ghost use Rattle.images.specs.Sections.{rowAt};
 ghost use Rattle.verdicts.specs.Puts.{rawPair, putsMatch};
 use forms::same;
-use images::Entry;
+use images::ImageEntry;
 use images::Section;
 use images::entry_at;
 use orders::section_of;
 
 // Whether a line is of the key and start of the default at a place.
-fn points_to(s: &[u8], e: Entry, place: u32) -> bool
+fn points_to(s: &[u8], e: ImageEntry, place: u32) -> bool
     requires { ⌜ e .at + e .len ≤ length (now s) ⌝ }
     ensures { λ r. ⌜ r ≡ likeDefault (rawPair (rawOf (now (s .entry)) e)) (rowAt (now (s .entry)) place) ⌝ }
 {
     let d = entry_at(s, place as usize, Section::Default);
-    if e.two != d.one {
+    if e.second != d.first {
         return false;
     }
     let a = e.at;

@@ -2,6 +2,6 @@
 -- Assumes nothing.
 pub mod TurnLaws
 pub mod WalkLaws
-pub mod EntryLaws
-pub mod RowLaws
-pub mod LineLaws
+pub mod ListedLineLaws
+pub mod ReadKeyLaws
+pub mod WalkLineLaws

@@ -11,13 +11,13 @@ use Rattle.rules.specs.declared.answers.Answer.{Answer}
 use Rattle.rules.specs.declared.answers.Answer.the-variants.{No}
 use Rattle.rules.specs.declared.records.Kind.{Kind}
 use Rattle.rules.specs.Read.{lockLets}
-use Rattle.lines.specs.declared.store.Slot.{Slot}
-use Rattle.lines.specs.declared.views.Intent.{Intent}
-use Rattle.lines.specs.declared.views.Written.{Written}
-use Rattle.lines.specs.declared.views.Told.{Told}
-use Rattle.lines.specs.declared.views.Told.the-variants as told
-use Rattle.lines.specs.declared.keys.Locked.the-variants.{By}
-use Rattle.lines.specs.Looks.{lockedBy}
+use Rattle.store.specs.declared.table.Slot.{Slot}
+use Rattle.store.specs.declared.views.LockView.{LockView}
+use Rattle.store.specs.declared.views.RecordView.{RecordView}
+use Rattle.store.specs.declared.views.LineView.{LineView}
+use Rattle.store.specs.declared.views.LineView.the-variants as view
+use Rattle.store.specs.declared.lookup.Locked.the-variants.{By}
+use Rattle.store.specs.KeyStates.{lockedBy}
 use Rattle.walks.specs.declared.walked.Scan.{Scan}
 use Rattle.walks.specs.declared.walked.Scan.the-variants.{Rows, Intents, Conflicts}
 use Rattle.walks.specs.declared.dues.Due.{Due}
@@ -29,12 +29,12 @@ use Rattle.walks.specs.Turns.{costOf, CostIn, add, roomTurn}
 
 -- ---- `see_row`
 
-module _ (m : ℕ) (d : Due) (s : Slot) {line : Told} where
-  pub row-lock : {i : Intent} {lets : Answer} → line ≡ told.Standing i → ((area : Bytes) → lets ≡ lockLets m (lockedBy area (By i))) → record { lets = lets; line = d .line } ≡ seeRow m d s line
+module _ (m : ℕ) (d : Due) (s : Slot) {line : LineView} where
+  pub row-lock : {i : LockView} {lets : Answer} → line ≡ view.Standing i → ((area : Bytes) → lets ≡ lockLets m (lockedBy area (By i))) → record { lets = lets; line = d .line } ≡ seeRow m d s line
   unfolding lockLets
   row-lock e f = ap (λ (v : Answer). record { lets = v; line = d .line }) (f []) ∙ sym (ap (seeRow m d s) e)
 
-  module _ {w : Written} (e : line ≡ told.Finished w) where
+  module _ {w : RecordView} (e : line ≡ view.Finished w) where
     pub row-late : m < w .stamp → d ≡ seeRow m d s line
     row-late h = sym (ap (seeRow m d s) e ∙ rw (lt-leb (w .stamp) m h))
 
@@ -43,7 +43,7 @@ module _ (m : ℕ) (d : Due) (s : Slot) {line : Told} where
 
 -- ---- `see_lock`
 
-module _ (m : ℕ) (s : Slot) (every : Bool) {line : Told} {i : Intent} (e : line ≡ told.Standing i) where
+module _ (m : ℕ) (s : Slot) (every : Bool) {line : LineView} {i : LockView} (e : line ≡ view.Standing i) where
   pub lock-every : not every ≡ false → dueIf true s ≡ seeLock every m s line
   lock-every n = sym (ap (seeLock every m s) e ∙ rw (not-false every n))
 

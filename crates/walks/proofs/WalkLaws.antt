@@ -7,7 +7,7 @@ use native.Mathlib.Numerals.{add-one}
 use native.Mathlib.Omega.{arith}
 use mathlib.Core.Path.{_≡_, refl, sym, ap, _∙_, subst}
 use mathlib.Core.Bool.{Bool, true, false}
-use mathlib.Core.List.{List, [], _∷_, _++_, append-nil, append-assoc}
+use mathlib.Core.List.{List, [], _∷_, _++_}
 use lib.ListN.{length, set, replicate, length-append}
 use Rattle.seqs.specs.Tables as tables
 use Rattle.seqs.proofs.Tables.{shown-added, table-added, table-empty}
@@ -19,8 +19,9 @@ use Rattle.rules.specs.declared.answers.Answer.the-variants.{Accepted, No, Held
 use Rattle.rules.specs.Answers.{Reply, shown, refused, ifPassed, need, _▸_}
 use Rattle.rules.specs.Page.{Page, emptyPage, onPage, Bounds, pageArguments, intentArguments, pastEnd, unlessPast, page, intentPage, conflictPage}
 use Rattle.rules.specs.Written.{allBytes, moreByte, pageBytes}
-use Rattle.lines.specs.declared.store.Slot.{Slot}
-use Rattle.lines.specs.View.{noSlot}
+use Rattle.rules.proofs.WriterLaws.{bytes-snoc}
+use Rattle.store.specs.declared.table.Slot.{Slot}
+use Rattle.store.specs.View.{noSlot}
 use Rattle.walks.specs.declared.turns.Turn.{Turn}
 use Rattle.walks.specs.declared.turns.Turn.the-variants.{On, Stop, Refuse, Add}
 use Rattle.walks.specs.declared.walked.Walked.{Walked}
@@ -29,8 +30,8 @@ use Rattle.walks.specs.Turns.{turnTo, Refusal}
 use borrow.Author.Tests.{ne-eqb}
 use Rattle.rules.specs.declared.answers.Holder.{Holder}
 use Rattle.rules.specs.Box.{Box}
-use Rattle.lines.specs.declared.store.Store.{Store}
-use Rattle.walks.specs.declared.walked.Asked.{Asked}
+use Rattle.store.specs.declared.table.Store.{Store}
+use Rattle.walks.specs.declared.walked.PageQuery.{PageQuery}
 use Rattle.walks.specs.declared.walked.Scan.{Scan}
 use Rattle.walks.specs.declared.walked.Scan.the-variants.{Rows, Intents, Conflicts}
 
@@ -56,11 +57,6 @@ pages-refused [] v = refl
 pages-refused (x ∷ xs) v = ap (onPage x) (pages-refused xs v)
 
 -- ---- bytes
-
-pub bytes-snoc : (xs : List Bytes) (x : Bytes) → allBytes same (xs ++ (x ∷ [])) ≡ allBytes same xs ++ x
-unfolding allBytes
-bytes-snoc [] x = append-nil x
-bytes-snoc (y ∷ ys) x = ap (λ (b : Bytes). y ++ b) (bytes-snoc ys x) ∙ sym (append-assoc y (allBytes same ys) x)
 
 pub page-long : (p : Page Bytes) → length (pageBytes same p) ≡ length (allBytes same (p .rows)) + 3
 unfolding pageBytes
@@ -93,7 +89,7 @@ refused-walked (Held h) g e p = empty-walked (Held h) e p
 pub record Walking (n : ℕ) (area : Bytes) (over : ℕ) (want : Reply (Page Bytes)) (left : ℕ → ℕ → Reply (Page Bytes)) (i count sum : ℕ) (slots : List Slot) : Type 0 where
   pub low : i ≤ n
   pub most : n ≤ 1024
-  pub few : count ≤ i
+  pub count-fits : count ≤ i
   pub small : sum ≤ 600 * count
   pub is : want ≡ onPages (tables.shown (entryBytes area) count slots) (left count sum)
   pub size : length (allBytes same (tables.shown (entryBytes area) count slots)) ≡ sum + over * count
@@ -122,7 +118,7 @@ module _ {n : ℕ} {area : Bytes} {over : ℕ} {want : Reply (Page Bytes)} where
   walking-start h {none} q e = record {
     low = omega arith;
     most = h;
-    few = omega arith;
+    count-fits = omega arith;
     small = omega arith;
     is = e;
     size = omega (arith, mul-zero over);
@@ -138,7 +134,7 @@ module _ {n : ℕ} {area : Bytes} {over : ℕ} {want : Reply (Page Bytes)} where
     walking-pass h e = record {
       low = omega arith;
       most = w .most;
-      few = omega (arith, w .few);
+      count-fits = omega (arith, w .count-fits);
       small = w .small;
       is = w .is ∙ ap (onPages rows) e;
       size = w .size;
@@ -177,14 +173,14 @@ module _ {n : ℕ} {area : Bytes} {over : ℕ} {want : Reply (Page Bytes)} where
       turn-add {p} {cost} h e = record {
         low = omega arith;
         most = w .most;
-        few = omega (arith, w .few);
+        count-fits = omega (arith, w .count-fits);
         small = omega (arith, w .small, fit .cheap);
         is =
             w .is ∙ ap (onPages rows) (turned e)
             ∙ sym (ap (λ (z : ℕ). onPages (tables.shown (entryBytes area) (count + 1) (set slots count p)) (left′ z (sum + cost))) (add-one count)
             ∙ ap (λ (xs : List Bytes). onPages xs (left′ (suc count) (sum + cost))) more ∙ pages-snoc rows (entryBytes area p) (left′ (suc count) (sum + cost)));
         size =
-            ap (λ (xs : List Bytes). length (allBytes same xs)) more ∙ ap length (bytes-snoc rows (entryBytes area p)) ∙ length-append (allBytes same rows) (entryBytes area p)
+            ap (λ (xs : List Bytes). length (allBytes same xs)) more ∙ ap length (bytes-snoc same rows (entryBytes area p)) ∙ length-append (allBytes same rows) (entryBytes area p)
             ∙ omega (arith, w .size, fit .size, ap (λ (z : ℕ). over * z) (add-one count), mul-suc over count);
         table = table-added (w .table) p (fit .within) room;
       }
@@ -193,10 +189,10 @@ module _ {n : ℕ} {area : Bytes} {over : ℕ} {want : Reply (Page Bytes)} where
           fit = subst (TurnGood area over) e (s .good)
 
           room : count < 1024
-          room = omega (arith, w .few, w .most)
+          room = omega (arith, w .count-fits, w .most)
 
           more : tables.shown (entryBytes area) (count + 1) (set slots count p) ≡ rows ++ (entryBytes area p ∷ [])
-          more = shown-added (entryBytes area) slots count p (omega (arith, w .table .long, room))
+          more = shown-added (entryBytes area) slots count p (omega (arith, w .table .length-is, room))
 
 steps-on : {A : Type 0} (f : A → Bytes) (v : Answer) (past : Bool) (r : Reply (Page A)) → pageOn f (ifPassed v (unlessPast past r)) ≡ ifPassed v (unlessPast past (pageOn f r))
 unfolding pageOn ifPassed unlessPast
@@ -206,7 +202,7 @@ steps-on f (No n) past r = refl
 steps-on f (Held h) past r = refl
 
 -- "Page's argument checks without byte limit": none that is 0
-module _ {st : Store} {area : Bytes} {q : Asked} (asks : WalkAsks st area q) (a : Bounds) (b : Box) where
+module _ {st : Store} {area : Bytes} {q : PageQuery} (asks : WalkAsks st area q) (a : Bounds) (b : Box) where
   page-steps : pageAsked q a b ≡ ifPassed (pageArguments (q .limit) (q .bytes) a) (unlessPast (pastEnd (a .resume) (a .to)) (walkFrom q a b (b .lines) 0 0))
   unfolding page intentPage conflictPage pageArguments intentArguments _▸_ need
   page-steps = go (q .scan) (asks .large)

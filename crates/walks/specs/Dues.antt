@@ -10,10 +10,10 @@ use Rattle.rules.specs.declared.records.Kind.{Kind}
 use Rattle.rules.specs.declared.records.Kind.the-variants.{Put, Delete, Rollback}
 use Rattle.rules.specs.Answers.{needOwn}
 use Rattle.rules.specs.Box.{holderOf}
-use Rattle.lines.specs.declared.store.Slot.{Slot}
-use Rattle.lines.specs.declared.views.Told.{Told}
-use Rattle.lines.specs.declared.views.Told.the-variants as told
-use Rattle.lines.specs.Looks.{lockIn}
+use Rattle.store.specs.declared.table.Slot.{Slot}
+use Rattle.store.specs.declared.views.LineView.{LineView}
+use Rattle.store.specs.declared.views.LineView.the-variants as view
+use Rattle.store.specs.KeyStates.{lockIn}
 use Rattle.walks.specs.declared.walked.Scan.{Scan}
 use Rattle.walks.specs.declared.walked.Scan.the-variants.{Rows, Intents, Conflicts}
 use Rattle.walks.specs.declared.dues.Listed.{Listed}
@@ -35,9 +35,9 @@ listIf true kind s old = listBy kind s old
 listIf false kind s old = old
 
 -- a holder has no bytes of the area: any will do
-abbrev pub seeRow : ℕ → Due → Slot → Told → Due
-seeRow moment d s (told.Standing i) = record { lets = needOwn (ltb moment (i .start)) (holderOf (lockIn [] i)); line = d .line }
-seeRow moment d s (told.Finished w) = record { lets = d .lets; line = listIf (leb (w .stamp) moment) (w .kind) s (d .line) }
+abbrev pub seeRow : ℕ → Due → Slot → LineView → Due
+seeRow moment d s (view.Standing i) = record { lets = needOwn (ltb moment (i .start)) (holderOf (lockIn [] i)); line = d .line }
+seeRow moment d s (view.Finished w) = record { lets = d .lets; line = listIf (leb (w .stamp) moment) (w .kind) s (d .line) }
 
 -- ---- a lock, by itself: all of them, or "skipped if it starts above the moment"
 
@@ -45,11 +45,11 @@ abbrev pub dueIf : Bool → Slot → Due
 dueIf true s = record { lets = Accepted; line = Line s }
 dueIf false s = noDue
 
-abbrev pub seeLock : Bool → ℕ → Slot → Told → Due
-seeLock every moment s (told.Standing i) = dueIf (every || not (ltb moment (i .start))) s
-seeLock every moment s (told.Finished w) = noDue
+abbrev pub seeLock : Bool → ℕ → Slot → LineView → Due
+seeLock every moment s (view.Standing i) = dueIf (every || not (ltb moment (i .start))) s
+seeLock every moment s (view.Finished w) = noDue
 
-abbrev pub dueAfter : Scan → ℕ → Due → Slot → Told → Due
+abbrev pub dueAfter : Scan → ℕ → Due → Slot → LineView → Due
 dueAfter Rows moment d s line = seeRow moment d s line
 dueAfter Intents moment d s line = seeLock true moment s line
 dueAfter Conflicts moment d s line = seeLock false moment s line

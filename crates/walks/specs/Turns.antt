@@ -9,9 +9,9 @@ use Rattle.rules.specs.declared.answers.Answer.{Answer}
 use Rattle.rules.specs.declared.answers.Answer.the-variants.{Accepted, No, Held}
 use Rattle.rules.specs.Answers.{Reply, refused}
 use Rattle.rules.specs.Page.{Page, emptyPage, onPage}
-use Rattle.lines.specs.declared.store.Slot.{Slot}
-use Rattle.lines.specs.declared.store.Line.{Line}
-use Rattle.lines.specs.declared.store.Line.the-variants.{Standing, Finished}
+use Rattle.store.specs.declared.table.Slot.{Slot}
+use Rattle.store.specs.declared.table.Line.{Line}
+use Rattle.store.specs.declared.table.Line.the-variants.{Standing, Finished}
 use Rattle.walks.specs.declared.dues.Listed.{Listed}
 use Rattle.walks.specs.declared.dues.Listed.the-variants as listed
 use Rattle.walks.specs.declared.dues.Due.{Due}

@@ -14,16 +14,16 @@ use Rattle.rules.specs.Answers.{Reply, nothing, shown, refused, ifPassed}
 use Rattle.rules.specs.Box.{Box, KeyLine}
 use Rattle.rules.specs.Page.{Bounds, Limits, Page, readKey, rowCost, lockCost, conflicting, intentWalk, pageWalk, keysWithin, keysOf, locksWithin, locksOf, page, intentPage, conflictPage}
 use Rattle.rules.specs.Written.{pieceBytes, lockBytes, keyRowBytes, keyLockBytes, pageBytes}
-use Rattle.lines.specs.declared.store.Slot.{Slot}
-use Rattle.lines.specs.declared.store.Store.{Store}
-use Rattle.lines.specs.declared.store.Line.{Line}
-use Rattle.lines.specs.declared.store.Line.the-variants.{Standing, Finished}
-use Rattle.lines.specs.declared.views.Told.{Told}
-use Rattle.lines.specs.declared.views.Told.the-variants as told
-use Rattle.lines.specs.View.{placeOf, keyOf, past, noSlot}
-use Rattle.lines.specs.Made.{Built}
-use Rattle.lines.specs.Looks.{lockIn, toldOf}
-use Rattle.walks.specs.declared.walked.Asked.{Asked}
+use Rattle.store.specs.declared.table.Slot.{Slot}
+use Rattle.store.specs.declared.table.Store.{Store}
+use Rattle.store.specs.declared.table.Line.{Line}
+use Rattle.store.specs.declared.table.Line.the-variants.{Standing, Finished}
+use Rattle.store.specs.declared.views.LineView.{LineView}
+use Rattle.store.specs.declared.views.LineView.the-variants as view
+use Rattle.store.specs.View.{placeOf, keyOf, past, noSlot}
+use Rattle.store.specs.Made.{Built}
+use Rattle.store.specs.KeyStates.{lockIn, viewOf}
+use Rattle.walks.specs.declared.walked.PageQuery.{PageQuery}
 use Rattle.walks.specs.declared.walked.Scan.{Scan}
 use Rattle.walks.specs.declared.walked.Scan.the-variants.{Rows, Intents, Conflicts}
 use Rattle.walks.specs.declared.walked.Walked.{Walked}
@@ -36,7 +36,7 @@ pageOn f nothing = nothing
 pageOn f (shown p) = shown (record { rows = map f (p .rows); more = p .more })
 pageOn f (refused v) = refused v
 
-abbrev pub limitsOf : Asked → Limits
+abbrev pub limitsOf : PageQuery → Limits
 limitsOf q = record { rows = q .limit; bytes = q .bytes }
 
 -- the call's page
@@ -45,7 +45,7 @@ pageBy Rows moment m a b = pageOn keyRowBytes (page a moment m b)
 pageBy Intents moment m a b = pageOn keyLockBytes (intentPage a (m .rows) b)
 pageBy Conflicts moment m a b = pageOn keyLockBytes (conflictPage a moment m b)
 
-abbrev pub pageAsked : Asked → Bounds → Box → Reply (Page Bytes)
+abbrev pub pageAsked : PageQuery → Bounds → Box → Reply (Page Bytes)
 pageAsked q a b = pageBy (q .scan) (q .moment) (limitsOf q) a b
 
 -- what is left of its walk at these lines, with a page of this count and sum
@@ -54,22 +54,22 @@ walkBy Rows moment m a b es count sum = pageOn keyRowBytes (pageWalk (readKey mo
 walkBy Intents moment m a b es count sum = pageOn keyLockBytes (intentWalk (m .rows) (locksWithin a (locksOf es)) count)
 walkBy Conflicts moment m a b es count sum = pageOn keyLockBytes (pageWalk (conflicting moment) lockCost m (locksWithin a (locksOf es)) count sum)
 
-abbrev pub walkFrom : Asked → Bounds → Box → List KeyLine → ℕ → ℕ → Reply (Page Bytes)
+abbrev pub walkFrom : PageQuery → Bounds → Box → List KeyLine → ℕ → ℕ → Reply (Page Bytes)
 walkFrom q a b es count sum = walkBy (q .scan) (q .moment) (limitsOf q) a b es count sum
 
 -- an intent page has no byte limit: none that a page reaches
-pub record WalkAsks (st : Store) (area : Bytes) (q : Asked) : Type 0 where
+pub record WalkAsks (st : Store) (area : Bytes) (q : PageQuery) : Type 0 where
   pub built : Built st area
   pub large : q .scan ≡ Intents → 1048576 ≤ q .bytes
 
 -- ---- the entry that a line shows: a record's row, or an intent's lock
 
-abbrev pub lineBytes : Bytes → Told → Bytes
-lineBytes area (told.Standing i) = lockBytes (lockIn area i)
-lineBytes area (told.Finished w) = pieceBytes (bytesAt area (w .rowat) (w .rowlen))
+abbrev pub lineBytes : Bytes → LineView → Bytes
+lineBytes area (view.Standing i) = lockBytes (lockIn area i)
+lineBytes area (view.Finished w) = pieceBytes (bytesAt area (w .rowat) (w .rowlen))
 
 abbrev pub entryBytes : Bytes → Slot → Bytes
-entryBytes area s = pieceBytes (keyOf area s) ++ lineBytes area (toldOf area s)
+entryBytes area s = pieceBytes (keyOf area s) ++ lineBytes area (viewOf area s)
 
 abbrev pub partLen : Line → ℕ
 partLen (Standing l) = l .plen

@@ -1,13 +1,12 @@
 // What the lines of a key so far say to a page.
 ghost use mathlib.Core.Path.{_≡_};
-ghost use mathlib.Core.Bool.{_&&_};
 ghost use Rattle.walks.specs.Dues.{noDue, seeRow, seeLock, dueAfter, byKey};
 use crate::walked::Scan;
-use lines::Locked;
-use lines::Slot;
-use lines::Told;
 use rules::Answer;
 use rules::Kind;
+use store::LineView;
+use store::Locked;
+use store::Slot;
 
 // The line that the page would list for the key, if any.
 pub enum Listed {
@@ -31,11 +30,11 @@ pub(crate) fn no_due() -> Due
 }
 
 // "Each key is read first": one line more of it.
-fn see_row(due: Due, moment: u64, s: Slot, line: Told) -> Due
+fn see_row(due: Due, moment: u64, s: Slot, line: LineView) -> Due
     ensures { λ r. ⌜ r ≡ seeRow moment due s line ⌝ }
 {
     match line {
-        Told::Standing(l) => {
+        LineView::Standing(l) => {
             let lets = reads::lock_lets(Locked::By(l), moment);
             let old = due.line;
             Due {
@@ -43,7 +42,7 @@ fn see_row(due: Due, moment: u64, s: Slot, line: Told) -> Due
                 line: old,
             }
         }
-        Told::Finished(w) => {
+        LineView::Finished(w) => {
             if moment < w.stamp {
                 return due;
             }
@@ -65,11 +64,11 @@ fn see_row(due: Due, moment: u64, s: Slot, line: Told) -> Due
 }
 
 // "keys of locks only", and of those in the way of a read, "skipped if it starts above the moment".
-fn see_lock(every: bool, moment: u64, s: Slot, line: Told) -> Due
+fn see_lock(every: bool, moment: u64, s: Slot, line: LineView) -> Due
     ensures { λ r. ⌜ r ≡ seeLock every moment s line ⌝ }
 {
     match line {
-        Told::Standing(l) => {
+        LineView::Standing(l) => {
             if !every {
                 if moment < l.start {
                     return no_due();
@@ -80,12 +79,12 @@ fn see_lock(every: bool, moment: u64, s: Slot, line: Told) -> Due
                 line: Listed::Line(s),
             }
         }
-        Told::Finished(_) => no_due(),
+        LineView::Finished(_) => no_due(),
     }
 }
 
 // One line more.
-pub(crate) fn see(due: Due, scan: Scan, moment: u64, s: Slot, line: Told) -> Due
+pub(crate) fn see(due: Due, scan: Scan, moment: u64, s: Slot, line: LineView) -> Due
     ensures { λ r. ⌜ r ≡ dueAfter scan moment due s line ⌝ }
 {
     match scan {
@@ -93,15 +92,6 @@ pub(crate) fn see(due: Due, scan: Scan, moment: u64, s: Slot, line: Told) -> Due
         Scan::Intents => see_lock(true, moment, s, line),
         Scan::Conflicts => see_lock(false, moment, s, line),
     }
-}
-
-pub(crate) fn both(a: bool, b: bool) -> bool
-    ensures { λ r. ⌜ r ≡ a && b ⌝ }
-{
-    if a {
-        return b;
-    }
-    false
 }
 
 // A page of rows judges a key at its last line, one of locks each line by itself.

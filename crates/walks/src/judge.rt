@@ -1,21 +1,21 @@
 // "3; start 1; end 1; 4; resume 1; resume at or past end, empty page without more", then the walk: what a page call answers, up to the
 // buffer.
-ghost use Rattle.lines.specs.View.{boxOf};
+ghost use Rattle.store.specs.View.{boxOf};
 ghost use Rattle.bounds.specs.Bounds.{boundsOf};
 ghost use Rattle.walks.specs.Walked.{pageAsked, WalkAsks, WalkedAs};
 use crate::walk::walk_lines;
-use crate::walked::Asked;
+use crate::walked::PageQuery;
 use crate::walked::Walked;
 use crate::walked::empty;
 use bounds::page_arguments;
 use bounds::past_end;
-use lines::Store;
 use rules::Answer;
+use store::Store;
 
 pub fn judge_page(
     store: Store,
     area: &[u8],
-    asked: Asked,
+    asked: PageQuery,
     starts: bool,
     start: &[u8],
     ends: bool,

@@ -7,6 +7,6 @@ pub mod walk;
 pub mod walked;
 
 pub use judge::judge_page;
-pub use walked::Asked;
+pub use walked::PageQuery;
 pub use walked::Scan;
 pub use walked::Walked;

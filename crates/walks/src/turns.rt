@@ -3,9 +3,9 @@ ghost use mathlib.Core.Path.{_≡_};
 ghost use Prim.Native.Nat.{_+_, _≤_};
 ghost use Rattle.walks.specs.Turns.{costOf, CostIn, roomTurn, add, turnOf};
 use crate::dues::Listed;
-use lines::Line;
-use lines::Slot;
 use rules::Answer;
+use store::Line;
+use store::Slot;
 
 // The walk goes on without the line, stops with more, is refused, or adds it at its cost.
 pub enum Turn {

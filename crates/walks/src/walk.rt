@@ -2,26 +2,26 @@
 // over the table, which this function alone holds.
 ghost use mathlib.Core.Path.{_≡_};
 ghost use Prim.Native.Nat.{_+_, _*_, _<_, _≤_};
-ghost use Rattle.lines.specs.View.{boxOf};
+ghost use Rattle.store.specs.View.{boxOf};
 ghost use Rattle.bounds.specs.Bounds.{boundsOf};
 ghost use Rattle.walks.specs.Walked.{walkFrom, WalkAsks, overOf, WalkedAs};
 ghost use Rattle.walks.specs.Dues.{Later};
-use crate::dues::both;
 use crate::dues::by_key;
 use crate::dues::no_due;
 use crate::dues::see;
 use crate::turns::Turn;
 use crate::turns::turn_of;
-use crate::walked::Asked;
+use crate::walked::PageQuery;
 use crate::walked::Scan;
 use crate::walked::Walked;
 use crate::walked::empty;
 use bounds::slot_inside;
 use bounds::slots_share;
-use lines::Slot;
-use lines::Store;
-use lines::line_of;
+use forms::both;
 use rules::Answer;
+use store::Slot;
+use store::Store;
+use store::view_of;
 
 // The next of n places, or the last one.
 fn later(i: usize, n: usize) -> usize
@@ -63,7 +63,7 @@ fn listed(scan: Scan, more: bool, count: usize, sum: usize, slots: [Slot; 1024])
 pub(crate) fn walk_lines(
     store: Store,
     area: &[u8],
-    asked: Asked,
+    asked: PageQuery,
     starts: bool,
     start: &[u8],
     ends: bool,
@@ -79,7 +79,7 @@ pub(crate) fn walk_lines(
     let load = store.load;
     let n = load.lines;
     let wait = by_key(scan);
-    let none = lines::store::no_slot();
+    let none = store::table::no_slot();
     let mut found = [none; 1024];
     let mut due = no_due();
     let mut count: usize = 0;
@@ -89,7 +89,7 @@ pub(crate) fn walk_lines(
         let s = lines[i];
         let j = later(i, n);
         let t = lines[j];
-        let told = line_of(s, area);
+        let told = view_of(s, area);
         let seen = see(due, scan, asked.moment, s, told);
         let next = slots_share(s, t, area);
         i += 1;

@@ -2,8 +2,8 @@
 // page that they show.
 ghost use mathlib.Core.Path.{_≡_};
 ghost use Rattle.walks.specs.Walked.{emptyOf};
-use lines::Slot;
 use rules::Answer;
+use store::Slot;
 
 // "Page", "Intent page", "Conflicting intents".
 pub enum Scan {
@@ -13,7 +13,7 @@ pub enum Scan {
 }
 
 // The moment, the limit of rows or locks, and that of bytes. An intent page has no moment, and a byte limit that no page reaches.
-pub struct Asked {
+pub struct PageQuery {
     pub scan: Scan,
     pub moment: u64,
     pub limit: u64,
@@ -34,7 +34,7 @@ pub struct Walked {
 pub(crate) fn empty(answer: Answer) -> Walked
     ensures { λ r. ⌜ r ≡ emptyOf answer ⌝ }
 {
-    let none = lines::store::no_slot();
+    let none = store::table::no_slot();
     let slots = [none; 1024];
     Walked {
         answer: answer,

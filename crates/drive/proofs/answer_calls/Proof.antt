@@ -1,5 +1,7 @@
+-- `drive::answer_calls` meets its contract.
+-- Assumes nothing.
 use Rattle.driving.proofs.KeepLaws.{Keeps, keeps-start, keeps-more}
-use Rattle.driving.proofs.RunLaws.{ran-within}
+use Rattle.driving.proofs.RunCallLaws.{ran-within}
 use lib.Seq.{length-take-le}
 use borrow.Author.Needs.{needs}
 use native.Mathlib.Omega.{arith}

@@ -1,3 +1,5 @@
+-- `drive::answer_many` meets its contract.
+-- Assumes nothing.
 use borrow.Author.Needs.{needs}
 use Prim.Native.Nat.{_-_}
 use mathlib.Core.Path.{_≡_}

@@ -1,16 +1,17 @@
-use Rattle.streams.proofs.NextLaws.{next-in}
+-- `drive::answer_next` meets its contract.
+-- Assumes nothing.
+use Rattle.drive.proofs.NextLaws.{next-in}
 use lib.Seq.{length-take-le}
 use borrow.Author.Needs.{needs}
 use Prim.Native.Nat.{_-_}
 use mathlib.Core.Path.{sym}
-use borrow.Author.Needs.{needs}
 use Rattle.drive.proofs.answer_next.Statement.{statement}
 use Rattle.drive.proofs.answer_next.Tie as tie
 use Rattle.drive.proofs.answer_next.Reads as reads
 use Rattle.drive.proofs.answer_next.Lts as lts
 use Rattle.drive.proofs.answer_trace.Reads as answer-trace-reads
 use Rattle.drive.proofs.refuse.Reads as refuse-reads
-use Rattle.streams.proofs.next_trace.Reads as next-trace-reads
+use Rattle.drive.proofs.streams.next_trace.Reads as next-trace-reads
 
 next-trace-requires : tie.Need-next-trace-requires
 next-trace-requires c κs = search needs

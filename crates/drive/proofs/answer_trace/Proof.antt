@@ -1,14 +1,15 @@
+-- `drive::answer_trace` meets its contract.
+-- Assumes nothing.
 use borrow.Author.Needs.{needs}
 use lib.ListN.{length-replicate}
 use Prim.Native.Nat.{ℕ, _-_}
-use borrow.Author.Needs.{needs}
 use Rattle.drive.proofs.answer_trace.Statement.{statement}
 use Rattle.drive.proofs.answer_trace.Tie as tie
 use Rattle.drive.proofs.answer_trace.Reads as reads
 use Rattle.drive.proofs.answer_trace.Lts as lts
 use Rattle.drive.proofs.answer_calls.Reads as answer-calls-reads
 use Rattle.drive.proofs.refuse.Reads as refuse-reads
-use Rattle.lines.proofs.fresh.Reads as fresh-reads
+use Rattle.store.proofs.fresh.Reads as fresh-reads
 use Rattle.traces.proofs.trace_in_form.Reads as trace-in-form-reads
 
 trace-in-form-requires : tie.Need-trace-in-form-requires

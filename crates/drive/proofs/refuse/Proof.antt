@@ -1,10 +1,11 @@
-use Rattle.showing.proofs.TellLaws.{within}
+-- `drive::refuse` meets its contract.
+-- Assumes nothing.
+use Rattle.driving.proofs.TellLaws.{within}
 use lib.Seq.{length-take-le}
 use borrow.Author.Needs.{needs}
 use native.Mathlib.Omega.{arith}
 use Prim.Native.Nat.{_-_}
 use mathlib.Core.Path.{sym}
-use borrow.Author.Needs.{needs}
 use Rattle.drive.proofs.refuse.Statement.{statement}
 use Rattle.drive.proofs.refuse.Tie as tie
 use Rattle.drive.proofs.refuse.Reads as reads

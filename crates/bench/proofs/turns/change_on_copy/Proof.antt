@@ -1,5 +1,5 @@
 -- `bench::turns::change_on_copy` meets its contract: what is made on the copy is made with the same store. Assumes nothing.
-use Rattle.bench.proofs.TurnLaws.{made-copy}
+use Rattle.bench.proofs.BenchTurnLaws.{made-copy}
 use borrow.Author.Needs.{needs}
 use Rattle.bench.proofs.turns.change_on_copy.Statement.{statement}
 use Rattle.bench.proofs.turns.change_on_copy.Tie as tie

@@ -1,5 +1,5 @@
 -- `bench::turns::many_turns` meets its contract, as one turn does. Assumes nothing.
-use Rattle.bench.proofs.TurnLaws.{Turning, turning-start, turning-more}
+use Rattle.bench.proofs.BenchTurnLaws.{Turning, turning-start, turning-more}
 use borrow.Author.Needs.{needs}
 use native.Mathlib.Omega.{arith}
 use Rattle.bench.proofs.turns.many_turns.Statement.{statement}

@@ -1,5 +1,5 @@
 -- `bench::turns::one_turn` meets its contract: store and area stay, and copy and buffer stay as long. Assumes nothing.
-use Rattle.bench.proofs.TurnLaws.{Turning, turning-start, turning-more}
+use Rattle.bench.proofs.BenchTurnLaws.{Turning, turning-start, turning-more}
 use borrow.Author.Needs.{needs}
 use native.Mathlib.Omega.{arith}
 use Prim.Native.Nat.{_-_}

@@ -1,12 +1,12 @@
--- `calls::applying::apply_all` meets its contract. Its loops: the area is packed anew (`Packing` of ApplyLaws), the
--- entries are applied in turn (`Underway`), and a slot comes to its place (`MakingPlace` and `ClosingUp` of stretches' TableLaws).
+-- `calls::applying::apply_all` meets its contract. Its loops: the area is packed anew (`Packing` of ApplyAllLaws), the
+-- entries are applied in turn (`Underway`), and a slot comes to its place (`MakingPlace` and `ClosingUp` of changes' TableLaws).
 -- Assumes nothing.
-use Rattle.applies.proofs.ApplyLaws.{made}
-use Rattle.applies.specs.declared.deeds.Point.{Point}
-use Rattle.lines.specs.Looks.{LookedAt}
-use Rattle.stretches.specs.Changes.{changed}
-use Rattle.stretches.proofs.TableLaws.{MakingPlace, inserts, making-start, making-more, making-end, ClosingUp, replaces, closing-start, closing-more, closing-end}
-use Rattle.calls.proofs.ApplyLaws.{Packing, Underway, few-bytes, packing-start, packing-more, packing-less, packed-asks, packed-applied, underway-start, underway-small, underway-in, underway-asks, underway-more, underway-end}
+use Rattle.actions.proofs.ApplyEntryLaws.{made}
+use Rattle.actions.specs.declared.action.Point.{Point}
+use Rattle.store.specs.KeyStates.{KeyStateAt}
+use Rattle.changes.specs.Changes.{changed}
+use Rattle.changes.proofs.TableLaws.{MakingPlace, inserts, making-start, making-more, making-end, ClosingUp, replaces, closing-start, closing-more, closing-end}
+use Rattle.calls.proofs.ApplyAllLaws.{Packing, Underway, few-bytes, packing-start, packing-more, packing-less, packed-asks, packed-applied, underway-start, underway-small, underway-in, underway-asks, underway-more, underway-end}
 use borrow.Author.Needs.{needs}
 use native.Mathlib.Omega.{arith}
 use Prim.Native.Nat.{ℕ, _-_, _*_}
@@ -39,7 +39,7 @@ abbrev μ-loop2 : tie.MeasureT-loop2
 μ-loop2 area₀ deed primary batch n list point need l₀ i₀ area l i = n - i
 
 mul-need : tie.Need-mul-need Inv-loop μ-loop Inv-loop3 μ-loop3 Inv-loop4 μ-loop4 Inv-loop2 μ-loop2
-mul-need c = rw ((c .most-of) .ensures) (omega (arith, few-bytes ((c .before .before .before .before .before .args) .deed) ((c .before .before .before .before .before .pre) .few)))
+mul-need c = rw ((c .most-of) .ensures) (omega (arith, few-bytes ((c .before .before .before .before .before .args) .action) ((c .before .before .before .before .before .pre) .count-fits)))
 
 loop-holds : tie.Need-loop-holds Inv-loop μ-loop Inv-loop3 μ-loop3 Inv-loop4 μ-loop4 Inv-loop2 μ-loop2
 loop-holds c = packing-start (c .before .before .before .before .before .pre)
@@ -68,11 +68,11 @@ key-of-requires c κs = underway-in (packed-asks (c .before .before .before .bef
 row-of-requires : tie.Need-row-of-requires Inv-loop μ-loop Inv-loop3 μ-loop3 Inv-loop4 μ-loop4 Inv-loop2 μ-loop2
 row-of-requires c κs = underway-in (packed-asks (c .before .before .before .before .before .before .before .before .before .before .before .pre) ((c .before .before .before .before .before .loop) .inv)) ((c .before .before .before .loop2) .inv) ((c .before .before .loop2-test) .taken)
 
-look-requires : tie.Need-look-requires Inv-loop μ-loop Inv-loop3 μ-loop3 Inv-loop4 μ-loop4 Inv-loop2 μ-loop2
-look-requires c κs = (c .before .before .before .before .before .before .before .loop2) .inv .left .built
+look-up-requires : tie.Need-look-up-requires Inv-loop μ-loop Inv-loop3 μ-loop3 Inv-loop4 μ-loop4 Inv-loop2 μ-loop2
+look-up-requires c κs = (c .before .before .before .before .before .before .before .loop2) .inv .left .built
 
 apply-entry-requires : tie.Need-apply-entry-requires Inv-loop μ-loop Inv-loop3 μ-loop3 Inv-loop4 μ-loop4 Inv-loop2 μ-loop2
-apply-entry-requires c κs = (rw ((c .before .before .before .before .before .before .key-of) .ensures, (c .before .before .before .before .before .row-of) .ensures) (underway-asks (packed-asks (c .before .before .before .before .before .before .before .before .before .before .before .before .before .before .before .before .before .pre) ((c .before .before .before .before .before .before .before .before .before .before .before .loop) .inv)) ((c .before .before .before .before .before .before .before .before .before .loop2) .inv) ((c .before .before .before .before .before .before .before .before .loop2-test) .taken)), subst (λ (p : Point). LookedAt ((c .before .before .before .before .before .before .before .before .before .loop2) .l) ((c .before .before .before .before .before .before .before .before .before .loop2) .area) ((c .before .before .before .before .before .before .key-of) .result .now) (p .start) (p .stamp) ((c .before .look) .result)) ((c .before .before .before .before .before .before .before .before .before .before .before .before .before .point-of) .ensures) ((c .before .look) .ensures))
+apply-entry-requires c κs = (rw ((c .before .before .before .before .before .before .key-of) .ensures, (c .before .before .before .before .before .row-of) .ensures) (underway-asks (packed-asks (c .before .before .before .before .before .before .before .before .before .before .before .before .before .before .before .before .before .pre) ((c .before .before .before .before .before .before .before .before .before .before .before .loop) .inv)) ((c .before .before .before .before .before .before .before .before .before .loop2) .inv) ((c .before .before .before .before .before .before .before .before .loop2-test) .taken)), subst (λ (p : Point). KeyStateAt ((c .before .before .before .before .before .before .before .before .before .loop2) .l) ((c .before .before .before .before .before .before .before .before .before .loop2) .area) ((c .before .before .before .before .before .before .key-of) .result .now) (p .start) (p .stamp) ((c .before .look-up) .result)) ((c .before .before .before .before .before .before .before .before .before .before .before .before .before .point-of) .ensures) ((c .before .look-up) .ensures))
 
 add-i : tie.Need-add-i Inv-loop μ-loop Inv-loop3 μ-loop3 Inv-loop4 μ-loop4 Inv-loop2 μ-loop2
 add-i c = omega (arith, underway-small (packed-asks (c .before .before .before .before .before .before .before .before .before .before .before .before .before .before .before .before .before .before .before .before .pre) ((c .before .before .before .before .before .before .before .before .before .before .before .before .before .before .loop) .inv)) ((c .before .before .before .before .before .before .before .before .before .before .before .before .loop2) .inv) ((c .before .before .before .before .before .before .before .before .before .before .before .loop2-test) .taken))
@@ -135,7 +135,7 @@ apply-all-spec =
     array-copy-out-e
     key-of-requires
     row-of-requires
-    look-requires
+    look-up-requires
     apply-entry-requires
     add-i
     (λ c. search needs)

@@ -1,6 +1,6 @@
 -- `calls::judged::judge` meets its contract.
 -- Assumes nothing.
-use Rattle.calls.proofs.JudgeLaws.{judge-full, judge-passed}
+use Rattle.calls.proofs.RoomJudgeLaws.{judge-full, judge-passed}
 use borrow.Author.Needs.{needs}
 use Rattle.calls.proofs.judged.judge.Statement.{statement}
 use Rattle.calls.proofs.judged.judge.Tie as tie

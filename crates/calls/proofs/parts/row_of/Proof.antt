@@ -1,6 +1,6 @@
 -- `calls::parts::row_of` meets its contract.
 -- Assumes nothing.
-use Rattle.calls.proofs.EntryLaws.{size-few, row-cut}
+use Rattle.calls.proofs.EntryPartLaws.{size-few, row-cut}
 use borrow.Author.Needs.{needs}
 use native.Mathlib.Omega.{arith}
 use Rattle.calls.proofs.parts.row_of.Statement.{statement}

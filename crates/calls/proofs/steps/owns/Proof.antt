@@ -1,6 +1,6 @@
 -- `calls::steps::owns` meets its contract.
 -- Assumes nothing.
-use Rattle.calls.proofs.EntryLaws.{owns-other, owns-txn}
+use Rattle.calls.proofs.EntryPartLaws.{owns-other, owns-txn}
 use Rattle.calls.proofs.steps.owns.Statement.{statement}
 use Rattle.calls.proofs.steps.owns.Tie as tie
 

@@ -1,6 +1,6 @@
 -- `calls::steps::row_argument` meets its contract.
 -- Assumes nothing.
-use Rattle.calls.proofs.EntryLaws.{argument-delete, argument-put}
+use Rattle.calls.proofs.EntryPartLaws.{argument-delete, argument-put}
 use borrow.Author.Needs.{needs}
 use Rattle.calls.proofs.steps.row_argument.Statement.{statement}
 use Rattle.calls.proofs.steps.row_argument.Tie as tie

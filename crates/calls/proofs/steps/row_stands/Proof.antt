@@ -3,7 +3,7 @@
 use Rattle.forms.specs.Bytes.{bytesAt}
 use mathlib.Core.Option.{some}
 use native.Mathlib.Nat.{add-sub-cancel-left}
-use Rattle.calls.proofs.EntryLaws.{stands-delete, stands-put}
+use Rattle.calls.proofs.EntryPartLaws.{stands-delete, stands-put}
 use borrow.Author.Needs.{needs}
 use Rattle.calls.proofs.steps.row_stands.Statement.{statement}
 use Rattle.calls.proofs.steps.row_stands.Tie as tie

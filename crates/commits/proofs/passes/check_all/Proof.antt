@@ -1,10 +1,9 @@
--- `commits::passes::check_all` meets its contract. The loop's invariant: the keys that are left, and whether one was new (`PassLaws`).
+-- `commits::passes::check_all` meets its contract. The loop's invariant: the keys that are left, and whether one was new (`CommitPassLaws`).
 -- Assumes nothing.
-use Rattle.lines.specs.View.{boxOf}
-use Rattle.calls.specs.Walks.{endingOf}
+use Rattle.store.specs.View.{boxOf}
 use Rattle.calls.proofs.SettledLaws.{is-accepted}
 use Rattle.calls.proofs.PassLaws.{pass-small, pass-in}
-use Rattle.commits.proofs.PassLaws.{CheckingAll, checking-start, checking-more, checking-out, checking-end}
+use Rattle.commits.proofs.CommitPassLaws.{CheckingAll, checking-start, checking-more, checking-out, checking-end}
 use borrow.Author.Needs.{needs}
 use native.Mathlib.Omega.{arith}
 use Prim.Native.Nat.{_-_}
@@ -12,13 +11,13 @@ use Rattle.commits.proofs.passes.check_all.Statement.{statement}
 use Rattle.commits.proofs.passes.check_all.Tie as tie
 
 abbrev Inv-loop : tie.InvT-loop
-Inv-loop store area terms batch n list moves₀ i₀ moves i = CheckingAll (endingOf terms) (boxOf store area) batch n list i moves
+Inv-loop store area terms batch n list moves₀ i₀ moves i = CheckingAll terms (boxOf store area) batch n list i moves
 
 abbrev μ-loop : tie.MeasureT-loop
 μ-loop store area terms batch n list moves₀ i₀ moves i = n - i
 
 loop-holds : tie.Need-loop-holds Inv-loop μ-loop
-loop-holds c = checking-start (endingOf (c .before .before .args .terms)) (boxOf (c .before .before .args .store) (c .before .before .args .area .now)) (c .before .before .pre .form .listed)
+loop-holds c = checking-start ((c .before .before .args .terms)) (boxOf (c .before .before .args .store) (c .before .before .args .area .now)) (c .before .before .pre .form .listed)
 
 array-copy-out-e : tie.Need-array-copy-out-e Inv-loop μ-loop
 array-copy-out-e c = pass-small (c .before .loop .inv) (c .loop-test .taken)

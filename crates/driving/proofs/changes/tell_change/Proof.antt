@@ -1,5 +1,6 @@
--- `driving::changes::tell_change` meets its contract: `tells-change`. Assumes nothing.
-use Rattle.driving.proofs.RunLaws.{tells-change}
+-- `driving::changes::tell_change` meets its contract: `tells-change`.
+-- Assumes nothing.
+use Rattle.driving.proofs.RunCallLaws.{tells-change}
 use borrow.Author.Needs.{needs}
 use Rattle.driving.proofs.changes.tell_change.Statement.{statement}
 use Rattle.driving.proofs.changes.tell_change.Tie as tie

@@ -1,5 +1,8 @@
--- `driving::run::run_call` meets its contract: a way out for each of a short buffer, no call in form, and a call. Assumes nothing.
-use Rattle.driving.proofs.RunLaws.{run-short, run-formless, run-formed}
+-- `driving::run::run_call` meets its contract: the buffer is too short, the bytes are no call in form, or the call is run, by `RunCallLaws`.
+-- Assumes nothing.
+use Rattle.rules.specs.declared.answers.Answer.the-variants.{No}
+use Rattle.driving.proofs.RunCallLaws.{run-short, run-formless, run-formed}
+use mathlib.Core.Path.{refl}
 use borrow.Author.Needs.{needs}
 use Rattle.driving.proofs.run.run_call.Statement.{statement}
 use Rattle.driving.proofs.run.run_call.Tie as tie
@@ -8,10 +11,10 @@ returns : tie.Need-returns
 returns c = run-short ((c .if1) .taken)
 
 returns-2 : tie.Need-returns-2
-returns-2 c = run-formless ((c .before .before .before .before .before .before .before .args-of) .ensures) ((c .before .before .before .before .before .if2) .taken) ((c .before .before .before .before .before .before .before .before .if1) .left) ((c .before .before .not-run) .ensures)
+returns-2 c = run-formless ((c .before .before .before .before .before .before .args-of) .ensures) ((c .before .before .before .before .if2) .taken) ((c .before .before .before .before .before .before .before .if1) .left) ((c .before .before .tell-change) .ensures .tells (record { answer = No 6; box = _ }) _ (record { answer-is = refl; made = (c .before .before .before .before .before .before .before .before .before .before .pre); shown = refl }))
 
 run-args-requires : tie.Need-run-args-requires
-run-args-requires c κs = record { made = ((c .before .before .before .before .before .before .before .before .pre)); places = ((c .before .before .before .before .args-of)) .ensures .places; long = ((c .before .before .before .before .before .if1)) .left }
+run-args-requires c κs = record { made = (c .before .before .before .before .before .before .before .before .pre); places = (c .before .before .before .before .args-of) .ensures .places; length-is = (c .before .before .before .before .before .if1) .left }
 
 returns-3 : tie.Need-returns-3
 returns-3 c = run-formed ((c .before .before .before .before .before .before .before .args-of) .ensures) ((c .before .before .before .before .before .if2) .left) ((c .before .before .before .before .before .before .before .before .if1) .left) ((c .before .before .run-args) .ensures)

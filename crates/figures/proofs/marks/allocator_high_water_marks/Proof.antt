@@ -1,6 +1,6 @@
 -- `figures::marks::allocator_high_water_marks` meets its contract. The loop's invariant: what is kept is the largest among the lines from
 -- `i` on. The measure is `i`. Assumes nothing.
-use Rattle.figures.proofs.MarkLaws.{LinesMarked, marks-start, marks-ready, marks-more, marks-end}
+use Rattle.figures.proofs.HighWaterLaws.{LinesMarked, marks-start, marks-ready, marks-more, marks-end}
 use borrow.Author.Needs.{needs}
 use Rattle.figures.proofs.marks.allocator_high_water_marks.Statement.{statement}
 use Rattle.figures.proofs.marks.allocator_high_water_marks.Tie as tie

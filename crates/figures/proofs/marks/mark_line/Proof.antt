@@ -1,6 +1,6 @@
 -- `figures::marks::mark_line` meets its contract, one law for each kind of line.
 -- Assumes nothing.
-use Rattle.figures.proofs.MarkLaws.{mark-lock, mark-record}
+use Rattle.figures.proofs.HighWaterLaws.{mark-lock, mark-record}
 use borrow.Author.Needs.{needs}
 use Rattle.figures.proofs.marks.mark_line.Statement.{statement}
 use Rattle.figures.proofs.marks.mark_line.Tie as tie

@@ -1,7 +1,7 @@
--- `forms::batch::decode` meets its contract: the count is missing, too large, or the entries are read, by `BatchLaws`.
+-- `forms::batch::decode` meets its contract: the count is missing, too large, or the entries are read, by `DecodeLaws`.
 -- Assumes nothing.
 use Rattle.forms.specs.Places.{itemAt, itemKey, itemOf}
-use Rattle.forms.proofs.BatchLaws.{decode-short, decode-long, decode-many, decode-few}
+use Rattle.forms.proofs.DecodeLaws.{decode-short, decode-long, decode-many, decode-few}
 use borrow.Author.Needs.{needs}
 use Rattle.forms.proofs.batch.decode.Statement.{statement}
 use Rattle.forms.proofs.batch.decode.Tie as tie

@@ -1,8 +1,10 @@
+-- `forms::batch::follows` meets its contract.
+-- Assumes nothing.
 use Rattle.forms.specs.Places.{keyAt}
 -- `forms::batch::follows` meets its contract: there is no key before, or `below` compares the two parts.
 -- Assumes nothing.
 use native.Mathlib.Nat.{add-sub-cancel-left}
-use Rattle.forms.proofs.JudgeLaws.{first-of, next-of}
+use Rattle.forms.proofs.ReadAllLaws.{first-of, next-of}
 use borrow.Author.Needs.{needs}
 use Rattle.forms.proofs.batch.follows.Statement.{statement}
 use Rattle.forms.proofs.batch.follows.Tie as tie

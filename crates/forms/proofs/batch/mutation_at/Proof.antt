@@ -1,6 +1,6 @@
--- `forms::batch::mutation_at` meets its contract: each way out is a law of `EntryLaws`.
+-- `forms::batch::mutation_at` meets its contract: each way out is a law of `BatchEntryLaws`.
 -- Assumes nothing.
-use Rattle.forms.proofs.EntryLaws.{no-key, no-kind, other-kind, is-delete, no-row, is-put}
+use Rattle.forms.proofs.BatchEntryLaws.{no-key, no-kind, other-kind, is-delete, no-row, is-put}
 use borrow.Author.Needs.{needs}
 use Rattle.forms.proofs.batch.mutation_at.Statement.{statement}
 use Rattle.forms.proofs.batch.mutation_at.Tie as tie

@@ -1,7 +1,7 @@
 -- `forms::batch::read_all` meets its contract. The loop's invariant: what was read, and what is still to be read after the key before, are
--- what the whole says (`Reading` of `JudgeLaws`). The measure is how many entries are left.
+-- what the whole says (`Reading` of `ReadAllLaws`). The measure is how many entries are left.
 -- Assumes nothing.
-use Rattle.forms.proofs.JudgeLaws.{Reading, reading-start, reading-bad, reading-low, reading-more, reading-over, reading-end}
+use Rattle.forms.proofs.ReadAllLaws.{Reading, reading-start, reading-bad, reading-low, reading-more, reading-over, reading-end}
 use borrow.Author.Needs.{needs}
 use Prim.Native.Nat.{_-_}
 use Rattle.forms.proofs.batch.read_all.Statement.{statement}

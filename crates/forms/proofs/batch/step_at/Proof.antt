@@ -1,6 +1,6 @@
--- `forms::batch::step_at` meets its contract, for both kinds of batch, by `EntryLaws`.
+-- `forms::batch::step_at` meets its contract, for both kinds of batch, by `BatchEntryLaws`.
 -- Assumes nothing.
-use Rattle.forms.proofs.EntryLaws.{step-mutation, step-key}
+use Rattle.forms.proofs.BatchEntryLaws.{step-mutation, step-key}
 use borrow.Author.Needs.{needs}
 use Rattle.forms.proofs.batch.step_at.Statement.{statement}
 use Rattle.forms.proofs.batch.step_at.Tie as tie

@@ -1,6 +1,6 @@
--- `forms::key::key_in_form` meets its contract: each way out is a law of `KeyLaws`.
+-- `forms::key::key_in_form` meets its contract: each way out is a law of `KeyFormLaws`.
 -- Assumes nothing.
-use Rattle.forms.proofs.KeyLaws.{key-short, key-long, key-table}
+use Rattle.forms.proofs.KeyFormLaws.{key-short, key-long, key-table}
 use borrow.Author.Needs.{needs}
 use Rattle.forms.proofs.key.key_in_form.Statement.{statement}
 use Rattle.forms.proofs.key.key_in_form.Tie as tie

@@ -1,6 +1,6 @@
--- `forms::part::part_at` meets its contract: each way out is a law of `ReadLaws`.
+-- `forms::part::part_at` meets its contract: each way out is a law of `ReaderLaws`.
 -- Assumes nothing.
-use Rattle.forms.proofs.ReadLaws.{part-none, part-short, part-good}
+use Rattle.forms.proofs.ReaderLaws.{part-none, part-short, part-good}
 use borrow.Author.Needs.{needs}
 use native.Mathlib.Omega.{arith}
 use Rattle.forms.proofs.part.part_at.Statement.{statement}

@@ -1,9 +1,10 @@
+-- `images::entries::entry_at` meets its contract.
+-- Assumes nothing.
 use Rattle.forms.proofs.NumberLaws.{number-long}
-use Rattle.images.proofs.EntryLaws.{entry-no-key, entry-no-one, entry-no-piece, entry-no-tail, entry-good}
+use Rattle.images.proofs.ImageEntryLaws.{entry-no-key, entry-no-one, entry-no-piece, entry-no-tail, entry-good}
 use borrow.Author.Needs.{needs}
 use native.Mathlib.Omega.{arith}
 use Prim.Native.Nat.{_-_}
-use borrow.Author.Needs.{needs}
 use Rattle.images.proofs.entries.entry_at.Statement.{statement}
 use Rattle.images.proofs.entries.entry_at.Tie as tie
 use Rattle.images.proofs.entries.entry_at.Reads as reads

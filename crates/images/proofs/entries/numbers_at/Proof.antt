@@ -1,9 +1,10 @@
+-- `images::entries::numbers_at` meets its contract.
+-- Assumes nothing.
 use Rattle.forms.proofs.NumberLaws.{number-long}
-use Rattle.images.proofs.EntryLaws.{tail-no-two, tail-no-three, tail-no-kind, tail-good}
+use Rattle.images.proofs.ImageEntryLaws.{tail-no-two, tail-no-three, tail-no-kind, tail-good}
 use borrow.Author.Needs.{needs}
 use native.Mathlib.Omega.{arith}
 use Prim.Native.Nat.{_-_}
-use borrow.Author.Needs.{needs}
 use Rattle.images.proofs.entries.numbers_at.Statement.{statement}
 use Rattle.images.proofs.entries.numbers_at.Tie as tie
 use Rattle.images.proofs.entries.numbers_at.Reads as reads

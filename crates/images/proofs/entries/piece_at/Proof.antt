@@ -1,9 +1,10 @@
+-- `images::entries::piece_at` meets its contract.
+-- Assumes nothing.
 use Rattle.images.specs.Entries.{hasPiece}
-use Rattle.images.proofs.EntryLaws.{piece-has, piece-none}
+use Rattle.images.proofs.ImageEntryLaws.{piece-has, piece-none}
 use borrow.Author.Needs.{needs}
 use Prim.Native.Nat.{_-_}
 use mathlib.Core.Path.{ap}
-use borrow.Author.Needs.{needs}
 use Rattle.images.proofs.entries.piece_at.Statement.{statement}
 use Rattle.images.proofs.entries.piece_at.Tie as tie
 use Rattle.images.proofs.entries.piece_at.Reads as reads

@@ -1,7 +1,8 @@
-use Rattle.images.proofs.EntryLaws.{tail-none}
+-- `images::entries::tail_at` meets its contract.
+-- Assumes nothing.
+use Rattle.images.proofs.ImageEntryLaws.{tail-none}
 use borrow.Author.Needs.{needs}
 use Prim.Native.Nat.{_-_}
-use borrow.Author.Needs.{needs}
 use Rattle.images.proofs.entries.tail_at.Statement.{statement}
 use Rattle.images.proofs.entries.tail_at.Tie as tie
 use Rattle.images.proofs.entries.tail_at.Reads as reads

@@ -4,7 +4,6 @@ use Rattle.laws.proofs.ChainLaws.{call-on, denies, grants}
 use Rattle.calls.proofs.SettledLaws.{is-accepted, is-refusal, then-refused}
 use borrow.Author.Needs.{needs}
 use mathlib.Core.Path.{refl}
-use borrow.Author.Needs.{needs}
 use Rattle.onesteps.proofs.passes.first.Statement.{statement}
 use Rattle.onesteps.proofs.passes.first.Tie as tie
 

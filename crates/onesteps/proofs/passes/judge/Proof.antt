@@ -1,8 +1,7 @@
 -- `onesteps::passes::judge` meets its contract.
 -- Assumes nothing.
 use Rattle.calls.proofs.SettledLaws.{is-accepted, is-refusal}
-use Rattle.onesteps.proofs.PassLaws.{judge-argument, judge-all, judge-some, judge-entry, judge-full, judge-fits}
-use borrow.Author.Needs.{needs}
+use Rattle.onesteps.proofs.StepPassLaws.{judge-argument, judge-all, judge-some, judge-entry, judge-full, judge-fits}
 use borrow.Author.Needs.{needs}
 use Rattle.onesteps.proofs.passes.judge.Statement.{statement}
 use Rattle.onesteps.proofs.passes.judge.Tie as tie

@@ -1,11 +1,11 @@
 -- `prewrites::batch::prewrite_all` meets its contract.
 -- Assumes nothing.
-use Rattle.applies.proofs.ApplyLaws.{head-primary}
-use Rattle.prewrites.specs.Checks.{headOf}
+use Rattle.actions.proofs.ApplyEntryLaws.{head-primary}
+use Rattle.prewrites.specs.Checks.{withPrimary}
 use Rattle.forms.specs.Places.{mutationOf}
-use Rattle.lines.specs.View.{boxOf}
+use Rattle.store.specs.View.{boxOf}
 use Rattle.calls.proofs.DoneLaws.{asks-if, pass-checked, pass-fit, pass-done}
-use Rattle.prewrites.proofs.ApplyLaws.{locks-ready}
+use Rattle.prewrites.proofs.PrewriteApplyLaws.{locks-ready}
 use borrow.Author.Needs.{needs}
 use native.Mathlib.Omega.{arith}
 use Prim.Native.Nat.{_-_}
@@ -14,7 +14,7 @@ use Rattle.prewrites.proofs.batch.prewrite_all.Statement.{statement}
 use Rattle.prewrites.proofs.batch.prewrite_all.Tie as tie
 
 check-all-requires : tie.Need-check-all-requires
-check-all-requires c κs = ((c .before .before .before .before .pre) .0, omega (arith, head-primary (headOf ((c .before .before .before .before .args) .terms) ((c .before .before .before .before .args) .primary .now)) ((c .before .before .before .before .pre) .1)))
+check-all-requires c κs = ((c .before .before .before .before .pre) .0, omega (arith, head-primary (withPrimary ((c .before .before .before .before .args) .terms) ((c .before .before .before .before .args) .primary .now)) ((c .before .before .before .before .pre) .1)))
 
 apply-all-requires : tie.Need-apply-all-requires
 apply-all-requires c κs = let a = (c .before .before .before .before .before .before .before .args) in let item = mutationOf (a .batch .now) in let j = (c .before .before .check-all) .ensures in asks-if ((c .before .before .before .before .before .before .before .pre) .0) ((c .before .only-if) .ensures) (λ move. locks-ready (a .terms) (a .primary .now) (a .batch .now) (boxOf (a .store) (a .area .now)) ((c .before .before .before .before .before .before .before .pre) .1) ((c .before .before .before .before .before .before .before .pre) .0 .form) (pass-checked item ((c .before .before .before .before .before .before .before .pre) .0) j move) (pass-fit item ((c .before .before .before .before .before .before .before .pre) .0) j move))

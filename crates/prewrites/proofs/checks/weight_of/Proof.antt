@@ -1,6 +1,6 @@
 -- `prewrites::checks::weight_of` meets its contract.
 -- Assumes nothing.
-use Rattle.prewrites.proofs.EntryLaws.{new-weighs, old-weighs}
+use Rattle.prewrites.proofs.PrewriteEntryLaws.{new-weighs, old-weighs}
 use borrow.Author.Needs.{needs}
 use Rattle.prewrites.proofs.checks.weight_of.Statement.{statement}
 use Rattle.prewrites.proofs.checks.weight_of.Tie as tie

@@ -1,16 +1,16 @@
 -- `prewrites::passes::check_all` meets its contract.
 -- Assumes nothing.
-use Rattle.calls.proofs.JudgeLaws.{all-refused, judge-asks, all-judged}
-use Rattle.forms.proofs.BatchLaws.{mutations-by-keys}
-use Rattle.prewrites.proofs.ApplyLaws.{weighed}
+use Rattle.calls.proofs.RoomJudgeLaws.{all-refused, judge-asks, all-judged}
+use Rattle.forms.proofs.DecodeLaws.{mutations-by-keys}
+use Rattle.prewrites.proofs.PrewriteApplyLaws.{weighed}
 use mathlib.Core.Path.{_∙_}
 use Rattle.forms.specs.Places.{mutationOf}
-use Rattle.lines.specs.View.{boxOf}
+use Rattle.store.specs.View.{boxOf}
 use Rattle.calls.proofs.SettledLaws.{is-accepted, is-refusal}
 use Rattle.calls.proofs.PassLaws.{pass-small, pass-in}
 use Rattle.calls.proofs.SeenLaws.{SeeingAll, seeing-start, seeing-parts, seeing-small, seeing-more, seeing-out, seeing-end}
-use Rattle.prewrites.specs.Checks.{headOf, stepsOf}
-use Rattle.prewrites.proofs.EntryLaws.{parts-short}
+use Rattle.prewrites.specs.Checks.{withPrimary, stepsOf}
+use Rattle.prewrites.proofs.PrewriteEntryLaws.{parts-short}
 use borrow.Author.Needs.{needs}
 use native.Mathlib.Omega.{arith}
 use Prim.Native.Nat.{_-_}
@@ -18,7 +18,7 @@ use Rattle.prewrites.proofs.passes.check_all.Statement.{statement}
 use Rattle.prewrites.proofs.passes.check_all.Tie as tie
 
 abbrev Inv-loop : tie.InvT-loop
-Inv-loop store area terms primary batch n list sum₀ i₀ sum i = SeeingAll (stepsOf (headOf terms primary)) (mutationOf batch) (boxOf store area) batch n list i sum
+Inv-loop store area terms primary batch n list sum₀ i₀ sum i = SeeingAll (stepsOf (withPrimary terms primary)) (mutationOf batch) (boxOf store area) batch n list i sum
 
 abbrev μ-loop : tie.MeasureT-loop
 μ-loop store area terms primary batch n list sum₀ i₀ sum i = n - i
@@ -39,7 +39,7 @@ check-entry-requires : tie.Need-check-entry-requires Inv-loop μ-loop
 check-entry-requires c κs = record { built = (c .before .before .before .before .before .before .before .before .before .pre) .0 .made .built; short = rw ((c .before .key-of) .ensures, (c .row-of) .ensures) (parts-short _ (pass-in ((c .before .before .before .before .loop) .inv) ((c .before .before .before .loop-test) .taken)) ((c .before .before .before .before .before .before .before .before .before .pre) .1)) }
 
 returns : tie.Need-returns Inv-loop μ-loop
-returns c = let a = (c .before .before .before .before .before .before .before .before .before .before .before .before .args) in all-refused (weighed (headOf (a .terms) (a .primary .now))) _ (mutations-by-keys (a .batch .now) _ _ ∙ (c .before .before .before .before .before .before .before .before .before .before .before .before .pre) .0 .form .ascends) ((c .before .before .before .before .before .before .before .before .before .before .before .before .pre) .0 .made .built .kept) (seeing-out ((c .before .before .before .before .before .before .before .loop) .inv) ((c .before .before .before .before .before .before .loop-test) .taken) (seeing-parts ((c .before .before .before .before .before .before .before .loop) .inv) ((c .before .before .before .before .key-of) .ensures) ((c .before .before .before .row-of) .ensures) ((c .before .before .check-entry) .ensures)) (is-refusal _ ((c .before .accepted) .ensures) ((c .if1) .taken))) (is-refusal _ ((c .before .accepted) .ensures) ((c .if1) .taken))
+returns c = let a = (c .before .before .before .before .before .before .before .before .before .before .before .before .args) in all-refused (weighed (withPrimary (a .terms) (a .primary .now))) _ (mutations-by-keys (a .batch .now) _ _ ∙ (c .before .before .before .before .before .before .before .before .before .before .before .before .pre) .0 .form .ascends) ((c .before .before .before .before .before .before .before .before .before .before .before .before .pre) .0 .made .built .kept) (seeing-out ((c .before .before .before .before .before .before .before .loop) .inv) ((c .before .before .before .before .before .before .loop-test) .taken) (seeing-parts ((c .before .before .before .before .before .before .before .loop) .inv) ((c .before .before .before .before .key-of) .ensures) ((c .before .before .before .row-of) .ensures) ((c .before .before .check-entry) .ensures)) (is-refusal _ ((c .before .accepted) .ensures) ((c .if1) .taken))) (is-refusal _ ((c .before .accepted) .ensures) ((c .if1) .taken))
 
 plus-weight-requires : tie.Need-plus-weight-requires Inv-loop μ-loop
 plus-weight-requires c κs = seeing-small ((c .before .before .before .before .before .before .before .loop) .inv) ((c .before .before .before .before .before .before .loop-test) .taken) (seeing-parts ((c .before .before .before .before .before .before .before .loop) .inv) ((c .before .before .before .before .key-of) .ensures) ((c .before .before .before .row-of) .ensures) ((c .before .before .check-entry) .ensures)) (omega arith) (omega arith)
@@ -51,10 +51,10 @@ loop-again : tie.Need-loop-again Inv-loop μ-loop
 loop-again c = seeing-more ((c .before .before .before .before .before .before .before .before .loop) .inv) ((c .before .before .before .before .before .before .before .loop-test) .taken) (seeing-parts ((c .before .before .before .before .before .before .before .before .loop) .inv) ((c .before .before .before .before .before .key-of) .ensures) ((c .before .before .before .before .row-of) .ensures) ((c .before .before .before .check-entry) .ensures)) (is-accepted _ ((c .before .before .accepted) .ensures) ((c .before .if1) .left)) ((c .plus-weight) .ensures)
 
 judge-requires : tie.Need-judge-requires Inv-loop μ-loop
-judge-requires c κs = let a = (c .before .before .before .before .before .before .before .args) in judge-asks (weighed (headOf (a .terms) (a .primary .now))) _ (mutations-by-keys (a .batch .now) _ _ ∙ (c .before .before .before .before .before .before .before .pre) .0 .form .ascends) ((c .before .before .before .before .before .before .before .pre) .0 .made .built .kept) (seeing-end ((c .before .before .loop) .inv) ((c .before .loop-test) .left)) (omega arith) ((c .before .before .before .before .before .before .before .pre) .0 .made .fit)
+judge-requires c κs = let a = (c .before .before .before .before .before .before .before .args) in judge-asks (weighed (withPrimary (a .terms) (a .primary .now))) _ (mutations-by-keys (a .batch .now) _ _ ∙ (c .before .before .before .before .before .before .before .pre) .0 .form .ascends) ((c .before .before .before .before .before .before .before .pre) .0 .made .built .kept) (seeing-end ((c .before .before .loop) .inv) ((c .before .loop-test) .left)) (omega arith) ((c .before .before .before .before .before .before .before .pre) .0 .made .fit)
 
 returns-2 : tie.Need-returns-2 Inv-loop μ-loop
-returns-2 c = let a = (c .before .before .before .before .before .before .before .before .args) in all-judged (weighed (headOf (a .terms) (a .primary .now))) _ (mutations-by-keys (a .batch .now) _ _ ∙ (c .before .before .before .before .before .before .before .before .pre) .0 .form .ascends) ((c .before .before .before .before .before .before .before .before .pre) .0 .made .built .kept) (seeing-end ((c .before .before .before .loop) .inv) ((c .before .before .loop-test) .left)) ((c .judge) .ensures)
+returns-2 c = let a = (c .before .before .before .before .before .before .before .before .args) in all-judged (weighed (withPrimary (a .terms) (a .primary .now))) _ (mutations-by-keys (a .batch .now) _ _ ∙ (c .before .before .before .before .before .before .before .before .pre) .0 .form .ascends) ((c .before .before .before .before .before .before .before .before .pre) .0 .made .built .kept) (seeing-end ((c .before .before .before .loop) .inv) ((c .before .before .loop-test) .left)) ((c .judge) .ensures)
 
 pub check-all-spec : {M : Type 1} → statement M
 check-all-spec =

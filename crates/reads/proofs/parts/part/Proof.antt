@@ -1,3 +1,5 @@
+-- `reads::parts::part` meets its contract.
+-- Assumes nothing.
 use native.Mathlib.Nat.{add-sub-cancel-left}
 use Rattle.reads.proofs.PartLaws.{part-past, part-short, part-in}
 use borrow.Author.Needs.{needs}

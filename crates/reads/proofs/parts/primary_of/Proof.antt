@@ -1,3 +1,5 @@
+-- `reads::parts::primary_of` meets its contract.
+-- Assumes nothing.
 use Rattle.reads.proofs.PartLaws.{primary-part}
 use borrow.Author.Needs.{needs}
 use Rattle.reads.proofs.parts.primary_of.Statement.{statement}

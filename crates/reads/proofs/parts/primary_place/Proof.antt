@@ -1,3 +1,5 @@
+-- `reads::parts::primary_place` meets its contract.
+-- Assumes nothing.
 use Rattle.reads.specs.Parts.{primaryPlace}
 use borrow.Author.Needs.{needs}
 use mathlib.Core.Path.{sym, ap}

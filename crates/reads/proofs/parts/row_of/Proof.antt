@@ -1,3 +1,5 @@
+-- `reads::parts::row_of` meets its contract.
+-- Assumes nothing.
 use Rattle.reads.proofs.PartLaws.{row-part}
 use borrow.Author.Needs.{needs}
 use Rattle.reads.proofs.parts.row_of.Statement.{statement}

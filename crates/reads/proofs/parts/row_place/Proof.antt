@@ -1,3 +1,5 @@
+-- `reads::parts::row_place` meets its contract.
+-- Assumes nothing.
 use Rattle.reads.specs.Parts.{rowPlace}
 use borrow.Author.Needs.{needs}
 use mathlib.Core.Path.{sym, ap}

@@ -1,3 +1,5 @@
+-- `reads::rows::lock_lets` meets its contract.
+-- Assumes nothing.
 use Rattle.reads.proofs.ReadLaws.{lets-nobody, lets-above, lets-held}
 use borrow.Author.Needs.{needs}
 use Rattle.reads.proofs.rows.lock_lets.Statement.{statement}

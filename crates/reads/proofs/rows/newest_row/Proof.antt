@@ -1,3 +1,5 @@
+-- `reads::rows::newest_row` meets its contract.
+-- Assumes nothing.
 use Rattle.reads.specs.Seen.{newestSeen}
 use borrow.Author.Needs.{needs}
 use mathlib.Core.Path.{sym, ap, _∙_}

@@ -1,6 +1,6 @@
--- `restores::fill::put_line` meets its contract: a line that comes has place and is shown with its row, else the slot is empty (`EntryLaws`).
+-- `restores::fill::put_line` meets its contract: a line that comes has place and is shown with its row, else the slot is empty (`PutLineLaws`).
 -- Assumes nothing.
-use Rattle.restores.proofs.EntryLaws.{put-row-asks, put-asks, put-done, put-none}
+use Rattle.restores.proofs.PutLineLaws.{put-row-asks, put-asks, put-done, put-none}
 use borrow.Author.Needs.{needs}
 use borrow.Author.Tests.{lt-ltb, le-ltb}
 use mathlib.Core.Path.{refl}

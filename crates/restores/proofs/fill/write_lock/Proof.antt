@@ -1,6 +1,6 @@
 -- `restores::fill::write_lock` meets its contract.
 -- Assumes nothing.
-use Rattle.restores.proofs.EntryLaws.{lock-written}
+use Rattle.restores.proofs.PutLineLaws.{lock-written}
 use native.Mathlib.Nat.{add-sub-cancel-left}
 use borrow.Author.Needs.{needs}
 use native.Mathlib.Omega.{arith}

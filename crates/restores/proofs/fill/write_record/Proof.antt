@@ -1,6 +1,6 @@
 -- `restores::fill::write_record` meets its contract.
 -- Assumes nothing.
-use Rattle.restores.proofs.EntryLaws.{record-written}
+use Rattle.restores.proofs.PutLineLaws.{record-written}
 use native.Mathlib.Nat.{add-sub-cancel-left}
 use borrow.Author.Needs.{needs}
 use Prim.Native.Nat.{_-_}

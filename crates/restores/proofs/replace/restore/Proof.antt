@@ -11,13 +11,13 @@ use Rattle.restores.proofs.replace.restore.Statement.{statement}
 use Rattle.restores.proofs.replace.restore.Tie as tie
 
 abbrev Inv-loop : tie.InvT-loop
-Inv-loop area₀ image store₀ rows places v answer load n d end top₀ next₀ k₀ area store top next k = Filling image load (v .wat) rows places store₀ end k top area store
+Inv-loop area₀ image store₀ rows places v answer load n d end top₀ next₀ k₀ area store top next k = Filling image load (v .writesat) rows places store₀ end k top area store
 
 abbrev μ-loop : tie.MeasureT-loop
 μ-loop area₀ image store₀ rows places v answer load n d end top₀ next₀ k₀ area store top next k = end - k
 
 loop-holds : tie.Need-loop-holds Inv-loop μ-loop
-loop-holds c = filling-start ((c .before .before .before .before .before .before .before .verdict) .ensures) ((c .before .before .before .before .accepted) .ensures) ((c .before .before .before .if1) .taken) (c .before .before .before .before .before .before .before .before .before .before .before .pre) ((c .larger) .ensures)
+loop-holds c = filling-start ((c .before .before .before .before .before .before .before .verdict) .ensures) ((c .before .before .before .before .accepted) .ensures) ((c .before .before .before .if1) .taken) (c .before .before .before .before .before .before .before .before .before .before .before .pre) ((c .longer) .ensures)
 
 slice-aggregate-put-line : tie.Need-slice-aggregate-put-line Inv-loop μ-loop
 slice-aggregate-put-line c = sym (length-take-le _ _ (rows-few ((c .before .before .before .loop) .inv)))
@@ -32,7 +32,7 @@ loop-again : tie.Need-loop-again Inv-loop μ-loop
 loop-again c = filling-more ((c .before .before .before .before .before .loop) .inv) _ _ _ ((c .before .put-line) .ensures) ((c .before .before .before .before .loop-test) .taken)
 
 returns : tie.Need-returns Inv-loop μ-loop
-returns c = restore-done ((c .before .before .before .before .before .before .before .before .before .verdict) .ensures) ((c .before .before .before .before .before .before .accepted) .ensures) (c .before .before .before .before .before .before .before .before .before .before .before .before .before .pre) ((c .before .before .before .before .before .if1) .taken) ((c .before .loop) .inv) ((c .before .before .larger) .ensures) ((c .loop-test) .left)
+returns c = restore-done ((c .before .before .before .before .before .before .before .before .before .verdict) .ensures) ((c .before .before .before .before .before .before .accepted) .ensures) (c .before .before .before .before .before .before .before .before .before .before .before .before .before .pre) ((c .before .before .before .before .before .if1) .taken) ((c .before .loop) .inv) ((c .before .before .longer) .ensures) ((c .loop-test) .left)
 
 returns-2 : tie.Need-returns-2 Inv-loop μ-loop
 returns-2 c = restore-refused ((c .before .before .before .before .verdict) .ensures) ((c .before .accepted) .ensures) (c .before .before .before .before .before .before .before .before .pre) ((c .if1) .left)

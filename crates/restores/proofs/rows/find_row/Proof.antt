@@ -1,6 +1,6 @@
--- `restores::rows::find_row` meets its contract (`RowLaws`).
+-- `restores::rows::find_row` meets its contract (`FindRowLaws`).
 -- Assumes nothing.
-use Rattle.restores.proofs.RowLaws.{other-row, row-inside, row-found}
+use Rattle.restores.proofs.FindRowLaws.{other-row, row-inside, row-found}
 use borrow.Author.Needs.{needs}
 use native.Mathlib.Omega.{arith}
 use Rattle.restores.proofs.rows.find_row.Statement.{statement}

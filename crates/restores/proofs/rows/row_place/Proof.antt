@@ -1,7 +1,7 @@
 -- `restores::rows::row_place` meets its contract. The loop's invariant: the place is at least `low` and at most `high` (`Searching` of
--- `RowLaws`). The measure is how far they are apart.
+-- `FindRowLaws`). The measure is how far they are apart.
 -- Assumes nothing.
-use Rattle.restores.proofs.RowLaws.{Searching, search-start, search-up, search-down}
+use Rattle.restores.proofs.FindRowLaws.{Searching, search-start, search-up, search-down}
 use borrow.Author.Needs.{needs}
 use native.Mathlib.Omega.{arith}
 use Prim.Native.Nat.{_-_}

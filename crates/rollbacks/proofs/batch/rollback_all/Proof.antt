@@ -1,9 +1,9 @@
 -- `rollbacks::batch::rollback_all` meets its contract.
 -- Assumes nothing.
 use Rattle.forms.specs.Places.{keyAt}
-use Rattle.lines.specs.View.{boxOf}
+use Rattle.store.specs.View.{boxOf}
 use Rattle.calls.proofs.DoneLaws.{asks-if, pass-checked, pass-fit, pass-done}
-use Rattle.rollbacks.proofs.ApplyLaws.{zero-start, rolls-ready}
+use Rattle.rollbacks.proofs.RollbackApplyLaws.{zero-start, rolls-ready}
 use borrow.Author.Needs.{needs}
 use Prim.Native.Nat.{_-_}
 use mathlib.Core.Path.{refl}

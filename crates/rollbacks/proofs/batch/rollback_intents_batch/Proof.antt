@@ -1,10 +1,10 @@
 -- `rollbacks::batch::rollback_intents_batch` meets its contract.
 -- Assumes nothing.
-use Rattle.forms.proofs.BatchLaws.{keys-in-form}
+use Rattle.forms.proofs.DecodeLaws.{keys-in-form}
 use Rattle.rules.specs.Rollback.{rollbackBatch}
 use Rattle.calls.proofs.SettledLaws.{is-accepted, is-refusal}
 use Rattle.calls.proofs.DoneLaws.{batch-refused, batch-good, batch-head, batch-done}
-use Rattle.rollbacks.proofs.ApplyLaws.{by-keys}
+use Rattle.rollbacks.proofs.RollbackApplyLaws.{by-keys}
 use borrow.Author.Needs.{needs}
 use Rattle.rollbacks.proofs.batch.rollback_intents_batch.Statement.{statement}
 use Rattle.rollbacks.proofs.batch.rollback_intents_batch.Tie as tie

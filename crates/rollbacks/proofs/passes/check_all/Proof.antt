@@ -1,14 +1,14 @@
 -- `rollbacks::passes::check_all` meets its contract.
 -- Assumes nothing.
 use Rattle.forms.specs.Places.{keyAt}
-use Rattle.lines.specs.View.{boxOf}
+use Rattle.store.specs.View.{boxOf}
 use Rattle.calls.proofs.SettledLaws.{is-accepted, is-refusal}
-use Rattle.calls.proofs.EntryLaws.{key-short}
+use Rattle.calls.proofs.EntryPartLaws.{key-short}
 use Rattle.calls.proofs.PassLaws.{pass-small, pass-in}
 use Rattle.calls.proofs.SeenLaws.{SeeingAll, seeing-start, seeing-small, seeing-more, seeing-out, seeing-end}
-use Rattle.calls.proofs.JudgeLaws.{all-refused, judge-asks, all-judged}
+use Rattle.calls.proofs.RoomJudgeLaws.{all-refused, judge-asks, all-judged}
 use Rattle.rollbacks.specs.Checks.{stepsOf}
-use Rattle.rollbacks.proofs.ApplyLaws.{weighed}
+use Rattle.rollbacks.proofs.RollbackApplyLaws.{weighed}
 use Prim.Native.Nat.{_-_}
 use borrow.Author.Needs.{needs}
 use native.Mathlib.Omega.{arith}

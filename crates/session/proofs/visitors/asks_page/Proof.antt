@@ -5,7 +5,7 @@ use Prim.Native.Nat.{ℕ}
 use mathlib.Core.Path.{sym}
 use lib.ListN.{length-replicate}
 use lib.Seq.{length-take-le}
-use Rattle.session.proofs.PageLaws.{page-within}
+use Rattle.session.proofs.WrittenPageLaws.{page-within}
 use Rattle.session.proofs.visitors.asks_page.Statement.{statement}
 use Rattle.session.proofs.visitors.asks_page.Tie as tie
 

@@ -1,6 +1,6 @@
--- `traces::trace::call_at` meets its contract: each way out is a law of `WalkLaws`.
+-- `traces::trace::call_at` meets its contract: each way out is a law of `TraceWalkLaws`.
 -- Assumes nothing.
-use Rattle.traces.proofs.WalkLaws.{call-none, call-in, call-short, call-cut, call-long-in, call-long}
+use Rattle.traces.proofs.TraceWalkLaws.{call-none, call-in, call-short, call-cut, call-long-in, call-long}
 use borrow.Author.Needs.{needs}
 use native.Mathlib.Omega.{arith}
 use Rattle.traces.proofs.trace.call_at.Statement.{statement}

@@ -1,6 +1,6 @@
--- `traces::trace::first_call` meets its contract: with and without a count, by `WalkLaws`.
+-- `traces::trace::first_call` meets its contract: with and without a count, by `TraceWalkLaws`.
 -- Assumes nothing.
-use Rattle.traces.proofs.WalkLaws.{first-none, first-some}
+use Rattle.traces.proofs.TraceWalkLaws.{first-none, first-some}
 use borrow.Author.Needs.{needs}
 use Rattle.traces.proofs.trace.first_call.Statement.{statement}
 use Rattle.traces.proofs.trace.first_call.Tie as tie

@@ -1,6 +1,6 @@
--- `traces::trace::stretch_at` meets its contract: the bytes are there or not, by `WalkLaws`.
+-- `traces::trace::stretch_at` meets its contract: the bytes are there or not, by `TraceWalkLaws`.
 -- Assumes nothing.
-use Rattle.traces.proofs.WalkLaws.{stretch-none, stretch-found}
+use Rattle.traces.proofs.TraceWalkLaws.{stretch-none, stretch-found}
 use borrow.Author.Needs.{needs}
 use Rattle.traces.proofs.trace.stretch_at.Statement.{statement}
 use Rattle.traces.proofs.trace.stretch_at.Tie as tie

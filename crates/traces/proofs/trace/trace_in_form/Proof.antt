@@ -1,11 +1,11 @@
 -- `traces::trace::trace_in_form` meets its contract. The loop's invariant: the calls still to be judged have the verdict of the whole
--- (`Counting` of `WalkLaws`). The measure is how many are left.
+-- (`Counting` of `TraceWalkLaws`). The measure is how many are left.
 -- Assumes nothing.
-use Rattle.traces.proofs.WalkLaws.{counting-start, counting-bad, counting-more, counting-end, call-bad, call-reads, trace-long, trace-empty, trace-counted, trace-two}
-use Rattle.forms.proofs.ReadLaws.{reads-bad, reads-good}
+use Rattle.traces.proofs.TraceWalkLaws.{counting-start, counting-bad, counting-more, counting-end, call-bad, call-reads, trace-long, trace-empty, trace-counted, trace-two}
+use Rattle.forms.proofs.ReaderLaws.{reads-bad, reads-good}
 use native.Mathlib.Nat.{add-sub-cancel-left}
 use Rattle.traces.specs.Trace.{framedCall}
-use Rattle.traces.proofs.WalkLaws.{Counting}
+use Rattle.traces.proofs.TraceWalkLaws.{Counting}
 use borrow.Author.Needs.{needs}
 use native.Mathlib.Omega.{arith}
 use Rattle.traces.proofs.trace.trace_in_form.Statement.{statement}

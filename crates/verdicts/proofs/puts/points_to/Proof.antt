@@ -1,7 +1,7 @@
--- `verdicts::puts::points_to` meets its contract: each way out is a law of `PutLaws`.
+-- `verdicts::puts::points_to` meets its contract: each way out is a law of `PutsMatchLaws`.
 -- Assumes nothing.
 use native.Mathlib.Nat.{add-sub-cancel-left}
-use Rattle.verdicts.proofs.PutLaws.{other-start, by-key}
+use Rattle.verdicts.proofs.PutsMatchLaws.{other-start, by-key}
 use borrow.Author.Needs.{needs}
 use Rattle.verdicts.proofs.puts.points_to.Statement.{statement}
 use Rattle.verdicts.proofs.puts.points_to.Tie as tie

@@ -1,6 +1,6 @@
--- `verdicts::puts::puts_match` meets its contract: each step and each way out is a law of `PutLaws`.
+-- `verdicts::puts::puts_match` meets its contract: each step and each way out is a law of `PutsMatchLaws`.
 -- Assumes nothing.
-use Rattle.verdicts.proofs.PutLaws.{Matching, match-end, match-other, match-none, match-wrong, match-next}
+use Rattle.verdicts.proofs.PutsMatchLaws.{Matching, match-end, match-other, match-none, match-wrong, match-next}
 use borrow.Author.Needs.{needs}
 use native.Mathlib.Omega.{arith}
 use Prim.Native.Nat.{_-_}

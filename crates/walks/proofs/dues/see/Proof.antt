@@ -1,3 +1,5 @@
+-- `walks::dues::see` meets its contract.
+-- Assumes nothing.
 use borrow.Author.Needs.{needs}
 use mathlib.Core.Path.{sym, _∙_}
 use Rattle.walks.proofs.dues.see.Statement.{statement}

@@ -1,3 +1,5 @@
+-- `walks::dues::see_lock` meets its contract.
+-- Assumes nothing.
 use Rattle.walks.proofs.TurnLaws.{lock-every, lock-skips, lock-stays}
 use borrow.Author.Needs.{needs}
 use Rattle.walks.proofs.dues.see_lock.Statement.{statement}

@@ -1,3 +1,5 @@
+-- `walks::dues::see_row` meets its contract.
+-- Assumes nothing.
 use Rattle.walks.proofs.TurnLaws.{row-late, row-lock, row-kind}
 use borrow.Author.Needs.{needs}
 use Rattle.walks.proofs.dues.see_row.Statement.{statement}

@@ -1,3 +1,5 @@
+-- `walks::judge::judge_page` meets its contract.
+-- Assumes nothing.
 use Rattle.walks.proofs.WalkLaws.{judge-past, judge-walk, judge-no, judge-held}
 use borrow.Author.Needs.{needs}
 use Rattle.walks.proofs.judge.judge_page.Statement.{statement}

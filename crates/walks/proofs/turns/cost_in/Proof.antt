@@ -1,3 +1,5 @@
+-- `walks::turns::cost_in` meets its contract.
+-- Assumes nothing.
 use borrow.Author.Needs.{needs}
 use mathlib.Core.Path.{sym}
 use Rattle.walks.proofs.turns.cost_in.Statement.{statement}

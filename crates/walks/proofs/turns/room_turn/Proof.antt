@@ -1,3 +1,5 @@
+-- `walks::turns::room_turn` meets its contract.
+-- Assumes nothing.
 use Rattle.walks.proofs.TurnLaws.{room-full, room-first, room-large, room-add}
 use borrow.Author.Needs.{needs}
 use Rattle.walks.proofs.turns.room_turn.Statement.{statement}

@@ -1,3 +1,5 @@
+-- `walks::turns::turn_of` meets its contract.
+-- Assumes nothing.
 use borrow.Author.Tests.{not-true, not-false}
 use borrow.Author.Needs.{needs}
 use mathlib.Core.Path.{sym, _∙_}

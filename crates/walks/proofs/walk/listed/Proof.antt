@@ -1,3 +1,5 @@
+-- `walks::walk::listed` meets its contract.
+-- Assumes nothing.
 use Rattle.walks.proofs.TurnLaws.{over-small}
 use borrow.Author.Needs.{needs}
 use native.Mathlib.Omega.{arith}

@@ -1,6 +1,8 @@
+-- `walks::walk::walk_lines` meets its contract.
+-- Assumes nothing.
 use Rattle.bounds.specs.Bounds.{boundsOf}
-use Rattle.lines.proofs.LookLaws.{slot-in}
-use Rattle.walks.proofs.LineLaws.{key-in, Pass, pass-start, pass-end, pass-small, pass-waits, pass-on, pass-stop, pass-refuse, pass-cheap, pass-add}
+use Rattle.store.proofs.LookUpLaws.{slot-in}
+use Rattle.walks.proofs.WalkLineLaws.{key-in, Pass, pass-start, pass-end, pass-small, pass-waits, pass-on, pass-stop, pass-refuse, pass-cheap, pass-add}
 use borrow.Author.Needs.{needs}
 use native.Mathlib.Omega.{arith}
 use Prim.Native.Nat.{_-_}
@@ -17,19 +19,19 @@ loop-holds : tie.Need-loop-holds Inv-loop μ-loop
 loop-holds c = pass-start (c .before .before .before .before .before .before .before .before .before .pre) _ ((c .before .no-slot) .ensures) ((c .no-due) .ensures)
 
 mul-t : tie.Need-mul-t Inv-loop μ-loop
-mul-t c = omega (arith, (c .later) .ensures .within, (c .before .before .before .before .before .before .before .before .before .before .before .before .before .pre) .built .lines .few)
+mul-t c = omega (arith, (c .later) .ensures .within, (c .before .before .before .before .before .before .before .before .before .before .before .before .before .pre) .built .lines .count-fits)
 
 array-copy-out-t : tie.Need-array-copy-out-t Inv-loop μ-loop
-array-copy-out-t c = omega (arith, (c .later) .ensures .within, (c .before .before .before .before .before .before .before .before .before .before .before .before .before .pre) .built .lines .few)
+array-copy-out-t c = omega (arith, (c .later) .ensures .within, (c .before .before .before .before .before .before .before .before .before .before .before .before .before .pre) .built .lines .count-fits)
 
-line-of-requires : tie.Need-line-of-requires Inv-loop μ-loop
-line-of-requires c κs = slot-in ((c .before .before .before .before .before .before .before .before .before .before .before .before .before .before .pre) .built) ((c .before .before .before .before .loop) .i) ((c .before .before .before .loop-test) .taken)
+view-of-requires : tie.Need-view-of-requires Inv-loop μ-loop
+view-of-requires c κs = slot-in ((c .before .before .before .before .before .before .before .before .before .before .before .before .before .before .pre) .built) ((c .before .before .before .before .loop) .i) ((c .before .before .before .loop-test) .taken)
 
 slots-share-requires : tie.Need-slots-share-requires Inv-loop μ-loop
 slots-share-requires c κs = (key-in ((c .before .before .before .before .before .before .before .before .before .before .before .before .before .before .before .before .pre) .built) ((c .before .before .before .before .before .before .loop) .i) ((c .before .before .before .before .before .loop-test) .taken), key-in ((c .before .before .before .before .before .before .before .before .before .before .before .before .before .before .before .before .pre) .built) ((c .before .before .before .later) .result) ((c .before .before .before .later) .ensures .within))
 
 loop-again : tie.Need-loop-again Inv-loop μ-loop
-loop-again c = pass-waits (c .before .before .before .before .before .before .before .before .before .before .before .before .before .before .before .before .before .before .before .before .pre) _ ((c .before .before .before .before .before .before .before .before .before .before .loop) .inv) ((c .before .before .before .before .before .before .before .before .before .loop-test) .taken) ((c .before .before .before .before .before .line-of) .ensures) ((c .before .before .before .before .see) .ensures) ((c .before .before .before .before .before .before .before .later) .ensures) ((c .before .before .before .before .before .before .before .before .before .before .before .before .before .by-key) .ensures) ((c .before .before .before .slots-share) .ensures) ((c .before .before .both) .ensures) ((c .before .both2) .ensures) ((c .if1) .taken)
+loop-again c = pass-waits (c .before .before .before .before .before .before .before .before .before .before .before .before .before .before .before .before .before .before .before .before .pre) _ ((c .before .before .before .before .before .before .before .before .before .before .loop) .inv) ((c .before .before .before .before .before .before .before .before .before .loop-test) .taken) ((c .before .before .before .before .before .view-of) .ensures) ((c .before .before .before .before .see) .ensures) ((c .before .before .before .before .before .before .before .later) .ensures) ((c .before .before .before .before .before .before .before .before .before .before .before .before .before .by-key) .ensures) ((c .before .before .before .slots-share) .ensures) ((c .before .before .both) .ensures) ((c .before .both2) .ensures) ((c .if1) .taken)
 
 slot-inside-requires : tie.Need-slot-inside-requires Inv-loop μ-loop
 slot-inside-requires c κs = key-in ((c .before .before .before .before .before .before .before .before .before .before .before .before .before .before .before .before .before .before .before .before .before .pre) .built) ((c .before .before .before .before .before .before .before .before .before .before .before .loop) .i) ((c .before .before .before .before .before .before .before .before .before .before .loop-test) .taken)
@@ -38,34 +40,34 @@ turn-of-requires : tie.Need-turn-of-requires Inv-loop μ-loop
 turn-of-requires c κs = pass-small (c .before .before .before .before .before .before .before .before .before .before .before .before .before .before .before .before .before .before .before .before .before .before .pre) _ ((c .before .before .before .before .before .before .before .before .before .before .before .before .loop) .inv) .1
 
 loop-again-2 : tie.Need-loop-again-2 Inv-loop μ-loop
-loop-again-2 c = pass-on (c .before .before .before .before .before .before .before .before .before .before .before .before .before .before .before .before .before .before .before .before .before .before .before .before .before .pre) _ ((c .before .before .before .before .before .before .before .before .before .before .before .before .before .before .before .loop) .inv) ((c .before .before .before .before .before .before .before .before .before .before .before .before .before .before .loop-test) .taken) ((c .before .before .before .before .before .before .before .before .before .before .line-of) .ensures) ((c .before .before .before .before .before .before .before .before .before .see) .ensures) ((c .before .before .before .before .before .before .before .before .before .before .before .before .later) .ensures) ((c .before .before .before .before .before .before .before .before .before .before .before .before .before .before .before .before .before .before .by-key) .ensures) ((c .before .before .before .before .before .before .before .before .slots-share) .ensures) ((c .before .before .before .before .before .before .before .both) .ensures) ((c .before .before .before .before .before .before .both2) .ensures) ((c .before .before .before .before .before .if1) .left) ((c .before .before .before .slot-inside) .ensures) ((c .before .before .turn-of) .ensures) ((c .before .before .before .before .no-due2) .ensures) ((c .enum-told) .given .1)
+loop-again-2 c = pass-on (c .before .before .before .before .before .before .before .before .before .before .before .before .before .before .before .before .before .before .before .before .before .before .before .before .before .pre) _ ((c .before .before .before .before .before .before .before .before .before .before .before .before .before .before .before .loop) .inv) ((c .before .before .before .before .before .before .before .before .before .before .before .before .before .before .loop-test) .taken) ((c .before .before .before .before .before .before .before .before .before .before .view-of) .ensures) ((c .before .before .before .before .before .before .before .before .before .see) .ensures) ((c .before .before .before .before .before .before .before .before .before .before .before .before .later) .ensures) ((c .before .before .before .before .before .before .before .before .before .before .before .before .before .before .before .before .before .before .by-key) .ensures) ((c .before .before .before .before .before .before .before .before .slots-share) .ensures) ((c .before .before .before .before .before .before .before .both) .ensures) ((c .before .before .before .before .before .before .both2) .ensures) ((c .before .before .before .before .before .if1) .left) ((c .before .before .before .slot-inside) .ensures) ((c .before .before .turn-of) .ensures) ((c .before .before .before .before .no-due2) .ensures) ((c .enum-told) .given .1)
 
 listed-requires : tie.Need-listed-requires Inv-loop μ-loop
 listed-requires c κs = pass-small (c .before .before .before .before .before .before .before .before .before .before .before .before .before .before .before .before .before .before .before .before .before .before .before .before .before .pre) _ ((c .before .before .before .before .before .before .before .before .before .before .before .before .before .before .before .loop) .inv)
 
 returns : tie.Need-returns Inv-loop μ-loop
-returns c = pass-stop (c .before .before .before .before .before .before .before .before .before .before .before .before .before .before .before .before .before .before .before .before .before .before .before .before .before .before .pre) _ ((c .before .before .before .before .before .before .before .before .before .before .before .before .before .before .before .before .loop) .inv) ((c .before .before .before .before .before .before .before .before .before .before .before .before .before .before .before .loop-test) .taken) ((c .before .before .before .before .before .before .before .before .before .before .before .line-of) .ensures) ((c .before .before .before .before .before .before .before .before .before .before .see) .ensures) ((c .before .before .before .before .before .before .before .before .before .before .before .before .before .later) .ensures) ((c .before .before .before .before .before .before .before .before .before .before .before .before .before .before .before .before .before .before .before .by-key) .ensures) ((c .before .before .before .before .before .before .before .before .before .slots-share) .ensures) ((c .before .before .before .before .before .before .before .before .both) .ensures) ((c .before .before .before .before .before .before .before .both2) .ensures) ((c .before .before .before .before .before .before .if1) .left) ((c .before .before .before .before .slot-inside) .ensures) ((c .before .before .before .turn-of) .ensures) ((c .before .enum-told2) .given .1) ((c .listed) .ensures)
+returns c = pass-stop (c .before .before .before .before .before .before .before .before .before .before .before .before .before .before .before .before .before .before .before .before .before .before .before .before .before .before .pre) _ ((c .before .before .before .before .before .before .before .before .before .before .before .before .before .before .before .before .loop) .inv) ((c .before .before .before .before .before .before .before .before .before .before .before .before .before .before .before .loop-test) .taken) ((c .before .before .before .before .before .before .before .before .before .before .before .view-of) .ensures) ((c .before .before .before .before .before .before .before .before .before .before .see) .ensures) ((c .before .before .before .before .before .before .before .before .before .before .before .before .before .later) .ensures) ((c .before .before .before .before .before .before .before .before .before .before .before .before .before .before .before .before .before .before .before .by-key) .ensures) ((c .before .before .before .before .before .before .before .before .before .slots-share) .ensures) ((c .before .before .before .before .before .before .before .before .both) .ensures) ((c .before .before .before .before .before .before .before .both2) .ensures) ((c .before .before .before .before .before .before .if1) .left) ((c .before .before .before .before .slot-inside) .ensures) ((c .before .before .before .turn-of) .ensures) ((c .before .enum-told2) .given .1) ((c .listed) .ensures)
 
 returns-2 : tie.Need-returns-2 Inv-loop μ-loop
-returns-2 c = pass-refuse (c .before .before .before .before .before .before .before .before .before .before .before .before .before .before .before .before .before .before .before .before .before .before .before .before .before .before .before .pre) _ ((c .before .before .before .before .before .before .before .before .before .before .before .before .before .before .before .before .before .loop) .inv) ((c .before .before .before .before .before .before .before .before .before .before .before .before .before .before .before .before .loop-test) .taken) ((c .before .before .before .before .before .before .before .before .before .before .before .before .line-of) .ensures) ((c .before .before .before .before .before .before .before .before .before .before .before .see) .ensures) ((c .before .before .before .before .before .before .before .before .before .before .before .before .before .before .later) .ensures) ((c .before .before .before .before .before .before .before .before .before .before .before .before .before .before .before .before .before .before .before .before .by-key) .ensures) ((c .before .before .before .before .before .before .before .before .before .before .slots-share) .ensures) ((c .before .before .before .before .before .before .before .before .before .both) .ensures) ((c .before .before .before .before .before .before .before .before .both2) .ensures) ((c .before .before .before .before .before .before .before .if1) .left) ((c .before .before .before .before .before .slot-inside) .ensures) ((c .before .before .before .before .turn-of) .ensures) ((c .before .before .turn) .given .1) ((c .empty) .ensures)
+returns-2 c = pass-refuse (c .before .before .before .before .before .before .before .before .before .before .before .before .before .before .before .before .before .before .before .before .before .before .before .before .before .before .before .pre) _ ((c .before .before .before .before .before .before .before .before .before .before .before .before .before .before .before .before .before .loop) .inv) ((c .before .before .before .before .before .before .before .before .before .before .before .before .before .before .before .before .loop-test) .taken) ((c .before .before .before .before .before .before .before .before .before .before .before .before .view-of) .ensures) ((c .before .before .before .before .before .before .before .before .before .before .before .see) .ensures) ((c .before .before .before .before .before .before .before .before .before .before .before .before .before .before .later) .ensures) ((c .before .before .before .before .before .before .before .before .before .before .before .before .before .before .before .before .before .before .before .before .by-key) .ensures) ((c .before .before .before .before .before .before .before .before .before .before .slots-share) .ensures) ((c .before .before .before .before .before .before .before .before .before .both) .ensures) ((c .before .before .before .before .before .before .before .before .both2) .ensures) ((c .before .before .before .before .before .before .before .if1) .left) ((c .before .before .before .before .before .slot-inside) .ensures) ((c .before .before .before .before .turn-of) .ensures) ((c .before .before .turn) .given .1) ((c .empty) .ensures)
 
 mul-found : tie.Need-mul-found Inv-loop μ-loop
 mul-found c = omega (arith, pass-small (c .before .before .before .before .before .before .before .before .before .before .before .before .before .before .before .before .before .before .before .before .before .before .before .before .before .before .pre) _ ((c .before .before .before .before .before .before .before .before .before .before .before .before .before .before .before .before .loop) .inv) .0)
 
 array-set-from-found : tie.Need-array-set-from-found Inv-loop μ-loop
-array-set-from-found c = omega (arith, (c .before .before .before .before .before .before .before .before .before .before .before .before .before .before .before .before .loop) .inv .walking .few, (c .before .before .before .before .before .before .before .before .before .before .before .before .before .before .before .before .loop) .inv .walking .most, (c .before .before .before .before .before .before .before .before .before .before .before .before .before .before .before .loop-test) .taken, (c .before .before .before .before .before .before .before .before .before .before .before .before .before .before .before .before .loop) .inv .walking .table .long)
+array-set-from-found c = omega (arith, (c .before .before .before .before .before .before .before .before .before .before .before .before .before .before .before .before .loop) .inv .walking .count-fits, (c .before .before .before .before .before .before .before .before .before .before .before .before .before .before .before .before .loop) .inv .walking .most, (c .before .before .before .before .before .before .before .before .before .before .before .before .before .before .before .loop-test) .taken, (c .before .before .before .before .before .before .before .before .before .before .before .before .before .before .before .before .loop) .inv .walking .table .length-is)
 
 add-count : tie.Need-add-count Inv-loop μ-loop
 add-count c = omega (arith, pass-small (c .before .before .before .before .before .before .before .before .before .before .before .before .before .before .before .before .before .before .before .before .before .before .before .before .before .before .pre) _ ((c .before .before .before .before .before .before .before .before .before .before .before .before .before .before .before .before .loop) .inv) .0)
 
 add-sum : tie.Need-add-sum Inv-loop μ-loop
-add-sum c = omega (arith, pass-small (c .before .before .before .before .before .before .before .before .before .before .before .before .before .before .before .before .before .before .before .before .before .before .before .before .before .before .pre) _ ((c .before .before .before .before .before .before .before .before .before .before .before .before .before .before .before .before .loop) .inv) .1, pass-cheap (c .before .before .before .before .before .before .before .before .before .before .before .before .before .before .before .before .before .before .before .before .before .before .before .before .before .before .pre) _ ((c .before .before .before .before .before .before .before .before .before .before .before .before .before .before .before .before .loop) .inv) ((c .before .before .before .before .before .before .before .before .before .before .before .before .before .before .before .loop-test) .taken) ((c .before .before .before .before .before .before .before .before .before .before .before .line-of) .ensures) ((c .before .before .before .before .before .before .before .before .before .before .see) .ensures) ((c .before .before .before .before .before .before .before .before .before .before .before .before .before .later) .ensures) ((c .before .before .before .before .before .before .before .before .before .before .before .before .before .before .before .before .before .before .before .by-key) .ensures) ((c .before .before .before .before .before .before .before .before .before .slots-share) .ensures) ((c .before .before .before .before .before .before .before .before .both) .ensures) ((c .before .before .before .before .before .before .before .both2) .ensures) ((c .before .before .before .before .before .before .if1) .left) ((c .before .before .before .before .slot-inside) .ensures) ((c .before .before .before .turn-of) .ensures) ((c .before .turn2) .given .1))
+add-sum c = omega (arith, pass-small (c .before .before .before .before .before .before .before .before .before .before .before .before .before .before .before .before .before .before .before .before .before .before .before .before .before .before .pre) _ ((c .before .before .before .before .before .before .before .before .before .before .before .before .before .before .before .before .loop) .inv) .1, pass-cheap (c .before .before .before .before .before .before .before .before .before .before .before .before .before .before .before .before .before .before .before .before .before .before .before .before .before .before .pre) _ ((c .before .before .before .before .before .before .before .before .before .before .before .before .before .before .before .before .loop) .inv) ((c .before .before .before .before .before .before .before .before .before .before .before .before .before .before .before .loop-test) .taken) ((c .before .before .before .before .before .before .before .before .before .before .before .view-of) .ensures) ((c .before .before .before .before .before .before .before .before .before .before .see) .ensures) ((c .before .before .before .before .before .before .before .before .before .before .before .before .before .later) .ensures) ((c .before .before .before .before .before .before .before .before .before .before .before .before .before .before .before .before .before .before .before .by-key) .ensures) ((c .before .before .before .before .before .before .before .before .before .slots-share) .ensures) ((c .before .before .before .before .before .before .before .before .both) .ensures) ((c .before .before .before .before .before .before .before .both2) .ensures) ((c .before .before .before .before .before .before .if1) .left) ((c .before .before .before .before .slot-inside) .ensures) ((c .before .before .before .turn-of) .ensures) ((c .before .turn2) .given .1))
 
 loop-less-3 : tie.Need-loop-less-3 Inv-loop μ-loop
 loop-less-3 c = omega (arith, (c .before .before .before .before .before .before .before .before .before .before .before .before .before .before .before .loop-test) .taken)
 
 loop-again-3 : tie.Need-loop-again-3 Inv-loop μ-loop
-loop-again-3 c = pass-add (c .before .before .before .before .before .before .before .before .before .before .before .before .before .before .before .before .before .before .before .before .before .before .before .before .before .before .pre) _ ((c .before .before .before .before .before .before .before .before .before .before .before .before .before .before .before .before .loop) .inv) ((c .before .before .before .before .before .before .before .before .before .before .before .before .before .before .before .loop-test) .taken) ((c .before .before .before .before .before .before .before .before .before .before .before .line-of) .ensures) ((c .before .before .before .before .before .before .before .before .before .before .see) .ensures) ((c .before .before .before .before .before .before .before .before .before .before .before .before .before .later) .ensures) ((c .before .before .before .before .before .before .before .before .before .before .before .before .before .before .before .before .before .before .before .by-key) .ensures) ((c .before .before .before .before .before .before .before .before .before .slots-share) .ensures) ((c .before .before .before .before .before .before .before .before .both) .ensures) ((c .before .before .before .before .before .before .before .both2) .ensures) ((c .before .before .before .before .before .before .if1) .left) ((c .before .before .before .before .slot-inside) .ensures) ((c .before .before .before .turn-of) .ensures) ((c .before .before .before .before .before .no-due2) .ensures) ((c .before .turn2) .given .1)
+loop-again-3 c = pass-add (c .before .before .before .before .before .before .before .before .before .before .before .before .before .before .before .before .before .before .before .before .before .before .before .before .before .before .pre) _ ((c .before .before .before .before .before .before .before .before .before .before .before .before .before .before .before .before .loop) .inv) ((c .before .before .before .before .before .before .before .before .before .before .before .before .before .before .before .loop-test) .taken) ((c .before .before .before .before .before .before .before .before .before .before .before .view-of) .ensures) ((c .before .before .before .before .before .before .before .before .before .before .see) .ensures) ((c .before .before .before .before .before .before .before .before .before .before .before .before .before .later) .ensures) ((c .before .before .before .before .before .before .before .before .before .before .before .before .before .before .before .before .before .before .before .by-key) .ensures) ((c .before .before .before .before .before .before .before .before .before .slots-share) .ensures) ((c .before .before .before .before .before .before .before .before .both) .ensures) ((c .before .before .before .before .before .before .before .both2) .ensures) ((c .before .before .before .before .before .before .if1) .left) ((c .before .before .before .before .slot-inside) .ensures) ((c .before .before .before .turn-of) .ensures) ((c .before .before .before .before .before .no-due2) .ensures) ((c .before .turn2) .given .1)
 
 listed-requires-2 : tie.Need-listed-requires-2 Inv-loop μ-loop
 listed-requires-2 c κs = pass-small (c .before .before .before .before .before .before .before .before .before .before .before .pre) _ ((c .before .loop) .inv)
@@ -88,7 +90,7 @@ walk-lines-spec =
     (λ c κs. search needs)
     mul-t
     array-copy-out-t
-    line-of-requires
+    view-of-requires
     (λ c κs. search needs)
     slots-share-requires
     (λ c. search needs)

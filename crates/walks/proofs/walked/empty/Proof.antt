@@ -1,3 +1,5 @@
+-- `walks::walked::empty` meets its contract.
+-- Assumes nothing.
 use borrow.Author.Needs.{needs}
 use Rattle.walks.proofs.walked.empty.Statement.{statement}
 use Rattle.walks.proofs.walked.empty.Tie as tie

@@ -1,0 +1,154 @@
+-- A call, run: from the arguments to the call's own definition, and from an answer that fits to what `run_call` promises.
+-- Assumes nothing.
+use Prim.Native.Nat.{ℕ, _≤_, _<_}
+use native.Mathlib.Omega.{arith}
+use mathlib.Core.Path.{_≡_, refl, sym, _∙_, ap, subst}
+use mathlib.Core.Bool.{Bool, true, false, not}
+use mathlib.Core.List.{[]}
+use mathlib.Core.Option.{Option, none, some}
+use lib.ListN.{length}
+use lib.Dec.{ltb}
+use borrow.Author.Tests.{not-true, not-false, ltb-true, ltb-false}
+use Rattle.forms.specs.Bytes.{Bytes, bytesAt}
+use Rattle.forms.specs.Readers.{when}
+use Rattle.rules.specs.declared.answers.Answer.{Answer}
+use Rattle.rules.specs.Answers.{number, holder}
+use Rattle.rules.specs.Box.{Box}
+use Rattle.rules.specs.Calls.{Done}
+use Rattle.rules.specs.Prewrite.{PrewriteTerms, prewriteBatch, prewrite}
+use Rattle.rules.specs.OneStep.{Counted, oneStep}
+use Rattle.calls.specs.declared.changed.Changed.{Changed}
+use Rattle.calls.specs.Settled.{Settled}
+use Rattle.restores.specs.Replaced.{Replaced}
+use Rattle.onesteps.specs.declared.batch.Stepped.{Stepped}
+use Rattle.onesteps.specs.Counts.{Counts}
+use Rattle.traces.specs.declared.args.Args.{Args}
+use Rattle.traces.specs.declared.op.ChangeOp.{ChangeOp}
+use Rattle.traces.specs.declared.op.Op.{Op}
+use Rattle.traces.specs.Calls.{TraceCall, oneEntry, call}
+use Rattle.traces.specs.Places.{kindOf}
+use Rattle.traces.specs.Args.{callOf, callAs, ArgsOf}
+use Rattle.traces.specs.Answers.{answerBytes}
+use Rattle.traces.proofs.FormLaws.{length-answer}
+use Rattle.store.specs.declared.table.Store.{Store}
+use Rattle.store.specs.View.{boxOf}
+use Rattle.store.specs.Made.{Made}
+use Rattle.driving.specs.Told.{Told, told, toldIn, toldOf, toldBytes, notRun, changing, counting, Writes}
+use Rattle.driving.specs.Changes.{changedBy}
+use Rattle.driving.specs.Ran.{RanAs, DoneAs, TellsChange, Unrun, RunCall, longest}
+use Rattle.driving.specs.declared.ran.Ran.{Ran}
+use Rattle.driving.proofs.TellLaws.{written, written-count}
+
+-- what a call that changes the store promises, once its answer is written with its count
+counts-told : (d : Counted) {st : Store} {a : Answer} {c : ℕ} {area′ out out′ : Bytes} {n : ℕ} → DoneAs (d .done) (record { store = st; answer = a }) area′ → c ≡ d .count → longest ≤ length out → Writes (answerBytes a c []) out n out′
+    → RanAs (counting d) out (record { store = st; len = n }) area′ out′
+counts-told d {a = a} {c = c} {out = out} {out′ = out′} {n = n} v e length-is w =
+    let s : Writes (answerBytes (d .done .answer) c []) out n out′ = subst (λ (x : Answer). Writes (answerBytes x c []) out n out′) (v .answer-is) w in
+    let u : Writes (toldBytes (counting d)) out n out′ = subst (λ (x : ℕ). Writes (answerBytes (d .done .answer) x []) out n out′) e s in
+    let h : length (toldBytes (counting d)) ≤ length out = omega (arith, length-answer (number (d .done .answer)) (holder (d .done .answer)) (d .count) []) in
+    record { made = v .made; shown = v .shown; put = written h u; within = omega (arith, written-count h u) }
+
+-- one without count is one whose count is 0
+pub tells-change : {m : Changed} {out out′ : Bytes} {n : ℕ} → longest ≤ length out → Writes (answerBytes (m .answer) 0 []) out n out′ → TellsChange m out (record { store = m .store; len = n }) out′
+tells-change length-is w = record { tells = λ d area′ v. counts-told (record { done = d; count = 0 }) v refl length-is w }
+
+-- the promise of restore, and that of every other changing call
+pub replaced : {st : Store} {area : Bytes} {d : Done} {m : Changed} {area′ : Bytes} → Replaced st area d m area′ → DoneAs d m area′
+replaced v = record { answer-is = v .answer-is .case-is; made = v .made; shown = v .shown }
+
+pub settled : {st : Store} {area : Bytes} {d : Done} {m : Changed} {area′ : Bytes} → Settled st area d m area′ → DoneAs d m area′
+settled v = record { answer-is = v .answer-is .case-is; made = v .made; shown = v .shown }
+
+-- a single prewrite is its batch of one, and its kind a flag
+pub prewritten : (h : PrewriteTerms) (k r : Bytes) (b : Box) (put : Bool) {st : Store} {area : Bytes} {m : Changed} {area′ : Bytes} → Settled st area (prewrite h (record { key = k; row = when put r }) b) m area′
+    → DoneAs (prewriteBatch h (oneEntry (kindOf put) k r) b) m area′
+unfolding prewrite
+prewritten h k r b true v = settled v
+prewritten h k r b false v = settled v
+
+-- ---- by the op
+
+-- a call of this op
+pub by-change : (o op : ChangeOp) (first second third : ℕ) (p k : Bytes) (put : Bool) (r s : Bytes) (b : Box) {m : Changed} {area′ : Bytes} → o ≡ op
+    → DoneAs (changedBy op first second third p k put r s b) m area′ → DoneAs (changedBy o first second third p k put r s b) m area′
+by-change o op first second third p k put r s b {m} {area′} e v = subst (λ (x : ChangeOp). DoneAs (changedBy x first second third p k put r s b) m area′) (sym e) v
+
+-- what the arguments of the op say is told
+module _ (s : Bytes) (a : Args) (b : Box) where
+  abbrev changedIn : ChangeOp → Done
+  changedIn op = changedBy op (a .first) (a .second) (a .third) (bytesAt s (a .primaryat) (a .primarylen)) (bytesAt s (a .keyat) (a .keylen)) (a .put) (bytesAt s (a .rowat) (a .rowlen)) (bytesAt s (a .restat) (a .restlen)) b
+
+  change-told : (op : ChangeOp) → changing (changedIn op) ≡ told (callAs (Op.Changes op) s a) (a .buffer) b
+  unfolding told
+  change-told ChangeOp.Prewrite = refl
+  change-told ChangeOp.PrewriteBatch = refl
+  change-told ChangeOp.Commit = refl
+  change-told ChangeOp.CommitBatch = refl
+  change-told ChangeOp.Rollback = refl
+  change-told ChangeOp.RollbackBatch = refl
+  change-told ChangeOp.Restore = refl
+
+  module _ {p k r t : Bytes} (p-is : p ≡ bytesAt s (a .primaryat) (a .primarylen)) (k-is : k ≡ bytesAt s (a .keyat) (a .keylen)) (r-is : r ≡ bytesAt s (a .rowat) (a .rowlen)) (t-is : t ≡ bytesAt s (a .restat) (a .restlen)) where
+    same : (op : ChangeOp) → changedBy op (a .first) (a .second) (a .third) p k (a .put) r t b ≡ changedIn op
+    same op = rw (p-is, k-is, r-is, t-is) refl
+
+    pub change-ran : (op : ChangeOp) {m : Changed} {out : Bytes} {x : Ran} {area′ out′ : Bytes} → DoneAs (changedBy op (a .first) (a .second) (a .third) p k (a .put) r t b) m area′ → TellsChange m out x out′
+        → RanAs (told (callAs (Op.Changes op) s a) (a .buffer) b) out x area′ out′
+    change-ran op {m} {out} {x} {area′} {out′} v u =
+        subst (λ (d : Told). RanAs d out x area′ out′) (change-told op) (u .tells (changedIn op) area′ (subst (λ (d : Done). DoneAs d m area′) (same op) v))
+
+  -- of a one-step batch
+  pub step-ran : {t : Bytes} {st : Store} {area : Bytes} {m : Stepped} {area′ out out′ : Bytes} {n : ℕ} → t ≡ bytesAt s (a .restat) (a .restlen) → Counts st area (oneStep (record { txn = a .first; start = a .second; commit = a .third }) t b) m area′ → longest ≤ length out → Writes (answerBytes (m .answer) (m .count) []) out n out′
+      → RanAs (told (callAs Op.OneStep s a) (a .buffer) b) out (record { store = m .store; len = n }) area′ out′
+  unfolding told
+  step-ran {st = st} {area = area} {m = m} {area′ = area′} e v length-is w =
+      let u = subst (λ (x : Bytes). Counts st area (oneStep (record { txn = a .first; start = a .second; commit = a .third }) x b) m area′) e v in
+      counts-told (oneStep (record { txn = a .first; start = a .second; commit = a .third }) (bytesAt s (a .restat) (a .restlen)) b) (settled (u .settled)) (u .count-is) length-is w
+
+  -- of any call
+  pub by-op : (op : Op) {out : Bytes} {x : Ran} {area′ out′ : Bytes} → a .op ≡ op → RanAs (told (callAs op s a) (a .buffer) b) out x area′ out′ → RanAs (toldIn (callOf s a) b) out x area′ out′
+  by-op op {out} {x} {area′} {out′} e v = subst (λ (o : Op). RanAs (told (callAs o s a) (a .buffer) b) out x area′ out′) (sym e) v
+
+-- ---- the call's bytes
+
+module _ {st : Store} {area s out : Bytes} where
+  pub run-short : length out < longest → RunCall st area s out (record { store = st; len = 0 }) area out
+  run-short h = record { ran = λ g. absurd (omega arith); short = λ g. record { store-is = refl; area-is = refl; out-is = refl; len-is = refl } }
+
+  pub run-formless : {a : Args} {r : Ran} {area′ out′ : Bytes} → ArgsOf s a → not (a .ok) ≡ true → longest ≤ length out → RanAs (notRun (boxOf st area)) out r area′ out′ → RunCall st area s out r area′ out′
+  unfolding toldOf
+  run-formless {a} {r} {area′} {out′} g k length-is v =
+      let e : call s ≡ none = g .is ∙ ap (λ (f : Bool). when f (callOf s a)) (not-true (a .ok) k) in
+      record {
+        ran = λ q. subst (λ (c : Option TraceCall). RanAs (toldOf c (boxOf st area)) out r area′ out′) (sym e) v;
+        short = λ q. absurd (omega arith);
+      }
+
+  pub run-formed : {a : Args} {r : Ran} {area′ out′ : Bytes} → ArgsOf s a → not (a .ok) ≡ false → longest ≤ length out → RanAs (toldIn (callOf s a) (boxOf st area)) out r area′ out′ → RunCall st area s out r area′ out′
+  unfolding toldOf
+  run-formed {a} {r} {area′} {out′} g k length-is v =
+      let e : call s ≡ some (callOf s a) = g .is ∙ ap (λ (f : Bool). when f (callOf s a)) (not-false (a .ok) k) in
+      record {
+        ran = λ q. subst (λ (c : Option TraceCall). RanAs (toldOf c (boxOf st area)) out r area′ out′) (sym e) v;
+        short = λ q. absurd (omega arith);
+      }
+
+-- ---- what a run leaves, whatever the buffer
+
+module _ {st : Store} {area s out : Bytes} {r : Ran} {area′ out′ : Bytes} (v : RunCall st area s out r area′ out′) where
+  unrun-made : Made st area → Unrun st area out r area′ out′ → Made (r .store) area′
+  unrun-made m u = rw (u .store-is, u .area-is) m
+
+  pub ran-made : Made st area → Made (r .store) area′
+  ran-made m = by-size (ltb (length out) longest) refl
+    where
+      by-size : (f : Bool) → ltb (length out) longest ≡ f → Made (r .store) area′
+      by-size true e = unrun-made m (v .short (ltb-true (length out) longest e))
+      by-size false e = v .ran (ltb-false (length out) longest e) .made
+
+  pub ran-within : r .len ≤ length out
+  ran-within = by-size (ltb (length out) longest) refl
+    where
+      by-size : (f : Bool) → ltb (length out) longest ≡ f → r .len ≤ length out
+      by-size true e = omega (arith, v .short (ltb-true (length out) longest e) .len-is)
+      by-size false e = v .ran (ltb-false (length out) longest e) .within

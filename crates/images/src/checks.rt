@@ -1,0 +1,167 @@
+// The checks that restore makes of one entry.
+ghost use mathlib.Core.Path.{_≡_};
+ghost use mathlib.Core.Bool.{not};
+ghost use Rattle.rules.specs.declared.records.Kind.the-variants.{Rollback};
+ghost use Rattle.rules.specs.Box.{eqKind};
+ghost use Rattle.rules.specs.Restore.{ofTable, goodDefault, goodLock, goodWrite};
+ghost use Rattle.images.specs.Entries.{rawOf};
+ghost use Rattle.images.specs.Good.{known, kindOf, defaultOf, keyLockOf, keyRecordOf, fits, Lies, GoodAt};
+use crate::entries::ImageEntry;
+use crate::entries::Section;
+use crate::entries::entry_at;
+use crate::entries::no_entry;
+use forms::key::key_in_form;
+use forms::number::Width;
+use forms::number::number_at;
+use forms::row::row_in_form;
+use rules::records::Kind;
+use rules::records::Record;
+use rules::records::record_sound;
+
+// "Kinds: 1 Put, 2 Delete, 3 Rollback"
+fn kind_known(n: u8) -> bool
+    ensures { λ r. ⌜ r ≡ known n ⌝ }
+{
+    if n == 1 {
+        return true;
+    }
+    if n == 2 {
+        return true;
+    }
+    n == 3
+}
+
+pub fn kind_of(n: u8) -> Kind
+    ensures { λ r. ⌜ r ≡ kindOf n ⌝ }
+{
+    if n == 1 {
+        return Kind::Put;
+    }
+    if n == 2 {
+        return Kind::Delete;
+    }
+    Kind::Rollback
+}
+
+// "key of this table"
+fn of_table(key: &[u8], table: u64) -> bool
+    ensures { λ r. ⌜ r ≡ ofTable table (now (key .entry)) ⌝ }
+{
+    if !key_in_form(key) {
+        return false;
+    }
+    let t = number_at(key, 0, Width::Four);
+    t.value == table
+}
+
+// "default start not 0, row decodes"
+fn default_good(s: &[u8], table: u64, e: ImageEntry) -> bool
+    requires { ⌜ Lies (now s) e ⌝ }
+    ensures { λ r. ⌜ r ≡ goodDefault table (defaultOf (rawOf (now (s .entry)) e)) ⌝ }
+{
+    let a = e.at;
+    let b = a + e.len;
+    if !of_table(&s[a..b], table) {
+        return false;
+    }
+    if e.first == 0 {
+        return false;
+    }
+    let c = e.pieceat;
+    let d = c + e.piecelen;
+    row_in_form(&s[c..d])
+}
+
+// "kind Put or Delete"
+fn may_stand(kind: Kind) -> bool
+    ensures { λ r. ⌜ r ≡ not (eqKind kind Rollback) ⌝ }
+{
+    match kind {
+        Kind::Put => true,
+        Kind::Delete => true,
+        Kind::Rollback => false,
+    }
+}
+
+// "lock sound": "transaction, start, time to live not 0, kind Put or Delete, primary a key"
+fn lock_good(s: &[u8], table: u64, e: ImageEntry) -> bool
+    requires { ⌜ Lies (now s) e ⌝ }
+    ensures { λ r. ⌜ r ≡ goodLock table (keyLockOf (rawOf (now (s .entry)) e)) ⌝ }
+{
+    let a = e.at;
+    let b = a + e.len;
+    if !of_table(&s[a..b], table) {
+        return false;
+    }
+    if e.first == 0 {
+        return false;
+    }
+    if e.second == 0 {
+        return false;
+    }
+    if e.third == 0 {
+        return false;
+    }
+    let kind = kind_of(e.kind);
+    if !may_stand(kind) {
+        return false;
+    }
+    let c = e.pieceat;
+    let d = c + e.piecelen;
+    key_in_form(&s[c..d])
+}
+
+// "record sound"
+fn write_good(s: &[u8], table: u64, e: ImageEntry) -> bool
+    requires { ⌜ Lies (now s) e ⌝ }
+    ensures { λ r. ⌜ r ≡ goodWrite table (keyRecordOf (rawOf (now (s .entry)) e)) ⌝ }
+{
+    let a = e.at;
+    let b = a + e.len;
+    if !of_table(&s[a..b], table) {
+        return false;
+    }
+    let kind = kind_of(e.kind);
+    let w = Record {
+        stamp: e.first,
+        start: e.second,
+        commit: e.third,
+        kind: kind,
+    };
+    record_sound(w)
+}
+
+fn entry_good(s: &[u8], section: Section, table: u64, e: ImageEntry) -> bool
+    requires { ⌜ Lies (now s) e ⌝ }
+    ensures { λ r. ⌜ r ≡ fits section table (rawOf (now (s .entry)) e) ⌝ }
+{
+    match section {
+        Section::Default => default_good(s, table, e),
+        Section::Lock => {
+            if !kind_known(e.kind) {
+                return false;
+            }
+            lock_good(s, table, e)
+        }
+        Section::Write => {
+            if !kind_known(e.kind) {
+                return false;
+            }
+            write_good(s, table, e)
+        }
+    }
+}
+
+// An entry that is in form and good; not ok where there is none.
+pub fn good_at(s: &[u8], at: usize, section: Section, table: u64) -> ImageEntry
+    ensures { λ r. ⌜ GoodAt section table (now (s .entry)) at r ⌝ }
+{
+    let e = entry_at(s, at, section);
+    if !e.ok {
+        return no_entry();
+    }
+    if !entry_good(s, section, table, e) {
+        return no_entry();
+    }
+    e
+}

@@ -1,0 +1,122 @@
+// The sections of an image: one walk over each judges its entries and lists their places.
+ghost use mathlib.Core.Path.{_≡_};
+ghost use Prim.Native.Nat.{_≤_};
+ghost use lib.ListN.{length};
+ghost use Rattle.images.specs.Sections.{Enough, Room, SpanAt, noSpan, SectionsAt, noSections};
+use crate::checks::good_at;
+use crate::entries::Section;
+use forms::number::Width;
+use forms::number::number_at;
+
+// A section: how many entries it has, where it ends, and the bytes of its keys and pieces; not ok where there is none in form, or one that is
+// not good.
+pub struct Span {
+    pub ok: bool,
+    pub count: usize,
+    pub end: usize,
+    pub bytes: usize,
+}
+
+fn no_span() -> Span
+    ensures { λ r. ⌜ r ≡ noSpan ⌝ }
+{
+    Span {
+        ok: false,
+        count: 0,
+        end: 0,
+        bytes: 0,
+    }
+}
+
+// "2-byte count of defaults (..); 2-byte count of locks (..); 2-byte count of writes (..)"
+fn section_at(s: &[u8], at: usize, section: Section, table: u64, places: &mut [u32]) -> Span
+    requires { ⌜ Enough (now s) (length (now places)) × (at ≤ 75000000) ⌝ }
+    ensures { λ r. ⌜ SpanAt section table (now (s .entry)) at r (now (places .exit)) ⌝ }
+{
+    let n = number_at(s, at, Width::Two);
+    if !n.ok {
+        return no_span();
+    }
+    let count = n.value as usize;
+    let mut end = at + 2;
+    let mut bytes: usize = 0;
+    let mut k: usize = 0;
+    while k < count {
+        let e = good_at(s, end, section, table);
+        if !e.ok {
+            return no_span();
+        }
+        places[k] = end as u32;
+        bytes += e.len + e.piecelen;
+        end = e.next;
+        k += 1;
+    }
+    Span {
+        ok: true,
+        count: count,
+        end: end,
+        bytes: bytes,
+    }
+}
+
+// An image in form whose entries are good, each by itself: how many defaults, locks and writes it has, where the writes begin, and the bytes of
+// all keys and pieces; not ok for other bytes.
+pub struct Sections {
+    pub ok: bool,
+    pub defaults: usize,
+    pub locks: usize,
+    pub writes: usize,
+    pub writesat: usize,
+    pub bytes: usize,
+}
+
+pub fn no_sections() -> Sections
+    ensures { λ r. ⌜ r ≡ noSections ⌝ }
+{
+    Sections {
+        ok: false,
+        defaults: 0,
+        locks: 0,
+        writes: 0,
+        writesat: 0,
+        bytes: 0,
+    }
+}
+
+// "4-byte table number; 2-byte count of defaults ..; 2-byte count of locks ..; 2-byte count of writes ..", "nothing may follow", and "table
+// number not zero"
+pub fn sections_of(s: &[u8], ds: &mut [u32], ls: &mut [u32], ws: &mut [u32]) -> Sections
+    requires { ⌜ Room (now s) (now ds) (now ls) (now ws) ⌝ }
+    ensures { λ r. ⌜ SectionsAt (now (s .entry)) r (now (ds .exit)) (now (ls .exit)) (now (ws .exit)) ⌝ }
+{
+    let t = number_at(s, 0, Width::Four);
+    if !t.ok {
+        return no_sections();
+    }
+    if t.value == 0 {
+        return no_sections();
+    }
+    let d = section_at(s, 4, Section::Default, t.value, ds);
+    if !d.ok {
+        return no_sections();
+    }
+    let l = section_at(s, d.end, Section::Lock, t.value, ls);
+    if !l.ok {
+        return no_sections();
+    }
+    let w = section_at(s, l.end, Section::Write, t.value, ws);
+    if !w.ok {
+        return no_sections();
+    }
+    if w.end != s.len() {
+        return no_sections();
+    }
+    Sections {
+        ok: true,
+        defaults: d.count,
+        locks: l.count,
+        writes: w.count,
+        writesat: l.end,
+        bytes: d.bytes + l.bytes + w.bytes,
+    }
+}

@@ -1,9 +1,0 @@
-pub mod MemberLaws
-pub mod StoredLaws
-pub mod FreshLaws
-pub mod ViewLaws
-pub mod HistoryLaws
-pub mod LookLaws
-pub mod SoundLaws
-pub mod NeedLaws
-pub mod TidyLaws

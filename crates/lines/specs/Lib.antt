@@ -1,3 +1,0 @@
-pub mod View
-pub mod Made
-pub mod Looks

@@ -1,3 +1,0 @@
-pub mod Put
-pub mod Payloads
-pub mod Answers

@@ -1,0 +1,41 @@
+-- The calls of document 01, each with its arguments as its steps take them, but for what it is lent: the store, and a page's buffer. Demand 3, the
+-- demands on every public call and the traces speak of these.
+-- Assumes nothing.
+use Prim.Native.Nat.{ℕ}
+use Rattle.forms.specs.Bytes.{Bytes}
+use Rattle.forms.specs.Key.{Key}
+use Rattle.rules.specs.Box.{Box}
+use Rattle.rules.specs.Page.{Bounds, Limits}
+use Rattle.rules.specs.Calls.{Done}
+use Rattle.rules.specs.Prewrite.{PrewriteTerms, prewriteBatch}
+use Rattle.rules.specs.declared.terms.CommitTerms.{CommitTerms}
+use Rattle.rules.specs.Commit.{commitBatch}
+use Rattle.rules.specs.Rollback.{rollbackBatch}
+use Rattle.rules.specs.OneStep.{oneStep}
+
+-- the calls of demand 3, "prewrites, commits, rollbacks and one-step batches": a batch is its bytes, in form or not. A single form is its batch
+-- of one (`oneMutation`, `oneKey`), whose entry is the call's own wherever it is accepted (`prewrite-named` of laws/proofs/Singles, and so on)
+pub data Changing : Type 0 where
+  Prewrite : PrewriteTerms → (batch : Bytes) → Changing
+  Commit : CommitTerms → (batch : Bytes) → Changing
+  Rollback : (txn start : ℕ) → (batch : Bytes) → Changing
+  OneStep : CommitTerms → (batch : Bytes) → Changing
+
+-- what a changing call answers, and the box after it
+unfoldable pub perform : Changing → Box → Done
+perform (Changing.Prewrite h s) b = prewriteBatch h s b
+perform (Changing.Commit h s) b = commitBatch h s b
+perform (Changing.Rollback txn start s) b = rollbackBatch txn start s b
+perform (Changing.OneStep h s) b = oneStep h s b .done
+
+-- every call, in the order of "The steps, in order"
+pub data Call : Type 0 where
+  Read : Key → (moment : ℕ) → Call
+  Page : Bounds → (moment : ℕ) → Limits → Call
+  IntentPage : Bounds → (limit : ℕ) → Call
+  ConflictingIntents : Bounds → (moment : ℕ) → Limits → Call
+  OneIntent : Key → (moment : ℕ) → Call
+  Change : Changing → Call
+  Restore : (image : Bytes) → Call
+  Statistics : Call
+  Marks : Call

@@ -1,0 +1,30 @@
+-- A page that was written lies in the lent buffer.
+-- Assumes nothing.
+use Prim.Native.Nat.{ℕ, _≤_}
+use mathlib.Core.Path.{_≡_, refl, sym}
+use mathlib.Core.Bool.{Bool, true, false}
+use native.Mathlib.Omega.{arith}
+use borrow.Author.Tests.{leb-true}
+use lib.ListN.{length}
+use lib.Dec.{leb}
+use Rattle.forms.specs.Bytes.{Bytes}
+use Rattle.rules.specs.Answers.{Reply, nothing, shown, refused}
+use Rattle.rules.specs.Box.{Box}
+use Rattle.rules.specs.Page.{Bounds, Limits, Page, page}
+use Rattle.rules.specs.Written.{Written, pageBytes, keyRowBytes, writeIf, written, scanPage, WroteAs}
+use Rattle.rules.specs.declared.written.Wrote.{Wrote}
+
+count-if : (t : Bool) (bytes out : Bytes) → t ≡ leb (length bytes) (length out) → writeIf t bytes out .count ≤ length out
+unfolding writeIf
+count-if true bytes out e = leb-true (length bytes) (length out) (sym e)
+count-if false bytes out e = omega arith
+
+count-in : {A : Type 0} (f : A → Bytes) (r : Reply (Page A)) (out : Bytes) → written f r out .count ≤ length out
+unfolding written
+count-in f nothing out = omega arith
+count-in f (refused v) out = omega arith
+count-in f (shown p) out = count-if (leb (length (pageBytes f p)) (length out)) (pageBytes f p) out refl
+
+pub page-within : (a : Bounds) (t : ℕ) (l : Limits) (b : Box) (out : Bytes) {r : Wrote} {out′ : Bytes} → WroteAs (scanPage a t l b out) r out′ → r .count ≤ length out
+unfolding scanPage
+page-within a t l b out v = omega (arith, v .count-is, count-in keyRowBytes (page a t l b) out)

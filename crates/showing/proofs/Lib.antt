@@ -1,4 +1,0 @@
-pub mod TellLaws
-pub mod ReplyLaws
-pub mod PagingLaws
-pub mod ShowLaws

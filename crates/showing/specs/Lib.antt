@@ -1,3 +1,0 @@
-pub mod Told
-pub mod Replying
-pub mod Ran

@@ -1,0 +1,10 @@
+-- The laws of `store`, in the order in which they build on each other.
+pub mod MemberLaws
+pub mod StoredLaws
+pub mod FreshLaws
+pub mod ViewLaws
+pub mod HistoryLaws
+pub mod LookUpLaws
+pub mod KeySoundLaws
+pub mod NeedLaws
+pub mod TidyLaws

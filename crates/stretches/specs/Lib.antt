@@ -1,4 +1,0 @@
-pub mod Loads
-pub mod Writes
-pub mod Changes
-pub mod Packs
