@@ -5,7 +5,7 @@ use paper::restore::{Image, RawLock, RawRecord};
 use paper::store::Bytes;
 
 /// The table of every key.
-const TABLE: u32 = 1;
+pub const TABLE: u32 = 1;
 /// Reads look above every record and below every lock.
 pub const MOMENT: u64 = 1_000;
 /// The transaction that locks and changes.
@@ -27,6 +27,10 @@ pub const SIZES: [Size; 4] = [
     Size { keys: 900, records: 1 },
     Size { keys: 110, records: 8 },
 ];
+
+/// With so many keys locked besides, all four rooms are full: 1,024 lines and rows, 256 locks and 49,152 live bytes.
+pub const FULL: Size = Size { keys: 768, records: 1 };
+pub const LOCKED: usize = 256;
 
 impl Size {
     pub fn name(self) -> String {

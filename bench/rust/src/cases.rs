@@ -1,10 +1,13 @@
 //! The cases: for each box and kind of call, the image and the calls of one turn.
 
+use generate::AWAITED;
 use paper::page::Bounds;
 use paper::store::{Bytes, Kind};
-use paper::trace::{Call, write_trace};
+use paper::trace::{Call, LONG_BUFFER, write_trace};
 
-use crate::boxes::{COMMIT, MOMENT, START, Size, TIME_TO_LIVE, TRANSACTION, image, key, missing, row};
+use crate::boxes::{
+    COMMIT, FULL, LOCKED, MOMENT, START, Size, TABLE, TIME_TO_LIVE, TRANSACTION, image, key, missing, row,
+};
 
 /// A turn makes a call at so many keys.
 const KEYS: usize = 32;
@@ -29,6 +32,11 @@ pub struct Case {
 }
 
 impl Case {
+    /// Does crates/bench have the call?
+    pub fn in_program(&self) -> bool {
+        self.calls.iter().all(|call| !AWAITED.contains(&call.op()))
+    }
+
     /// What the Rust's turns read: turns, how the calls are made (0: not at all), the image, and the trace.
     pub fn rust_input(&self, turns: u64, made: bool) -> Bytes {
         self.input(turns, if made { self.way } else { 0 }, &write_trace(&self.calls))
@@ -37,7 +45,7 @@ impl Case {
     /// What crates/bench reads: turns, the kind of call, the image, and the calls in the program's own form.
     pub fn program_input(&self, turns: u64, made: bool) -> Bytes {
         let kind = kind_of(self.way, &self.calls[0]);
-        let none = if kind < COPIED { 0 } else { COPIED };
+        let none = if kind < COPIED || kind == WRITTEN { 0 } else { COPIED };
         let calls: Vec<Bytes> = self.calls.iter().map(asked).collect();
         self.input(turns, if made { kind } else { none }, &calls.concat())
     }
@@ -55,6 +63,9 @@ impl Case {
 /// From this kind on a call of crates/bench is made on a copy of the area; this one is the copy alone.
 const COPIED: u8 = 4;
 
+/// The kind of an image written. It changes nothing, so it is not made on a copy.
+const WRITTEN: u8 = 11;
+
 /// The kind of call, as crates/bench numbers it (its turns.rt).
 fn kind_of(way: u8, call: &Call) -> u8 {
     match call {
@@ -67,6 +78,7 @@ fn kind_of(way: u8, call: &Call) -> u8 {
         Call::Rollback { .. } => 8,
         Call::OneStep { .. } => 9,
         Call::Restore { .. } => 10,
+        Call::WriteImage { .. } => WRITTEN,
         _ => panic!("crates/bench has no such call"),
     }
 }
@@ -91,6 +103,7 @@ fn asked(call: &Call) -> Bytes {
             ([*transaction, *start, 0], [none, none, batch])
         }
         Call::Restore { .. } | Call::Statistics => ([0; 3], [none; 3]),
+        Call::WriteImage { table, .. } => ([u64::from(*table), 0, 0], [none; 3]),
         _ => panic!("crates/bench has no such call"),
     };
     let mut bytes = numbers.map(u64::to_be_bytes).concat();
@@ -130,7 +143,19 @@ pub fn cases(size: Size) -> Vec<Case> {
         case("one-step, 32 keys", &plain, (0..BATCHES).map(|number| one_step(size, 2 * number)).collect()),
         case("restore", &plain, vec![Call::Restore { image: plain.clone() }]),
         case("statistics", &plain, vec![Call::Statistics]),
+        case("write the image", &plain, vec![written()]),
     ]
+}
+
+/// The image of a box with all four rooms full, written.
+pub fn full_box() -> Case {
+    let image = image(FULL, &FULL.spread(LOCKED));
+    assert_eq!(image.len(), 86_282, "the longest image");
+    Case { name: "write the image, full box", size: FULL, image, calls: vec![written()], way: ALONE }
+}
+
+fn written() -> Call {
+    Call::WriteImage { table: TABLE, buffer: LONG_BUFFER }
 }
 
 fn page(row_limit: u64, start: Option<Bytes>) -> Call {

@@ -43,7 +43,7 @@ fn worth_of(call: &Call, answer: &Answer, store: &Store) -> u64 {
     match call {
         Call::Read { .. } if answer.payload.len() == 1 => 1,
         Call::Read { .. } => answer.payload.len() as u64 + 1,
-        Call::Page { .. } => number + answer.count,
+        Call::Page { .. } | Call::WriteImage { .. } => number + answer.count,
         Call::Statistics => {
             let figures: Vec<u64> =
                 answer.payload.chunks_exact(8).map(|n| u64::from_be_bytes(n.try_into().expect("8 bytes"))).collect();
@@ -78,9 +78,10 @@ pub fn turns_agree(expected: &Expected, turns: u64, output: &[u8]) -> Result<(),
     if all { Ok(()) } else { Err("mvcc.rs refuses a call in its turns".to_string()) }
 }
 
-/// A page's payload is the whole lent buffer; mvcc.rs gives the page alone.
+/// The payload of a page or an image is the whole lent buffer; mvcc.rs gives the page or the entries alone.
 fn same(call: &Call, answer: &Answer, count: u64, payload: &Bytes) -> bool {
-    let shown = if matches!(call, Call::Page { .. }) { &answer.payload[..payload.len()] } else { &answer.payload[..] };
+    let lent = matches!(call, Call::Page { .. } | Call::WriteImage { .. });
+    let shown = if lent { &answer.payload[..payload.len()] } else { &answer.payload[..] };
     count == answer.count && payload == shown
 }
 

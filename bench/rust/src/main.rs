@@ -1,7 +1,7 @@
 //! `bench turns < input`: mvcc.rs makes the turns of an input, as crates/bench does; `bench restores < input`: so many
 //! restores of one image.
 //! `bench table FOLDER [--runs N] [--only WORD] [--aim MILLISECONDS] --program WORDS..`: checks the
-//! answers of both sides, times them in turn, and prints the table.
+//! answers of both sides, times them in turn, and prints the table; without `--program` mvcc.rs alone.
 //! `bench hostile FOLDER ..`: the same of hostile images.
 //! With `--counter FILE`, the built bench/copies.c, copies are counted and nothing is timed.
 //! `bench sample FOLDER`: writes stdin and stdout of the gate's own run of crates/bench.
@@ -19,7 +19,7 @@ mod table;
 mod timing;
 
 const USAGE: &str = "usage: bench turns, bench restores, bench sample FOLDER, or bench table|hostile FOLDER [--runs N] [--only WORD] \
-                     [--aim MS] --program WORDS..";
+                     [--aim MS] [--program WORDS..]";
 
 fn main() -> ExitCode {
     let words: Vec<String> = std::env::args().skip(1).collect();
@@ -27,7 +27,7 @@ fn main() -> ExitCode {
         ["turns"] => turns(rust_side::turns),
         ["restores"] => turns(rust_side::restores),
         ["table", folder, ref rest @ ..] => plan(folder, "turns", rest).and_then(|plan| table::table(&plan)),
-        ["hostile", folder, ref rest @ ..] => plan(folder, "restores", rest).and_then(|plan| hostile::table(&plan)),
+        ["hostile", folder, ref rest @ ..] => plan(folder, "restores", rest).and_then(|plan| hostile(&plan)),
         ["sample", folder] => sample(folder),
         _ => Err(USAGE.into()),
     };
@@ -45,6 +45,10 @@ fn turns(make: fn(&[u8]) -> Option<u64>) -> Result<(), String> {
     std::io::stdin().read_to_end(&mut input).map_err(|error| error.to_string())?;
     let accepted = make(&input).ok_or("the input is not in form, or mvcc.rs has not the call")?;
     std::io::stdout().write_all(&accepted.to_be_bytes()).map_err(|error| error.to_string())
+}
+
+fn hostile(plan: &timing::Plan) -> Result<(), String> {
+    if plan.program.is_empty() { Err("--program is wanted".to_string()) } else { hostile::table(plan) }
 }
 
 fn sample(folder: &str) -> Result<(), String> {
@@ -79,7 +83,6 @@ fn plan(folder: &str, rust: &str, words: &[&str]) -> Result<timing::Plan, String
     }
     match plan {
         _ if plan.runs < 5 => Err("--runs wants five or more".to_string()),
-        _ if plan.program.is_empty() => Err("--program is wanted".to_string()),
         plan => Ok(plan),
     }
 }

@@ -26,6 +26,7 @@ enum Ready {
     OneStep { txn: TxnId, start: Timestamp, commit: Timestamp, batch: BTreeMap<Bytes, Mutation> },
     Restore(Entries),
     Statistics,
+    Capture,
 }
 
 impl Ready {
@@ -63,6 +64,8 @@ impl Ready {
             },
             Call::Restore { image } => Ready::Restore(entries(image)?),
             Call::Statistics => Ready::Statistics,
+            // All tables are captured into one; the boxes have no other.
+            Call::WriteImage { .. } => Ready::Capture,
             _ => return None,
         })
     }
@@ -106,6 +109,7 @@ impl Ready {
                 black_box(black_box(&*store).stats());
                 true
             }
+            Ready::Capture => black_box(black_box(&*store).capture_snapshot_state()).is_ok(),
         };
         u64::from(accepted)
     }

@@ -1,9 +1,9 @@
-//! The table: each case's answers checked, then both sides timed in turn.
+//! The table: each case's answers checked, then both sides timed in turn; or mvcc.rs alone.
 
 use std::fs;
 
 use crate::boxes::SIZES;
-use crate::cases::{Case, cases};
+use crate::cases::{Case, cases, full_box};
 use crate::clock::copies;
 use crate::expected::{expected, program_agrees, rust_agrees, turns_agree};
 use crate::timing::{Plan, Side, Times, times};
@@ -13,10 +13,13 @@ pub fn table(plan: &Plan) -> Result<(), String> {
     if let Some(counter) = &plan.counter {
         return copies_table(plan, counter);
     }
+    if plan.program.is_empty() {
+        return rust_table(plan);
+    }
     println!("| call | box | Rattle ns | Rust ns | ratio | Rattle least, most | Rust least, most |");
     println!("|---|---|---|---|---|---|---|");
     let mut untimed = 0;
-    for case in SIZES.into_iter().flat_map(cases).filter(|case| case.name.contains(&plan.only)) {
+    for case in chosen(plan).filter(Case::in_program) {
         match one_row(plan, &case) {
             Ok(times) => {
                 let (rattle, rust) = (&times[0], &times[1]);
@@ -42,11 +45,34 @@ pub fn table(plan: &Plan) -> Result<(), String> {
     if untimed == 0 { Ok(()) } else { Err(format!("{untimed} cases were not timed")) }
 }
 
+/// The cases that the plan names.
+fn chosen(plan: &Plan) -> impl Iterator<Item = Case> {
+    let all = SIZES.into_iter().flat_map(cases).chain([full_box()]);
+    all.filter(|case| case.name.contains(&plan.only))
+}
+
+/// The times of mvcc.rs alone, of calls that crates/bench does not have too.
+fn rust_table(plan: &Plan) -> Result<(), String> {
+    println!("| call | box | Rust ns | least, most |");
+    println!("|---|---|---|---|");
+    for case in chosen(plan) {
+        let expected = expected(&case);
+        rust_agrees(&case, &expected)?;
+        let input = |turns, made| case.rust_input(turns, made);
+        let side = Side { name: "rust", words: &plan.rust, input: &input, calls: case.calls.len() as u64 };
+        turns_agree(&expected, 3, &side.once(plan, 3, true)?.0)?;
+        for Times { middle, least, most } in times(plan, &[side])? {
+            println!("| {} | {} | {middle:.0} | {least:.0}, {most:.0} |", case.name, case.size.name());
+        }
+    }
+    Ok(())
+}
+
 /// Copies of table size that a call makes, and their bytes, the copy of the area that it is made on left out.
 fn copies_table(plan: &Plan, counter: &str) -> Result<(), String> {
     println!("| call | box | copies | bytes |");
     println!("|---|---|---|---|");
-    for case in SIZES.into_iter().flat_map(cases).filter(|case| case.name.contains(&plan.only)) {
+    for case in chosen(plan).filter(Case::in_program) {
         let input = |turns, made| case.program_input(turns, made);
         let side = program(plan, &case, &input);
         let count = |made| copies(side.words, &side.written(plan, 10, made)?, counter);

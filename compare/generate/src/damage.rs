@@ -1,13 +1,19 @@
 //! Damaged traces: one fault in the trace's own form, or a form just at its edge.
 
 use paper::store::Bytes;
-use paper::trace::{Call, MOST_BYTES, read_trace, write_trace};
+use paper::trace::{Call, LONG_BUFFER, MOST_BYTES, read_trace, write_trace};
 
 use crate::Ops;
 use crate::random::Random;
 
-/// A trace that is empty, has no calls, or stands at or one past the most bytes.
+/// Lengths of a long buffer at and past the most.
+const LONG_BUFFERS: [u32; 5] = [LONG_BUFFER, LONG_BUFFER, LONG_BUFFER + 1, LONG_BUFFER + 1, u32::MAX];
+
+/// A trace that is empty, has no calls, stands at or one past the most bytes, or has a buffer at or past the longest.
 pub fn edge(random: &mut Random, ops: Ops) -> Bytes {
+    if ops.has(35) && random.percent(20) {
+        return write_trace(&[Call::WriteImage { table: 1, buffer: *random.pick(&LONG_BUFFERS) }]);
+    }
     let fill = |length: usize| write_trace(&[Call::Restore { image: vec![0; length - 9] }]);
     match random.below(8) {
         0 | 1 => Bytes::new(),
@@ -37,6 +43,13 @@ pub fn damaged(random: &mut Random, calls: &[Call], ops: Ops) -> Bytes {
 
 fn one_fault(random: &mut Random, calls: &[Call], sound: &[u8]) -> Bytes {
     let mut bytes = sound.to_vec();
+    let lends = |call: &Call| matches!(call, Call::WriteImage { .. });
+    if let Some(at) = calls.iter().position(lends)
+        && random.percent(30)
+    {
+        let length = random.pick(&LONG_BUFFERS).to_be_bytes();
+        return with_call(calls, at, |call| [&call[..5], &length].concat());
+    }
     match random.below(10) {
         0 => bytes.truncate(random.below(bytes.len())),
         1 => bytes.push(random.number() as u8),
@@ -109,7 +122,7 @@ fn mark_of(call: &Call) -> Option<usize> {
     }
 }
 
-/// An op that the table does not have.
+/// An op that the table does not have, or other arguments than its op has.
 fn op_fault(random: &mut Random, calls: &[Call]) -> Bytes {
     let at = random.below(calls.len());
     let op = *random.pick(&[0, 13, 31, 35, 64, 128, 255]);

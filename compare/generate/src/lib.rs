@@ -1,7 +1,7 @@
 //! A seeded generator of traces that is hard on the box: few keys with common prefixes in several tables, small and
 //! extreme numbers, replays, batches, rows and images in and out of form, every combination of bounds, buffers and
 //! byte limits at and one short of what is needed, boxes at and one past each of the four rooms, images sound and sick
-//! and longer than 65,535 bytes, damaged traces.
+//! and longer than 65,535 bytes, images written and restored, damaged traces.
 
 pub mod batch;
 pub mod chains;
@@ -22,6 +22,7 @@ pub mod sick;
 pub mod singles;
 pub mod stock;
 mod writes;
+pub mod written;
 
 use paper::restore::Image;
 use paper::store::Bytes;
@@ -33,12 +34,31 @@ use crate::maker::Maker;
 #[derive(Clone, Copy, Debug, PartialEq, Eq)]
 pub struct Ops(u64);
 
+/// The ops that the driver does not have yet: it is sent none of them unless they are asked for by `--ops`, and the sample
+/// that it is tested by has none. Once it has them all, this list is empty and the sample is written anew.
+pub const AWAITED: &[u8] = &[];
+
 impl Ops {
     /// Every op of TRACE.md's table.
-    pub const LIST: [u8; 15] = [1, 2, 3, 4, 5, 6, 7, 8, 9, 10, 11, 12, 32, 33, 34];
+    pub const LIST: [u8; 16] = [1, 2, 3, 4, 5, 6, 7, 8, 9, 10, 11, 12, 32, 33, 34, 35];
 
     pub fn all() -> Self {
         Ops(Self::LIST.iter().fold(0, |ops, op| ops | 1 << op))
+    }
+
+    /// Those that the driver has.
+    pub fn of_driver() -> Self {
+        AWAITED.iter().fold(Ops::all(), |ops, op| ops.without(*op))
+    }
+
+    /// These but for one.
+    pub fn without(self, op: u8) -> Self {
+        Ops(self.0 & !(1 << op))
+    }
+
+    /// Are all that the driver has among them?
+    pub fn complete(self) -> bool {
+        self.0 & Ops::of_driver().0 == Ops::of_driver().0
     }
 
     /// A list such as `32,33,34`; none if it holds another word, or no op at all.
@@ -84,6 +104,8 @@ pub enum Kind {
     Chains,
     /// Single forms above all, with keys and rows of odd lengths.
     Singles,
+    /// Images written, of stores with several tables, and restored.
+    Written,
     /// Images, sound, sick and faulty, with the store's figures between.
     Images,
     /// The same of few or many keys that are much alike, the entries in any order.
@@ -122,7 +144,8 @@ pub fn kind_of(seed: u64) -> Kind {
 
 /// The trace of a seed. A full box costs a driver as much time as thousands of reads and shows restore alone, so where
 /// images are what is read, most of these give way to small ones. One trace in twelve, and where the changing ops are
-/// single forms alone every second, is about these. Where restore stands alone, all that would be about calls is about images.
+/// single forms alone every second, is about these; one in 24 is about images that are written. Where restore stands
+/// alone, all that would be about calls is about images.
 pub fn trace(seed: u64, ops: Ops) -> Bytes {
     let kind = match kind_of(seed) {
         Kind::Room | Kind::Large if ops.reads_images() && !seed.is_multiple_of(8) => Kind::Odd,
@@ -130,7 +153,8 @@ pub fn trace(seed: u64, ops: Ops) -> Bytes {
         Kind::Fresh if ops.restores_alone() => Kind::Images,
         Kind::Odd | Kind::Held | Kind::Chains if ops.restores_alone() => Kind::Hostile,
         Kind::Fresh | Kind::Odd if ops.singles_alone() => Kind::Singles,
-        Kind::Fresh | Kind::Odd if ops == Ops::all() && seed.is_multiple_of(6) => Kind::Singles,
+        Kind::Fresh | Kind::Odd if ops.complete() && seed.is_multiple_of(6) => Kind::Singles,
+        Kind::Fresh | Kind::Odd if ops.has(35) && seed % 12 == 1 => Kind::Written,
         kind => kind,
     };
     trace_of(kind, seed, ops)
@@ -155,6 +179,7 @@ pub fn trace_of(kind: Kind, seed: u64, ops: Ops) -> Bytes {
         Kind::Held => maker.held(),
         Kind::Chains => maker.chains(),
         Kind::Singles => single_forms(&mut maker),
+        Kind::Written => maker.written(),
         Kind::Images => {
             for _ in 0..maker.random.between(1, 6) {
                 let restore = maker.restore();
@@ -171,7 +196,10 @@ pub fn trace_of(kind: Kind, seed: u64, ops: Ops) -> Bytes {
         }
         Kind::Room => room(&mut maker),
         Kind::Large => large(&mut maker),
-        Kind::Repacks if ops == Ops::all() => return repacks::trace(&mut maker.random),
+        Kind::Repacks if ops.complete() => {
+            let calls = repacks::calls(&mut maker.random);
+            return write_trace(&if ops.has(35) { written::then_written(calls) } else { calls });
+        }
         Kind::Repacks | Kind::Damaged => {
             if maker.random.percent(50) {
                 let restore = maker.sound_restore();
@@ -236,6 +264,7 @@ fn large(maker: &mut Maker) {
         let image = room::all_full(&mut maker.random);
         maker.push(Call::Restore { image: image.write() });
         maker.look();
+        maker.write_and_restore();
         some_calls(maker, 2, 6);
     } else {
         let entries = *maker.random.pick(&[257, 1025, 3000, 6000]);

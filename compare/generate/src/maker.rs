@@ -20,7 +20,7 @@ pub struct Maker {
 }
 
 /// The ops and how often each is drawn.
-const OPS: [(u8, usize); 15] = [
+const OPS: [(u8, usize); 16] = [
     (1, 10),
     (2, 16),
     (3, 5),
@@ -36,6 +36,7 @@ const OPS: [(u8, usize); 15] = [
     (32, 4),
     (33, 4),
     (34, 2),
+    (35, 4),
 ];
 
 /// How many points stand for a page.
@@ -75,7 +76,8 @@ impl Maker {
             12 => self.one_step(faulty),
             32 => self.restore(),
             33 => Call::Statistics,
-            _ => Call::Marks,
+            34 => Call::Marks,
+            _ => self.write_image(faulty),
         };
         let look_after = (6..=12).contains(&op) && self.random.percent(if op == 12 { 60 } else { 25 });
         self.push(call);
@@ -136,6 +138,13 @@ impl Maker {
         if self.ops.has(3) {
             let call = self.intent_page(false);
             self.push(call);
+        }
+        if self.ops.has(35) {
+            let call = self.write_image(false);
+            self.push(call);
+            if self.random.percent(20) {
+                self.restore_written();
+            }
         }
     }
 }

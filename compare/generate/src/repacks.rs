@@ -6,7 +6,7 @@ use paper::form::Entry;
 use paper::page::Bounds;
 use paper::room::{LINES, LIVE_BYTES, LOCKS};
 use paper::store::{Bytes, Kind, Store};
-use paper::trace::{Call, write_trace};
+use paper::trace::Call;
 
 use crate::batch::{key_bytes, mutation_bytes};
 use crate::random::Random;
@@ -41,25 +41,28 @@ struct Filler {
     turn: usize,
 }
 
+/// The name of the cases in full boxes.
+pub const FULL: &str = "a full box, packed anew";
+
 /// The traces of the fixed sample: a repack in each call that brings bytes, on new keys, two or three to a trace; on locks,
 /// one to a trace; and in boxes of 1,024 lines.
 pub fn cases() -> Vec<(&'static str, Vec<Call>)> {
     let new = [&OPS[..3], &OPS[3..5], &OPS[5..]].map(|ops| ("a repack on new keys", packed(0, ops, false)));
     let locked = OPS.map(|op| ("a repack on locks", packed(0, &[op], true)));
-    let full = [9, 12].map(|op| ("a full box, packed anew", full_and_packed(op)));
+    let full = [9, 12].map(|op| (FULL, full_and_packed(op)));
     new.into_iter().chain(locked).chain(full).collect()
 }
 
-/// A trace with a repack in some of the calls that bring bytes, in any order, or in a full box.
-pub fn trace(random: &mut Random) -> Bytes {
+/// Calls with a repack in some of those that bring bytes, in any order, or in a full box.
+pub fn calls(random: &mut Random) -> Vec<Call> {
     if random.percent(10) {
-        return write_trace(&full_and_packed(*random.pick(&[9, 12])));
+        return full_and_packed(*random.pick(&[9, 12]));
     }
     let mut ops = OPS;
     random.shuffle(&mut ops);
     let ops = &ops[..*random.pick(&[1, 2, MOST, MOST])];
     let turn = random.below(KEYS.len() * ROWS.len());
-    write_trace(&packed(turn, ops, random.percent(50)))
+    packed(turn, ops, random.percent(50))
 }
 
 /// Lines that stand, and then for each op a box so full that a call of this op packs the area anew.

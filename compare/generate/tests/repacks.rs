@@ -4,11 +4,12 @@ use std::collections::{BTreeMap, BTreeSet};
 
 use generate::random::Random;
 use generate::repacks::{self, MOST, OPS};
+use generate::written;
 use paper::area;
 use paper::room::{DEFAULTS, LINES};
-use paper::run::run_call;
+use paper::run::{run_call, run_trace};
 use paper::store::{Kind, Store};
-use paper::trace::{Call, MOST_BYTES, read_trace, write_trace};
+use paper::trace::{Call, MOST_BYTES, write_trace};
 
 /// What a trace does: the ops of the calls that pack the area anew, the most lines and defaults that the box held, and the
 /// answers by op and number.
@@ -75,8 +76,7 @@ fn a_full_box_is_packed_anew() {
 fn drawn_traces_pack_the_area_anew() {
     let (mut ops, mut most) = (BTreeSet::new(), 0);
     for seed in 0..24 {
-        let trace = repacks::trace(&mut Random::new(seed));
-        let calls = read_trace(&trace).expect("a trace of repacks is in form");
+        let calls = repacks::calls(&mut Random::new(seed));
         let packed = look(&format!("seed {seed}"), &calls).packed;
         assert!(!packed.is_empty(), "seed {seed}");
         most = packed.len().max(most);
@@ -84,4 +84,26 @@ fn drawn_traces_pack_the_area_anew() {
     }
     assert_eq!(ops.into_iter().collect::<Vec<u8>>(), OPS);
     assert_eq!(most, MOST);
+}
+
+/// A box that was packed anew is written: its images hold all its entries.
+#[test]
+fn packed_boxes_are_written() {
+    let (mut most, mut longest) = (0, 0);
+    for (name, calls) in repacks::cases() {
+        let calls = written::then_written(calls);
+        let trace = write_trace(&calls);
+        let answers = run_trace(&trace);
+        let written: Vec<usize> = (0..calls.len())
+            .filter(|at| calls[*at].op() == 35)
+            .map(|at| {
+                assert_eq!((answers[at].number, answers[at].count), (0, answers[at].payload.len() as u64), "{name}");
+                answers[at].payload.len()
+            })
+            .collect();
+        println!("{name}: trace {}, images {written:?}", trace.len());
+        most = trace.len().max(most);
+        longest = written.into_iter().chain([longest]).max().expect("one at least");
+    }
+    assert!(most <= MOST_BYTES && longest > 65_535, "{most}, {longest}");
 }

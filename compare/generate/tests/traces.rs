@@ -3,12 +3,12 @@
 
 use std::collections::{BTreeMap, BTreeSet};
 
-use generate::{Kind, Ops, kind_of, named, singles, trace, trace_of};
+use generate::{AWAITED, Kind, Ops, kind_of, named, singles, trace, trace_of};
 use paper::answer::LOCKED;
 use paper::restore::Image;
 use paper::room::{DEFAULTS, LINES, LIVE_BYTES, LOCKS, Use};
 use paper::run::{run_call, run_trace};
-use paper::store::{Kind as StoredKind, Store};
+use paper::store::{Kind as StoredKind, Lock, Store};
 use paper::trace::{Call, MOST_BYTES, read_trace, write_trace};
 
 #[test]
@@ -21,7 +21,7 @@ fn a_seed_gives_one_trace() {
 
 #[test]
 fn only_the_ops_asked_for() {
-    for list in ["32,33,34", "1,5,32,33,34", "12, 2", "33"] {
+    for list in ["32,33,34", "1,5,32,33,34", "12, 2", "33", "35", "6,8,35", "32,33,34,35"] {
         let ops = Ops::read(list).expect("a list of ops");
         let mut seen = BTreeSet::new();
         for seed in 0..300 {
@@ -145,6 +145,66 @@ fn reads_meet_chains() {
     assert!(most > 255, "{most} at most");
 }
 
+/// What is written as an image: of how many tables the store holds something, and by how much the buffer is too long.
+#[test]
+fn images_are_written_of_every_sort() {
+    let mut seen: BTreeMap<&str, usize> = BTreeMap::new();
+    let (mut restored, mut after) = (0, 0);
+    for seed in 0..1000 {
+        let mut store = Store::default();
+        let (mut images, mut own) = (BTreeSet::new(), false);
+        for call in read_trace(&trace(seed, Ops::all())).unwrap_or_default() {
+            let answer = run_call(&mut store, &call);
+            after += usize::from(own);
+            if let Call::Restore { image } = &call
+                && answer.number == 0
+            {
+                own = images.contains(image);
+                restored += usize::from(own);
+            }
+            let Call::WriteImage { table, buffer } = call else {
+                continue;
+            };
+            let needed = store.image_of(table).write().len() as i64;
+            let tables = store.tables();
+            let mut count = |what, met: bool| *seen.entry(what).or_default() += usize::from(met);
+            count("all", true);
+            count("table 0, no buffer", (table, buffer) == (0, 0));
+            count("exact", table > 0 && i64::from(buffer) == needed);
+            count("one short", table > 0 && i64::from(buffer) == needed - 1);
+            count("longer", table > 0 && i64::from(buffer) > needed);
+            count("absent", table > 0 && !tables.contains(&table));
+            count("several tables", tables.len() > 1);
+            let foreign =
+                |(key, lock): (&Vec<u8>, &Lock)| key[..4] == table.to_be_bytes() && lock.primary[..4] != key[..4];
+            count("a primary of another table", store.locks.iter().any(foreign));
+            count("above 65,535 bytes", needed > 65_535);
+            if answer.number == 0 {
+                images.insert(answer.payload[..answer.count as usize].to_vec());
+            }
+        }
+    }
+    println!("{seen:?}, {restored} restored, {after} calls after");
+    let least = [("all", 1200), ("exact", 400), ("one short", 120), ("longer", 200), ("several tables", 130)];
+    let few =
+        [("table 0, no buffer", 20), ("absent", 60), ("a primary of another table", 150), ("above 65,535 bytes", 9)];
+    for (what, least) in least.into_iter().chain(few) {
+        assert!(seen[what] >= least, "{what}: {seen:?}");
+    }
+    assert!(restored >= 100 && after >= 500, "{restored} restored, {after} calls after");
+}
+
+/// Without the op the traces are those of a driver that does not have it.
+#[test]
+fn the_driver_is_sent_what_it_has() {
+    let ops = Ops::of_driver();
+    assert!(Ops::LIST.iter().all(|op| ops.has(*op) != AWAITED.contains(op)));
+    for seed in 0..400 {
+        let calls = read_trace(&trace(seed, ops)).unwrap_or_default();
+        assert!(calls.iter().all(|call| ops.has(call.op())), "seed {seed}");
+    }
+}
+
 #[test]
 fn every_op_gets_every_answer_it_can_give() {
     let mut seen = BTreeSet::new();
@@ -169,6 +229,7 @@ fn every_op_gets_every_answer_it_can_give() {
         (32, &[0, 11, 13]),
         (33, &[0]),
         (34, &[0]),
+        (35, &[0, 3, 12]),
     ];
     for (op, numbers) in expected {
         let given: Vec<u8> = seen.iter().filter(|(other, _)| other == op).map(|(_, number)| *number).collect();

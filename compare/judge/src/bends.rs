@@ -17,18 +17,25 @@ pub fn notices(bend: Bend, trace: &[u8], straight: &[u8]) -> bool {
     with_bend(bend, || answers_of(trace)) != straight
 }
 
+/// Is the bend one that a reachable store can show by calls of these ops?
+pub fn shown(bend: Bend, ops: Ops) -> bool {
+    bend.reach() == Reach::Shown && bend.op().is_none_or(|op| ops.has(op))
+}
+
 /// The bend of this name.
 pub fn named(name: &str) -> Option<Bend> {
     Bend::ALL.iter().copied().find(|bend| format!("{bend:?}") == name)
 }
 
-/// Prints the table; false if a bend that a reachable store can show goes unnoticed, or one that none can is noticed.
+/// Prints the table of the bends that these ops can show; false if one that a reachable store can show goes unnoticed, or
+/// one that none can is noticed.
 pub fn run(traces: u64, seed: u64, ops: Ops) -> bool {
-    let mut counts = vec![0_u64; Bend::ALL.len()];
+    let all: Vec<Bend> = Bend::ALL.iter().copied().filter(|bend| bend.op().is_none_or(|op| ops.has(op))).collect();
+    let mut counts = vec![0_u64; all.len()];
     for number in 0..traces {
         let trace = generate::trace(seed.wrapping_add(number), ops);
         let straight = answers_of(&trace);
-        for (bend, count) in Bend::ALL.iter().zip(&mut counts) {
+        for (bend, count) in all.iter().zip(&mut counts) {
             *count += u64::from(notices(*bend, &trace, &straight));
         }
     }
@@ -36,7 +43,7 @@ pub fn run(traces: u64, seed: u64, ops: Ops) -> bool {
     let mut unnoticed = 0;
     let mut never = 0;
     let mut fewest = u64::MAX;
-    for (bend, count) in Bend::ALL.iter().zip(&counts) {
+    for (bend, count) in all.iter().zip(&counts) {
         let mark = match (bend.reach(), count) {
             (Reach::Shown, 0) => {
                 unnoticed += 1;
@@ -57,8 +64,8 @@ pub fn run(traces: u64, seed: u64, ops: Ops) -> bool {
         };
         println!("{count:>7}  {:<32} {}{mark}", format!("{bend:?}"), bend.text());
     }
-    let shown = Bend::ALL.len() - never - unnoticed;
-    let all = Bend::ALL.len();
+    let shown = all.len() - never - unnoticed;
+    let all = all.len();
     println!("{all} bends: {shown} noticed, the least by {fewest} traces; {never} that no reachable store can show");
     println!("{unnoticed} bends at fault");
     unnoticed == 0

@@ -1,6 +1,7 @@
 //! What was compared: the calls by op; those on a box that is just full, those that meet a lock, the reads by the records
 //! that they examine, and the calls that pack the area anew; the single forms by the lengths that a batch's length byte
-//! sets apart; the restores by the order of their entries, by the answer and by what makes the image sick.
+//! sets apart; the restores by the order of their entries, by the answer and by what makes the image sick; and the images
+//! that were written.
 
 use std::collections::BTreeMap;
 
@@ -17,6 +18,7 @@ use paper::trace::{Call, read_trace};
 
 use crate::held::Held;
 use crate::reads::Reads;
+use crate::written::Written;
 
 #[derive(Default)]
 pub struct Counts {
@@ -30,6 +32,7 @@ pub struct Counts {
     lengths: BTreeMap<usize, u64>,
     restores: BTreeMap<&'static str, BTreeMap<u8, u64>>,
     sick: BTreeMap<&'static str, u64>,
+    written: Written,
 }
 
 impl Counts {
@@ -40,6 +43,7 @@ impl Counts {
         };
         self.answers += calls.len() as u64;
         let (mut store, mut area) = (Store::default(), Area::default());
+        self.written.begin();
         for call in &calls {
             self.take_full(&store);
             let (answer, packed) = area.run(&mut store, call);
@@ -48,6 +52,7 @@ impl Counts {
             self.no_room += u64::from(answer.number == NO_ROOM);
             self.held.take(&mut store, call, &answer);
             self.reads.take(&store, call, &answer);
+            self.written.take(&store, call, &answer);
             match call {
                 Call::Prewrite { key, row, .. } => self.take_lengths(&[key.len(), row.len()]),
                 Call::Commit { key, .. } | Call::Rollback { key, .. } => self.take_lengths(&[key.len()]),
@@ -116,10 +121,10 @@ impl Counts {
         let singles: u64 = [6, 8, 10].iter().filter_map(|op| self.ops.get(op)).sum();
         let named: Vec<String> = LENGTHS.iter().map(of).collect();
         println!("single forms: {singles} calls; keys and rows of {}; above 255 in all x{above}", named.join(", "));
-        self.print_restores();
+        self.print_images();
     }
 
-    pub fn print_restores(&self) {
+    pub fn print_images(&self) {
         let of = |(order, answers): (&&str, &BTreeMap<u8, u64>)| {
             let answers: Vec<String> = answers.iter().map(|(number, count)| format!("{number} x{count}")).collect();
             format!("{order} {}", answers.join(", "))
@@ -128,5 +133,6 @@ impl Counts {
         println!("restores by answer: {} in all; {}", self.ops.get(&32).unwrap_or(&0), orders.join("; "));
         let sick: Vec<String> = self.sick.iter().map(|(kind, count)| format!("{kind} x{count}")).collect();
         println!("restores of sick images without other fault: {}", sick.join(", "));
+        self.written.print();
     }
 }

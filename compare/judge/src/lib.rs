@@ -13,3 +13,4 @@ pub mod sample;
 pub mod shrink;
 pub mod two;
 pub mod words;
+mod written;

@@ -17,8 +17,9 @@ judge bends    [--traces N] [--seed S] [--ops LIST]                  how many tr
 judge sample   [--ops LIST] FOLDER                                   writes the fixed sample of traces and answers
 judge check    FOLDER --driver COMMAND..                             replays a sample with a driver
 judge smallest FILE --bend NAME | [--save FILE] --driver COMMAND..   shrinks the trace in a file
-LIST is ops of TRACE.md such as 32,33,34; all if left out. COMMAND takes all words to the end of the line; a driver that
-writes nothing for as many seconds as --patience says (20) counts as hanging and is stopped.";
+LIST is ops of TRACE.md such as 32,33,34; if left out, all, and for a driver and its sample those that the driver has.
+COMMAND takes all words to the end of the line; a driver that writes nothing for as many seconds as --patience says (20)
+counts as hanging and is stopped.";
 
 /// The words of a command line.
 struct Words {
@@ -27,7 +28,7 @@ struct Words {
     traces: Option<u64>,
     per_start: u64,
     patience: u64,
-    ops: Ops,
+    ops: Option<Ops>,
     smallest: bool,
     bend: Option<String>,
     save: Option<String>,
@@ -54,14 +55,15 @@ fn command() -> Option<bool> {
     let length = Length::new(Duration::from_secs(words.seconds), words.traces);
     let driver = Driver { words: words.driver.clone(), patience: Duration::from_secs(words.patience) };
     let has_driver = !words.driver.is_empty();
+    let (ops, of_driver) = (words.ops.unwrap_or(Ops::all()), words.ops.unwrap_or(Ops::of_driver()));
     match (name.as_str(), &words.plain[..]) {
-        ("one", []) => Some(one::run(&length, words.seed, words.ops, words.smallest)),
+        ("one", []) => Some(one::run(&length, words.seed, ops, words.smallest)),
         ("two", []) if has_driver && words.per_start > 0 => {
-            let Words { seed, ops, per_start, save, .. } = words;
-            Some(two::run(&driver, &length, &Choice { seed, ops, per_start, save }))
+            let Words { seed, per_start, save, .. } = words;
+            Some(two::run(&driver, &length, &Choice { seed, ops: of_driver, per_start, save }))
         }
-        ("bends", []) => Some(bends::run(words.traces.unwrap_or(1000), words.seed, words.ops)),
-        ("sample", [folder]) => Some(sample::write(folder, words.ops)),
+        ("bends", []) => Some(bends::run(words.traces.unwrap_or(1000), words.seed, ops)),
+        ("sample", [folder]) => Some(sample::write(folder, of_driver)),
         ("check", [folder]) if has_driver => Some(sample::check(folder, &driver)),
         ("smallest", [file]) => smallest(file, &words, &driver),
         _ => None,
@@ -105,7 +107,7 @@ fn read(mut words: impl Iterator<Item = String>) -> Option<Words> {
         traces: None,
         per_start: 200,
         patience: 20,
-        ops: Ops::all(),
+        ops: None,
         smallest: false,
         bend: None,
         save: None,
@@ -119,7 +121,7 @@ fn read(mut words: impl Iterator<Item = String>) -> Option<Words> {
             "--traces" => read.traces = Some(words.next()?.parse().ok()?),
             "--per-start" => read.per_start = words.next()?.parse().ok()?,
             "--patience" => read.patience = words.next()?.parse().ok()?,
-            "--ops" => read.ops = Ops::read(&words.next()?)?,
+            "--ops" => read.ops = Some(Ops::read(&words.next()?)?),
             "--smallest" => read.smallest = true,
             "--bend" => read.bend = Some(words.next()?),
             "--save" => read.save = Some(words.next()?),

@@ -4,7 +4,7 @@
 use std::collections::BTreeMap;
 
 use generate::Ops;
-use paper::answer::{Answer, BATCH, CONTRADICTION, HISTORY, IMAGE, LOCKED, SHORT_BUFFER};
+use paper::answer::{Answer, BATCH, CONTRADICTION, HISTORY, IMAGE, LOCKED, SHORT_BUFFER, ZERO};
 use paper::run::run_call;
 use paper::store::{Bytes, Store};
 use paper::trace::{Call, read_trace};
@@ -30,10 +30,14 @@ pub struct Difference {
 /// More than that line is asked where it can be: an accepted call's count and payload, and that a WriteConflict's text
 /// names the holder exactly for 7, of which it has transaction and start alone. Of ours, a row out of form (2) is
 /// InvalidArgument, a batch not in form (6) makes no call, a short buffer (12) has the Rust give a page longer than the
-/// buffer; where there is no room (11) the Rust says Ok, which is a difference of the class `room`.
+/// buffer; where there is no room (11) the Rust says Ok, which is a difference of the class `room`. To write an image the
+/// Rust is told no table number, so table 0 (3) makes no call.
 pub fn agrees(call: &Call, paper: &Answer, said: &Outcome) -> bool {
     let buffer = match call {
-        Call::Page { buffer, .. } | Call::IntentPage { buffer, .. } | Call::Conflicting { buffer, .. } => Some(*buffer),
+        Call::Page { buffer, .. } | Call::IntentPage { buffer, .. } | Call::Conflicting { buffer, .. } => {
+            Some(u64::from(*buffer))
+        }
+        Call::WriteImage { buffer, .. } => Some(u64::from(*buffer)),
         _ => None,
     };
     // "Other refusals still count 0": an error of the Rust's has no count. At a record a read's 9 counts, in no store of ours.
@@ -52,7 +56,8 @@ pub fn agrees(call: &Call, paper: &Answer, said: &Outcome) -> bool {
         (CONTRADICTION | IMAGE, Outcome::CorruptData) => true,
         (1 | 2 | 3 | 4 | 5 | 10, Outcome::InvalidArgument) => true,
         (BATCH | IMAGE, Outcome::NoCall) => true,
-        (SHORT_BUFFER, Outcome::Accepted { count, .. }) => buffer.is_some_and(|buffer| *count > u64::from(buffer)),
+        (ZERO, Outcome::NoCall) => matches!(call, Call::WriteImage { table: 0, .. }),
+        (SHORT_BUFFER, Outcome::Accepted { count, .. }) => buffer.is_some_and(|buffer| *count > buffer),
         _ => false,
     }
 }
@@ -127,7 +132,7 @@ pub fn run(length: &Length, seed: u64, ops: Ops, show_smallest: bool) -> bool {
         let (shown, from_paper) = tallies.get(class).map_or((0, 0), |tally| (tally.shown, tally.from_paper));
         println!("{:<34} {shown:>9} {from_paper:>11}  {}", class.word(), class.text());
     }
-    counts.print_restores();
+    counts.print_images();
     println!("no difference outside these classes");
     if show_smallest {
         for (class, tally) in &tallies {

@@ -5,10 +5,11 @@ use std::collections::{BTreeMap, BTreeSet};
 
 use paper::form::{key_batch, mutation_batch};
 use paper::page::Bounds;
-use paper::restore::Image;
+use paper::restore::{Image, RawLock, RawRecord};
 use paper::room::{DEFAULTS, LINES, LIVE_BYTES, LOCKS};
 use paper::store::{Bytes, Kind, Lock, Store};
 use paper::trace::Call;
+use ragnor::checkpoint::CapturedMvccState;
 use ragnor::engine::{Batch, Engine, Entries, Intent, Page, Range};
 use ragnordb_common::codec::{LockRecord, WriteKind, WriteRecord};
 use ragnordb_common::ids::{Timestamp, TxnId};
@@ -33,7 +34,7 @@ pub enum Outcome {
     CorruptData,
     InvalidArgument,
     NotImplemented,
-    /// The batch or image is not in form, so there is nothing to hand over.
+    /// The batch or image is not in form, or the table number is 0, so there is nothing to hand over.
     NoCall,
 }
 
@@ -135,7 +136,39 @@ pub fn run_rust<E: Engine>(engine: &mut E, call: &Call) -> Outcome {
         },
         Call::Statistics => Outcome::Accepted { count: 0, payload: numbers(&engine.statistics()) },
         Call::Marks => Outcome::Accepted { count: 0, payload: numbers(&engine.marks()) },
+        Call::WriteImage { table: 0, .. } => Outcome::NoCall,
+        Call::WriteImage { table, .. } => outcome(engine.capture(), |all| {
+            let image = image_of(*table, all).write();
+            (image.len() as u64, image)
+        }),
     }
+}
+
+/// The Rust captures all tables into one and is not told a table number. What it captured, in its order, less the entries
+/// whose key is of another table, is what the table's image must hold.
+fn image_of(table: u32, all: CapturedMvccState) -> Image {
+    let of_table = |key: &[u8]| key.starts_with(&table.to_be_bytes());
+    let stamp = |stamp: Option<snapshot::Timestamp>| stamp.expect("every entry has its stamp").id;
+    let defaults = all.default_values.into_iter().filter(|entry| of_table(&entry.key));
+    let locks = all.locks.into_iter().filter(|entry| of_table(&entry.key));
+    let writes = all.writes.into_iter().filter(|entry| of_table(&entry.key));
+    Image {
+        table,
+        defaults: defaults.map(|entry| (entry.key, stamp(entry.start_timestamp), entry.row)).collect(),
+        locks: locks.map(|entry| (entry.key, raw_lock(entry.record.expect("every lock has its record")))).collect(),
+        writes: writes
+            .map(|entry| {
+                let record = entry.record.expect("every write has its record");
+                let record = RawRecord { start: record.start, commit: record.commit, kind: record.kind };
+                (entry.key, stamp(entry.write_timestamp), record)
+            })
+            .collect(),
+    }
+}
+
+fn raw_lock(lock: snapshot::LockRecord) -> RawLock {
+    let snapshot::LockRecord { transaction, primary, start, time_to_live, kind } = lock;
+    RawLock { transaction, primary, start, time_to_live, kind }
 }
 
 /// The write records that the Rust's read looks at, which it does not say. Counted here, from its own maps, by change

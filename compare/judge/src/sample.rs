@@ -4,14 +4,14 @@
 use std::collections::BTreeMap;
 use std::path::Path;
 
-use generate::{Ops, chains, held, hostile, named, repacks, sick, singles};
+use generate::{Ops, chains, held, hostile, named, repacks, sick, singles, written};
 use paper::area;
-use paper::bend::{Bend, Reach};
+use paper::bend::Bend;
 use paper::run::run_trace;
 use paper::store::Bytes;
 use paper::trace::{read_trace, write_trace};
 
-use crate::bends::{answers_of, notices};
+use crate::bends::{answers_of, notices, shown};
 use crate::two::{Driver, many_form};
 
 /// Traces are tried from this seed on, so many of each size.
@@ -24,9 +24,9 @@ const SIZES: [usize; 3] = [3_000, 20_000, 70_000];
 /// What is drawn for the sample stays below this.
 const MOST_OF_ALL: usize = 1_400_000;
 
-/// What the sample has so far.
-#[derive(Default)]
+/// What the sample has so far, of calls of these ops.
 struct Sample {
+    ops: Ops,
     traces: Vec<Bytes>,
     bytes: usize,
     answers: BTreeMap<(u8, u8), u64>,
@@ -35,6 +35,11 @@ struct Sample {
 }
 
 impl Sample {
+    fn new(ops: Ops) -> Self {
+        let (traces, answers, bends) = (Vec::new(), BTreeMap::new(), BTreeMap::new());
+        Sample { ops, traces, bytes: 0, answers, bends, calls: 0 }
+    }
+
     /// Takes the trace if it shows something of which the sample has too little and is no longer with its answers than
     /// this; or if it must be in, for which no length is given.
     fn offer(&mut self, trace: Bytes, longest: Option<usize>) {
@@ -49,7 +54,7 @@ impl Sample {
         let noticed: Vec<usize> = Bend::ALL
             .iter()
             .enumerate()
-            .filter(|(at, bend)| bend.reach() == Reach::Shown && wanted(self.bends.get(at)))
+            .filter(|(at, bend)| shown(**bend, self.ops) && wanted(self.bends.get(at)))
             .filter(|(_, bend)| notices(**bend, &trace, &straight))
             .map(|(at, _)| at)
             .collect();
@@ -73,22 +78,25 @@ fn pairs(trace: &[u8]) -> Vec<(u8, u8)> {
 /// Writes the traces to `stdin` and the answers to `stdout` of the folder, and says what is in them; false if that fails
 /// or something is not covered.
 pub fn write(folder: &str, ops: Ops) -> bool {
-    let mut sample = Sample::default();
+    let mut sample = Sample::new(ops);
     for (_, calls) in named::cases() {
         if calls.iter().all(|call| ops.has(call.op())) {
             sample.offer(write_trace(&calls), None);
         }
     }
+    // Images are written in cases of their own: those of full boxes are long, and would keep out what else a trace shows.
+    let drawn = ops.without(35);
     for longest in SIZES {
         for number in 0..TRIED {
             // With every full box: a sample may take its time.
             let seed = SEED + number;
-            sample.offer(generate::trace_of(generate::kind_of(seed), seed, ops), Some(longest));
+            sample.offer(generate::trace_of(generate::kind_of(seed), seed, drawn), Some(longest));
         }
     }
     // Last, so that what the drawn traces are taken for does not hang on them.
-    let last = [repacks::cases(), singles::cases(), hostile::cases(), sick::cases(), held::cases(), chains::cases()];
-    for (_, calls) in last.into_iter().flatten() {
+    let last =
+        [repacks::cases, singles::cases, hostile::cases, sick::cases, held::cases, chains::cases, written::cases];
+    for (_, calls) in last.into_iter().flat_map(|cases| cases()) {
         if calls.iter().all(|call| ops.has(call.op())) {
             sample.offer(write_trace(&calls), None);
         }
@@ -101,7 +109,7 @@ pub fn write(folder: &str, ops: Ops) -> bool {
         .and_then(|()| std::fs::write(folder.join("stdout"), &answers));
     print!("{contents}");
     match written {
-        Ok(()) => ops != Ops::all() || uncovered(&sample).is_empty(),
+        Ok(()) => !ops.complete() || uncovered(&sample).is_empty(),
         Err(error) => {
             println!("the sample is not written: {error}");
             false
@@ -109,10 +117,10 @@ pub fn write(folder: &str, ops: Ops) -> bool {
     }
 }
 
-/// The bends that a reachable store can show and no trace of the sample notices.
+/// The bends that a reachable store can show by the sample's ops, and that no trace of it notices.
 fn uncovered(sample: &Sample) -> Vec<Bend> {
     let all = Bend::ALL.iter().enumerate();
-    let missing = all.filter(|(at, bend)| bend.reach() == Reach::Shown && !sample.bends.contains_key(at));
+    let missing = all.filter(|(at, bend)| shown(**bend, sample.ops) && !sample.bends.contains_key(at));
     missing.map(|(_, bend)| *bend).collect()
 }
 

@@ -61,6 +61,7 @@ pub fn call(call: &Call) -> String {
         Call::Restore { image } => format!("restore: {}", image_words(image)),
         Call::Statistics => "statistics".to_string(),
         Call::Marks => "high-water marks".to_string(),
+        Call::WriteImage { table, buffer } => format!("write the image of table {table}, buffer {buffer}"),
     }
 }
 

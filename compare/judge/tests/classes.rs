@@ -26,9 +26,22 @@ const UNSEEN: &[(&str, &[Bend])] = &[
             Bend::TraceTrailing,
             Bend::TraceShortLengthsOnly,
             Bend::DamagedTraceSilent,
+            Bend::LongBufferOneLess,
+            Bend::LongBufferOneMore,
         ],
     ),
-    ("the Rust returns a page and is lent no buffer", &[Bend::BufferRestZeroed, Bend::ShortBufferFilled]),
+    (
+        "the Rust returns a page or an image's entries and is lent no buffer",
+        &[
+            Bend::BufferRestZeroed,
+            Bend::ShortBufferFilled,
+            Bend::ShortImageFilled,
+            Bend::ShortImageSections,
+            Bend::ShortImageLastByte,
+            Bend::TableZeroFills,
+            Bend::ImageRestCleared,
+        ],
+    ),
     (
         "1, 2, 3 and 4 are one error in the Rust",
         &[

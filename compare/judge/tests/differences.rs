@@ -10,6 +10,7 @@ use paper::restore::{Image, RawLock, RawRecord};
 use paper::run::run_call;
 use paper::store::{Kind, Lock, Record, Store};
 use paper::trace::Call;
+use ragnor::engine::Engine;
 
 fn a() -> Vec<u8> {
     vec![0, 0, 0, 1, b'a']
@@ -219,6 +220,36 @@ fn sick_image() {
     // Too large besides: 13 goes before 11.
     let key = |number: u16| [&[0, 0, 0, 1][..], &number.to_be_bytes()].concat();
     sick(&[], (0..257).map(|number| (key(number), lock(1, 1).1)).collect(), vec![]);
+}
+
+/// No class: the Rust captures every table into one. Only what it captured of the table asked for is compared.
+#[test]
+fn all_tables_are_captured_into_one() {
+    let other = [&[0, 0, 0, 2][..], b"a"].concat();
+    let batch = mutation_bytes(&[Entry { key: other.clone(), kind: Kind::Put, row: vec![0, 0] }]);
+    let calls = [
+        restore(&[5, 6], vec![lock(30, 2)], vec![write(20, 5, 1), write(10, 6, 1)]),
+        Call::OneStep { transaction: 7, start: 10, commit: 12, batch },
+    ];
+    let mut store = Store::default();
+    let mut engine = ragnor::shown::InMemoryMvcc::default();
+    for call in &calls {
+        assert_eq!((run_call(&mut store, call).number, run_rust(&mut engine, call).name()), (0, "Ok"));
+    }
+    let all = engine.capture().expect("sound entries are captured");
+    let keys: Vec<Vec<u8>> = all.default_values.iter().map(|entry| entry.key.clone()).collect();
+    assert_eq!(keys, [a(), a(), other.clone()]);
+    assert_eq!((all.locks.len(), all.writes.len()), (1, 3));
+    for (table, entries) in [(1, 5), (2, 2), (3, 0)] {
+        assert_eq!(store.image_of(table).entries(), entries);
+        for buffer in [999, 10, 9] {
+            let written = [&calls[..], &[Call::WriteImage { table, buffer }]].concat();
+            assert!(differences(&written).is_empty(), "table {table}, buffer {buffer}");
+        }
+    }
+    // The Rust is told no table number, so it has nothing to refuse.
+    let zero = Call::WriteImage { table: 0, buffer: 0 };
+    assert_eq!((run_call(&mut store, &zero).number, run_rust(&mut engine, &zero)), (3, Outcome::NoCall));
 }
 
 #[test]

@@ -1,13 +1,13 @@
 //! The sample that stands in the repository, crates/drive/stdin and stdout: it holds the paper's answers, and it notices
-//! every bend that a reachable store can show.
+//! every bend that a reachable store can show by calls that the driver has.
 
 use std::path::PathBuf;
 
-use generate::repacks;
-use judge::bends::{answers_of, notices};
+use generate::{Ops, repacks};
+use judge::bends::{answers_of, notices, shown};
 use judge::two::traces_of;
 use paper::area;
-use paper::bend::{Bend, Reach};
+use paper::bend::Bend;
 use paper::run::many_answers;
 
 fn file(name: &str) -> Vec<u8> {
@@ -42,6 +42,6 @@ fn every_bend_is_noticed() {
     let straight: Vec<_> = traces.iter().map(|trace| answers_of(trace)).collect();
     let noticed = |bend| traces.iter().zip(&straight).any(|(trace, straight)| notices(bend, trace, straight));
     for bend in Bend::ALL {
-        assert_eq!(noticed(*bend), bend.reach() == Reach::Shown, "{bend:?}: {}", bend.text());
+        assert_eq!(noticed(*bend), shown(*bend, Ops::of_driver()), "{bend:?}: {}", bend.text());
     }
 }

@@ -54,9 +54,10 @@ pub enum Reach {
     Never(&'static str),
 }
 
-/// Makes the list of bends: each a name, what it does, and why no reachable store can show it if none can.
+/// Makes the list of bends: each a name, what it does, the op that alone can show it if only one can, and why no reachable
+/// store can show it if none can.
 macro_rules! bends {
-    ($($name:ident $text:literal $(never $reason:literal)?;)*) => {
+    ($($name:ident $text:literal $(of $op:literal)? $(never $reason:expr)?;)*) => {
         /// One rule of the paper, bent.
         #[derive(Clone, Copy, Debug, PartialEq, Eq)]
         pub enum Bend { $($name,)* }
@@ -69,13 +70,20 @@ macro_rules! bends {
                 match self { $(Bend::$name => $text,)* }
             }
 
+            /// The op without which no trace shows the bend, where it is said.
+            pub fn op(self) -> Option<u8> {
+                match self { $(Bend::$name => bends!(@op $($op)?),)* }
+            }
+
             pub fn reach(self) -> $crate::bend::Reach {
                 match self { $(Bend::$name => bends!(@reach $($reason)?),)* }
             }
         }
     };
+    (@op) => { None };
+    (@op $op:literal) => { Some($op) };
     (@reach) => { $crate::bend::Reach::Shown };
-    (@reach $reason:literal) => { $crate::bend::Reach::Never($reason) };
+    (@reach $reason:expr) => { $crate::bend::Reach::Never($reason) };
 }
 
 pub(crate) use bends;

@@ -1,6 +1,11 @@
-//! The list of bends: one line each, in the paper's order. A bend that no reachable store can show says why.
+//! The list of bends: one line each, in the paper's order. One that no reachable store can show says why.
 
 use crate::bend::bends;
+
+const ONE_LINE: &str = "a key and start have one line: restore asks it and every call keeps it";
+const PUT_ROWS: &str = "a row stands for exactly the Put lines: restore asks it and every call keeps it";
+const SOUND_LOCKS: &str = "every call leaves sound locks and restore refuses others";
+const SOUND_RECORDS: &str = "every call leaves sound records and restore refuses others";
 
 bends! {
     // Key, row, batch
@@ -34,8 +39,7 @@ bends! {
     RecordStartZero "a record of start 0 is sound";
     RecordCommitEqual "a Put or Delete may have commit equal to start";
     RollbackCommitAbove "a Rollback may have commit above start";
-    StoredRecordUnjudged "stored records are not judged"
-        never "every call leaves sound records and restore refuses others";
+    StoredRecordUnjudged "stored records are not judged" never SOUND_RECORDS;
     LockFieldsSwapped "a lock is written with time to live before start";
     OwnByStart "own means the same start";
     OwnByTransaction "own means the same transaction";
@@ -84,8 +88,7 @@ bends! {
     LocksOneLess "255 locks at most";
     LocksOneMore "257 locks at most";
     DefaultsOneLess "1,023 defaults at most";
-    DefaultsOneMore "1,025 defaults at most"
-        never "every default has a Put line of its own, so the lines are as many";
+    DefaultsOneMore "1,025 defaults at most" never "every default has a Put line of its own, so the lines are as many";
     LiveBytesOneLess "49,151 live bytes at most";
     LiveBytesOneMore "49,153 live bytes at most";
     FreedRoomStaysTaken "room freed by a call counts as taken in it";
@@ -100,13 +103,11 @@ bends! {
     ReadLockAtAnyMoment "a lock above the moment refuses a read";
     ReadRecordStrictlyBelow "a record at the moment is not read";
     ReadFromTheOldest "records are read from the oldest upward";
-    ReadRecordUnjudged "a read does not judge records"
-        never "every call leaves sound records and restore refuses others";
+    ReadRecordUnjudged "a read does not judge records" never SOUND_RECORDS;
     RollbackReadsAsDelete "a Rollback hides older rows";
     DeleteReadsThrough "a Delete shows the row before it";
     ReadNewestDefault "a Put shows the newest default of its key";
-    ReadRowUnjudged "a read does not judge the row's form"
-        never "only rows in form are stored or restored";
+    ReadRowUnjudged "a read does not judge the row's form" never "only rows in form are stored or restored";
     // A read's count (miscounted.rs)
     CountsAllRecords "a read counts all records of its key";
     CountsAllByMoment "a read counts all records of its key at or below the moment";
@@ -128,8 +129,7 @@ bends! {
     OneIntentCounts "one intent counts the lock that it shows";
     OneIntentAtAnyMoment "one intent shows a lock above the moment";
     OneIntentStrictlyBelow "one intent hides a lock at the moment";
-    OneIntentUnjudged "one intent shows an unsound lock"
-        never "every call leaves sound locks and restore refuses others";
+    OneIntentUnjudged "one intent shows an unsound lock" never SOUND_LOCKS;
     // Page
     LimitZeroTaken "a row or lock limit of 0 is not refused";
     ByteLimitZeroTaken "a byte limit of 0 is not refused as 3";
@@ -167,10 +167,8 @@ bends! {
     // Intent pages
     LockLimitStopWithoutMore "a stop at the lock limit says no more";
     IntentPageMoreWhenFilled "an intent page that is just filled says more";
-    IntentPageUnjudged "an intent page shows unsound locks"
-        never "every call leaves sound locks and restore refuses others";
-    ConflictingUnjudged "conflicting intents shows unsound locks"
-        never "every call leaves sound locks and restore refuses others";
+    IntentPageUnjudged "an intent page shows unsound locks" never SOUND_LOCKS;
+    ConflictingUnjudged "conflicting intents shows unsound locks" never SOUND_LOCKS;
     ConflictingStrictlyBelow "a lock at the moment does not conflict";
     SkippedLockMakesMore "a lock above the moment makes more";
     LockCostOf25 "a lock costs 25 plus key and primary";
@@ -201,11 +199,9 @@ bends! {
     ReplayPrimaryAny "a replay may bring another primary";
     ReplayTimeToLiveAny "a replay may bring another time to live";
     ReplayKindAny "a replay may bring another kind";
-    ReplayRowMissingTaken "a replay is accepted though its row is missing"
-        never "a row stands for exactly the Put lines: restore asks it and every call keeps it";
+    ReplayRowMissingTaken "a replay is accepted though its row is missing" never PUT_ROWS;
     ReplayRowAny "a replay may bring another row";
-    ReplayDeleteWithDefaultRefused "a Delete's replay beside a default is 9"
-        never "a row stands for exactly the Put lines: restore asks it and every call keeps it";
+    ReplayDeleteWithDefaultRefused "a Delete's replay beside a default is 9" never PUT_ROWS;
     // Single forms
     LongKeyIs6 "a single key above 255 bytes is 6";
     LongKeyFirst "a single key above 255 bytes is 1 before any other step";
@@ -220,26 +216,18 @@ bends! {
     CommitEmptyTaken "an empty commit is accepted";
     CommitKeysFirst "1 of all keys comes first in a commit";
     CommitAppliesAsItGoes "a commit applies keys before the last is checked";
-    CommitHighestRecord "the highest-stamped record with this start decides"
-        never "a key and start have one line: restore asks it and every call keeps it";
+    CommitHighestRecord "the highest-stamped record with this start decides" never ONE_LINE;
     CommitOfRolledBack9 "a commit of what was rolled back is 9";
     OtherCommitTaken "a replay with another commit is accepted";
-    ReplayLockOfOwnAlone "a replay minds the call's own lock only"
-        never "a key and start have one line: restore asks it and every call keeps it";
-    ReplayLockIgnored "a replay minds no lock"
-        never "a key and start have one line: restore asks it and every call keeps it";
-    ReplayDefaultIgnored "a replay minds no missing default"
-        never "a row stands for exactly the Put lines: restore asks it and every call keeps it";
-    ReplayDeleteDefaultRefused "a Delete's replay with a default is 9"
-        never "a row stands for exactly the Put lines: restore asks it and every call keeps it";
+    ReplayLockOfOwnAlone "a replay minds the call's own lock only" never ONE_LINE;
+    ReplayLockIgnored "a replay minds no lock" never ONE_LINE;
+    ReplayDefaultIgnored "a replay minds no missing default" never PUT_ROWS;
+    ReplayDeleteDefaultRefused "a Delete's replay with a default is 9" never PUT_ROWS;
     ReplayRefused "a replay of a commit is 8";
     CommitNoLock9 "a commit without lock is 9";
-    CommitWithoutRowTaken "a Put lock without default is committed"
-        never "a row stands for exactly the Put lines: restore asks it and every call keeps it";
-    CommitDeleteWithRowTaken "a Delete lock with a default is committed"
-        never "a row stands for exactly the Put lines: restore asks it and every call keeps it";
-    CommitRowBeforeHistory "the row's 9 comes before the newest stamp's 8"
-        never "a row stands for exactly the Put lines: restore asks it and every call keeps it";
+    CommitWithoutRowTaken "a Put lock without default is committed" never PUT_ROWS;
+    CommitDeleteWithRowTaken "a Delete lock with a default is committed" never PUT_ROWS;
+    CommitRowBeforeHistory "the row's 9 comes before the newest stamp's 8" never PUT_ROWS;
     CommitNewestIgnoresRollbacks "the newest stamp is that of no Rollback";
     CommitOverNoNewer "any record above the start is 8 in a commit";
     CommitNewestAbove "a newest stamp equal to commit is no 8";
@@ -257,17 +245,12 @@ bends! {
     RollbackOverStampTaken "a rollback replaces a record stamped with its start";
     RollbackOverStamp8 "a rollback over a record stamped with its start is 8";
     RollbackBesideAnyLock "a Rollback beside any lock is 9";
-    RollbackReplayLockIgnored "a rollback's replay minds no lock"
-        never "a key and start have one line: restore asks it and every call keeps it";
-    RollbackReplayRowIgnored "a rollback's replay minds no default"
-        never "a row stands for exactly the Put lines: restore asks it and every call keeps it";
+    RollbackReplayLockIgnored "a rollback's replay minds no lock" never ONE_LINE;
+    RollbackReplayRowIgnored "a rollback's replay minds no default" never PUT_ROWS;
     RollbackReplayRefused "a rollback's replay is 8";
-    RollbackWithoutRowTaken "a Put lock without default is rolled back"
-        never "a row stands for exactly the Put lines: restore asks it and every call keeps it";
-    RollbackDeleteWithRowTaken "a Delete lock with a default is rolled back"
-        never "a row stands for exactly the Put lines: restore asks it and every call keeps it";
-    RollbackOrphanTaken "a default without lock is no 9 in a rollback"
-        never "a row stands for exactly the Put lines: restore asks it and every call keeps it";
+    RollbackWithoutRowTaken "a Put lock without default is rolled back" never PUT_ROWS;
+    RollbackDeleteWithRowTaken "a Delete lock with a default is rolled back" never PUT_ROWS;
+    RollbackOrphanTaken "a default without lock is no 9 in a rollback" never PUT_ROWS;
     RollbackNeedsLock "a rollback without lock is 8";
     RollbackKeepsLock "a rollback leaves the lock";
     RollbackKeepsRow "a rollback leaves the row";
@@ -276,8 +259,7 @@ bends! {
     OneStepEmptyFirst "an empty one-step batch is accepted before 3";
     OneStepContentsLater "1 and 2 come with each entry's history";
     OneStepLocksBeforeReplay "locks are judged before replays";
-    OneStepReplayDropsLock "a replay drops an own lock"
-        never "a key and start have one line: restore asks it and every call keeps it";
+    OneStepReplayDropsLock "a replay drops an own lock" never ONE_LINE;
     OneStepReplayCountsNone "a replay counts 0";
     OneStepSomeTaken "a batch applied in part is completed";
     OneStepHistoryFirst "8 comes before 7 in a one-step batch";
@@ -293,8 +275,7 @@ bends! {
     OneStepStampAbove "a record stamped with the start itself is no 8";
     OneStepIgnoresRollbacks "a Rollback is no 8 in a one-step batch";
     OneStepOldRowStays "a row already stored at this start stays";
-    OneStepDeleteDropsRow "a Delete drops a default at its start"
-        never "a row stands for exactly the Put lines: restore asks it and every call keeps it";
+    OneStepDeleteDropsRow "a Delete drops a default at its start" never PUT_ROWS;
     OneStepKeepsLock "an own lock stays";
     // Restore
     ImageTrailing "bytes may follow an image";
@@ -345,6 +326,39 @@ bends! {
     RefusedImageEmpties "a refused image empties the store";
     ImageWithoutRoom13 "an image beyond the room is 13";
     ImageAddsToStore "restore adds to the store";
+    // Write the image (miswritten.rs)
+    EveryTableWritten "an image has the entries of every table" of 35;
+    LaterTablesWritten "an image has the entries of later tables too" of 35;
+    EarlierTablesWritten "an image has the entries of earlier tables too" of 35;
+    LocksOfEveryTable "an image has the locks of every table" of 35;
+    TableByFirstByte "a key is of the table written if the first byte is the table's" of 35;
+    TableByLastByte "a key is of the table written if the fourth byte is the table's" of 35;
+    LocksByPrimary "a lock is of the table of its primary" of 35;
+    ForeignPrimaryLeftOut "a lock whose primary is of another table is not written" of 35;
+    RollbacksNotWritten "Rollbacks are not written" of 35;
+    LockedRowsNotWritten "the row of a lock is not written" of 35;
+    DefaultsByLines "defaults are written in the order of their lines, a lock's before those of records" of 35;
+    DefaultsByStamps "defaults are written in the order of their records' stamps, a lock's last" of 35;
+    WritesByStart "the writes of a key ascend by start" of 35;
+    WritesDescend "the writes of a key descend" of 35;
+    StampsBeforeKeys "entries ascend by stamp, then key" of 35;
+    LongKeysLast "entries of shorter keys stand before those of longer ones" of 35;
+    LocksBeforeDefaults "locks are written before defaults" of 35;
+    TableZeroWritten "an image of table 0 is written" of 35;
+    ShortBeforeTableZero "a short buffer's 12 comes before a zero table number's 3" of 35;
+    AbsentTableRefused "a table of which the store holds nothing is 3" of 35;
+    ImageBufferOneLonger "a buffer just as long as the image is 12" of 35;
+    LongImageShort "an image above 65,535 bytes is 12" of 35;
+    ShortImageFilled "a refusal 12 fills the buffer with the image's first bytes" of 35;
+    ShortImageSections "a refusal 12 writes the sections that fit" of 35;
+    ShortImageLastByte "a refusal 12 writes the buffer's last byte" of 35;
+    TableZeroFills "a refusal 3 writes an image without entries where it fits" of 35;
+    ImageRestCleared "bytes beyond the image are cleared" of 35;
+    ImageCountZero "an image's count is 0" of 35;
+    ImageCountsBuffer "an image's count is the buffer's length" of 35;
+    ImageCountOfTwoBytes "an image's count is given by its last 2 bytes" of 35;
+    ShortImageCounts "a refusal 12 counts the bytes that the image needs" of 35;
+    WritingDropsOthers "writing an image drops the entries of other tables" of 35;
     // Statistics and marks
     StatisticsKeysWithALine "keys with a lock alone count as keys with a record";
     StatisticsChainsSwapped "the chains of records come before those of defaults";
@@ -354,8 +368,7 @@ bends! {
     MarksWithoutRecordStarts "the marks leave record starts out"
         never "a sound record's start is never above its stamp";
     MarksWithoutLocks "the marks leave lock starts out";
-    MarksWithoutDefaults "the marks leave default starts out"
-        never "every default's start is that of its Put line";
+    MarksWithoutDefaults "the marks leave default starts out" never "every default's start is that of its Put line";
     // Rules of mvcc.rs in the place of the paper's (as_rust.rs)
     RustStampAtStart "a Put or Delete stamped with the start itself is no 8, as in mvcc.rs";
     RustRollbackAbove "a Rollback stamped above the start is no 8, as in mvcc.rs";
@@ -375,6 +388,8 @@ bends! {
     // Trace
     CallTrailing "bytes may follow a call's arguments";
     CallKindRollback "kind 3 in a prewrite call is in form";
+    LongBufferOneLess "a long buffer of 262,144 bytes is not in form" of 35;
+    LongBufferOneMore "a long buffer of 262,145 bytes is in form" of 35;
     FlagOfAnyByte "a flag byte above 1 says present";
     TraceOfAnyLength "a trace above 262,144 bytes is taken";
     EmptyTraceTaken "an empty input is a trace of no calls";

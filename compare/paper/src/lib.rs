@@ -1,8 +1,9 @@
 //! The paper: an own reading of document 01 in plain Rust over maps.
 //!
-//! Each module is one paragraph of document 01; sick.rs is what change request 3 adds to Restore, read.rs has the
-//! count of change request 6 and answer.rs the holder of change request 9. Above each step stands the sentence it carries out, in quotes, in the order of the paper, so
-//! that a reader holding 01 can lay the two side by side. Where 01 leaves room, docs/DECISIONS.md has the reading.
+//! Each module is one paragraph of document 01; write_image.rs is change request 1, sick.rs is what change request 3 adds to
+//! Restore, read.rs has the count of change request 6 and answer.rs the holder of change request 9. Above each step stands
+//! the sentence it carries out, in quotes, in the order of the paper, so that a reader holding 01 can lay the two side by
+//! side. Where 01 leaves room, docs/DECISIONS.md has the reading.
 //!
 //! Nothing here is made for speed: a call that changes the box works out the box it would leave and takes it over
 //! whole, or refuses and leaves the old one.
@@ -18,6 +19,7 @@ pub mod form;
 mod miscounted;
 mod misnamed;
 mod misread;
+mod miswritten;
 pub mod one_step;
 pub mod page;
 pub mod prewrite;
@@ -30,3 +32,4 @@ pub mod sick;
 mod single;
 pub mod store;
 pub mod trace;
+pub mod write_image;

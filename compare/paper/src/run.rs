@@ -78,6 +78,10 @@ fn answer_of(store: &mut Store, call: &Call) -> Answer {
         Call::Restore { image } => plain(store.restore(image)),
         Call::Statistics => Answer::accepted(0, numbers(&store.statistics())),
         Call::Marks => Answer::accepted(0, numbers(&store.marks())),
+        Call::WriteImage { table, buffer } => {
+            let answer = lent(*buffer, |buffer| store.write_image(*table, buffer));
+            if any_bent() { store.after_writing(*table, answer) } else { answer }
+        }
     }
 }
 
@@ -136,8 +140,8 @@ fn flagged(shown: Option<Bytes>) -> Bytes {
 }
 
 /// "the call is lent a buffer of that many bytes, each 0xEE before the call"; the payload is the whole buffer after.
-fn lent(length: u16, call: impl FnOnce(&mut [u8]) -> Result<u64, Refusal>) -> Answer {
-    let mut buffer = vec![BEFORE; length as usize];
+fn lent(length: impl Into<u32>, call: impl FnOnce(&mut [u8]) -> Result<u64, Refusal>) -> Answer {
+    let mut buffer = vec![BEFORE; length.into() as usize];
     match call(&mut buffer) {
         Ok(count) => Answer::accepted(count, buffer),
         Err(refusal) => Answer::refused(refusal, buffer),

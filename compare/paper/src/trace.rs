@@ -7,6 +7,8 @@ use crate::store::{Bytes, Kind};
 
 /// "the driver takes up to 262,144" bytes.
 pub const MOST_BYTES: usize = 262_144;
+/// "long buffer | a 4-byte length, at most 262,144".
+pub const LONG_BUFFER: u32 = 262_144;
 /// A length of 65,535 says that a 4-byte length follows.
 const LONG: usize = 65_535;
 
@@ -27,6 +29,7 @@ pub enum Call {
     Restore { image: Bytes },
     Statistics,
     Marks,
+    WriteImage { table: u32, buffer: u32 },
 }
 
 impl Call {
@@ -47,6 +50,7 @@ impl Call {
             Call::Restore { .. } => 32,
             Call::Statistics => 33,
             Call::Marks => 34,
+            Call::WriteImage { .. } => 35,
         }
     }
 
@@ -105,6 +109,7 @@ impl Call {
             32 => Call::Restore { image: r.rest().to_vec() },
             33 => Call::Statistics,
             34 => Call::Marks,
+            35 => Call::WriteImage { table: r.four()?, buffer: long_buffer(&mut r)? },
             _ => return None,
         };
         if !bent(Bend::CallTrailing) {
@@ -160,6 +165,10 @@ impl Call {
             }
             Call::Restore { image } => out.extend_from_slice(image),
             Call::Statistics | Call::Marks => {}
+            Call::WriteImage { table, buffer } => {
+                out.extend_from_slice(&table.to_be_bytes());
+                out.extend_from_slice(&buffer.to_be_bytes());
+            }
         }
         out
     }
@@ -236,6 +245,13 @@ fn bound(reader: &mut Reader) -> Option<Option<Bytes>> {
         _ if bent(Bend::FlagOfAnyByte) => Some(Some(reader.long()?)),
         _ => None,
     }
+}
+
+/// "A long buffer above 262,144 is not in form."
+fn long_buffer(reader: &mut Reader) -> Option<u32> {
+    let less = u32::from(bent(Bend::LongBufferOneLess));
+    let more = u32::from(bent(Bend::LongBufferOneMore));
+    reader.four().filter(|length| *length <= LONG_BUFFER - less + more)
 }
 
 fn numbers(out: &mut Bytes, numbers: &[u64]) {

@@ -5,7 +5,7 @@ mod common;
 use common::*;
 use paper::answer::Answer;
 use paper::run::{answers as answer_bytes, many_answers, run_trace};
-use paper::trace::{Call, MOST_BYTES, read_trace, write_trace};
+use paper::trace::{Call, LONG_BUFFER, MOST_BYTES, read_trace, write_trace};
 
 fn damaged(trace: &[u8]) -> bool {
     run_trace(trace) == [Answer::damaged()]
@@ -66,8 +66,27 @@ fn every_call_reads_back() {
         restore(&image_of_lines(3, 2)),
         Call::Statistics,
         Call::Marks,
+        Call::WriteImage { table: 0x0102_0304, buffer: 0x0001_0203 },
     ];
     assert_eq!(read_trace(&write_trace(&calls)).as_deref(), Some(&calls[..]));
+}
+
+/// "A long buffer above 262,144 is not in form." The answer's payload is the whole buffer.
+#[test]
+fn long_buffers() {
+    let written = |table, buffer| write_trace(&[Call::WriteImage { table, buffer }]);
+    assert_eq!(written(1, LONG_BUFFER), [0, 1, 0, 9, 35, 0, 0, 0, 1, 0, 4, 0, 0]);
+    for buffer in [0, 65_535, 65_536, LONG_BUFFER] {
+        assert_eq!(run_trace(&written(1, buffer))[0].payload.len(), buffer as usize);
+    }
+    for buffer in [LONG_BUFFER + 1, 1 << 24, u32::MAX] {
+        assert!(damaged(&written(1, buffer)) && damaged(&written(0, buffer)), "{buffer}");
+    }
+    let answer = &run_trace(&written(1, LONG_BUFFER))[0];
+    let mut bytes = Vec::new();
+    answer.write(&mut bytes);
+    assert_eq!(bytes.len(), 38 + LONG_BUFFER as usize);
+    assert_eq!(Answer::read_all(&bytes).as_deref(), Some(std::slice::from_ref(answer)));
 }
 
 #[test]

@@ -7,6 +7,7 @@ use ragnordb_common::ids::{TableId, Timestamp, TxnId};
 use ragnordb_common::{Result, proto::snapshot};
 
 use crate::Maps;
+use crate::checkpoint::CapturedMvccState;
 
 /// A batch: a row for a Put, none for a Delete.
 pub type Batch = BTreeMap<Vec<u8>, Option<Vec<u8>>>;
@@ -61,6 +62,8 @@ pub trait Engine: Default {
     /// The figures in the order of TRACE.md.
     fn statistics(&self) -> [u64; 15];
     fn marks(&self) -> [u64; 2];
+    /// The entries of every table.
+    fn capture(&self) -> Result<CapturedMvccState>;
 }
 
 macro_rules! engine {
@@ -187,6 +190,10 @@ macro_rules! engine {
                 fn marks(&self) -> [u64; 2] {
                     let (transaction, largest) = self.allocator_high_water_marks();
                     [transaction.0, largest.0]
+                }
+
+                fn capture(&self) -> Result<CapturedMvccState> {
+                    self.capture_snapshot_state()
                 }
             }
         }

@@ -55,7 +55,7 @@ fn head_of(input: &[u8]) -> Head
 fn measure(input: &[u8]) {
     let mut area = [0u8; AREA];
     let mut copy = [0u8; AREA];
-    let mut out = [0u8; 65535];
+    let mut out = [0u8; 131072];
     let head = head_of(input);
     let b = head.at;
     let e = b + head.len;

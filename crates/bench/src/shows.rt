@@ -46,6 +46,18 @@ pub fn page_once(
     wrapping_add_u64(of_answer(answer), paged.count as u64)
 }
 
+// The image of a table, written over the front of `out`. A number of more than 4 bytes is no table's.
+pub fn image_once(store: Store, area: &[u8; AREA], out: &mut [u8], table: u64) -> u64
+    requires { ⌜ Made store (now area) ⌝ }
+{
+    if 4294967295 < table {
+        return 0;
+    }
+    let wrote = mvcc::capture_snapshot_table(store, area, table as u32, out);
+    let answer = wrote.answer;
+    wrapping_add_u64(of_answer(answer), wrote.count as u64)
+}
+
 pub fn stats_once(store: Store, area: &[u8; AREA]) -> u64
     requires { ⌜ Made store (now area) ⌝ }
 {

@@ -1,5 +1,5 @@
 // The turns: each makes every call of the input once, each call on the same box. All calls of an input are of one kind, a number: 1 read,
-// 2 page, 3 statistics; and, each on a copy of the area, 5 prewrite, 6 commit, 7 prewrite and commit, 8 rollback, 9 one-step batch, 10 restore.
+// 2 page, 3 statistics, 11 image; and, each on a copy of the area, 5 prewrite, 6 commit, 7 prewrite and commit, 8 rollback, 9 one-step batch, 10 restore.
 // 0 makes no call, and 4 only the copy: what such a turn takes is to be subtracted.
 ghost use mathlib.Core.Path.{_≡_};
 ghost use lib.ListN.{length};
@@ -13,6 +13,7 @@ use crate::changing::prewrite_once;
 use crate::changing::restore_once;
 use crate::changing::rollback_once;
 use crate::changing::step_once;
+use crate::shows::image_once;
 use crate::shows::page_once;
 use crate::shows::read_once;
 use crate::shows::stats_once;
@@ -20,7 +21,7 @@ use mvcc::AREA;
 use mvcc::Store;
 use std::num::wrapping_add_u64;
 
-// A call that shows something; a page is written over the front of `out`. The moment is the call's and one above it, turn about: no record of
+// A call that shows something; a page or an image is written over the front of `out`. The moment is the call's and one above it, turn about: no record of
 // the boxes stands between the two.
 fn show_call(
     store: Store,
@@ -40,6 +41,7 @@ fn show_call(
         1 => read_once(store, area, &s[k..r], moment),
         2 => page_once(store, area, out, &s[k..r], moment, a.two),
         3 => stats_once(store, area),
+        11 => image_once(store, area, out, a.one),
         _ => a.one,
     }
 }
@@ -89,6 +91,13 @@ fn change_on_copy(
     change_call(store, copy, image, s, a, way)
 }
 
+fn shows(way: u8) -> bool {
+    if way == 11 {
+        return true;
+    }
+    way < 4
+}
+
 // One call, of either sort.
 fn one_call(
     store: Store,
@@ -104,7 +113,7 @@ fn one_call(
     requires { ⌜ (TurnAsks store (now area) (now copy)) × (AskedIn (length (now s)) a) ⌝ }
     ensures { λ _. ⌜ length (now (copy .exit)) ≡ 131072 ⌝ }
 {
-    if way < 4 {
+    if shows(way) {
         return show_call(store, area, out, s, a, way, turn);
     }
     change_on_copy(store, area, copy, image, s, a, way)

@@ -127,6 +127,9 @@ module _ (w : Lent) where
   pub marks-once : Once w (calling Call.Marks)
   marks-once (marked s) (marked t) a b = same w (marked s) (marked t) refl refl (ap highest (a ∙ sym b)) refl refl refl
 
+  pub capture-once : (table : ℕ) → Once w (calling (Call.Capture table))
+  capture-once table (paged r x) (paged t y) p o = page-same w p o
+
 -- ---- all calls
 
 pub one-outcome : OneOutcome
@@ -145,6 +148,7 @@ one-outcome w (calling (Call.Change (Changing.OneStep h s))) = step-once w h s
 one-outcome w (calling (Call.Restore s)) = restore-once w s
 one-outcome w (calling Call.Statistics) = stats-once w
 one-outcome w (calling Call.Marks) = marks-once w
+one-outcome w (calling (Call.Capture t)) = capture-once w t
 
 -- ---- what is open, and where
 

@@ -2,20 +2,22 @@
 -- Assumes nothing.
 use Prim.Native.Nat.{ℕ}
 use mathlib.Core.Path.{_≡_, refl, ap, _∙_}
-use mathlib.Core.Bool.{Bool, true, false}
+use mathlib.Core.Bool.{Bool, true, false, not}
 use mathlib.Core.List.{[]}
 use lib.ListN.{length}
-use lib.Dec.{leb}
+use lib.Dec.{leb, eqb}
 use Rattle.forms.specs.Bytes.{Bytes}
 use Rattle.forms.specs.Key.{Key}
 use Rattle.rules.specs.declared.answers.Answer.the-variants.{Accepted}
 use Rattle.rules.specs.Answers as answers
 use Rattle.rules.specs.Answers.{Reply, answerOf}
+use Rattle.rules.specs.Box.{Box}
 use Rattle.rules.specs.Read.{examine}
 use Rattle.rules.specs.Page.{Page}
 use Rattle.rules.specs.Written.{Written, pageBytes, writeIf, written, keyRowBytes, keyLockBytes, scanPage, scanIntentPage, scanConflictingIntents, WroteAs}
 use Rattle.rules.specs.Page.{page, intentPage, conflictPage}
 use Rattle.rules.specs.Call.{Changing, Call}
+use Rattle.rules.specs.Capture.{imageOf, captureIf, captureImage}
 use Rattle.laws.proofs.SettleLaws.{oneStep-refused}
 use Rattle.ledger.proofs.Unmet.{read-count}
 use Rattle.store.specs.declared.table.Store.{Store}
@@ -33,27 +35,38 @@ use Rattle.rules.specs.declared.written.Wrote.{Wrote}
 use Rattle.demands.specs.Calls.{Lent, boxIn, started, seen, pointed, handed, paged, changed, stepped, counted, marked, nothing, rowIn, answerIn, Unchanged, Refusals}
 use Rattle.demands.specs.Calls.{starting, calling, handingRow, handingPrimary}
 
--- ---- a page
+-- ---- a page, and an image
 
--- the definition of a page that is not accepted: count 0, and the buffer as it was
+-- the definition of one that is not accepted: count 0, and the buffer as it was
 pub record Blank (buffer : Bytes) (x : Written) : Type 0 where
   pub count : x .count ≡ 0
   pub buffer-is : x .buffer ≡ buffer
 
+-- a call that writes where there is room: short, it leaves the buffer
+short-blank : (t : Bool) (bytes buffer : Bytes) → (writeIf t bytes buffer .answer ≡ Accepted → ⊥) → Blank buffer (writeIf t bytes buffer)
+unfolding writeIf
+short-blank true bytes buffer n = absurd (n refl)
+short-blank false bytes buffer n = record { count = refl; buffer-is = refl }
+
 written-refused : {A : Type 0} (f : A → Bytes) (r : Reply (Page A)) (buffer : Bytes) → (written f r buffer .answer ≡ Accepted → ⊥) → Blank buffer (written f r buffer)
-unfolding written writeIf
+unfolding written
 written-refused f answers.nothing buffer n = record { count = refl; buffer-is = refl }
 written-refused f (answers.refused v) buffer n = record { count = refl; buffer-is = refl }
-written-refused f (answers.shown p) buffer n = go (leb (length (pageBytes f p)) (length buffer)) n
+written-refused f (answers.shown p) buffer n = short-blank (leb (length (pageBytes f p)) (length buffer)) (pageBytes f p) buffer n
+
+-- "a zero table number 3, then a short buffer 12"
+captured-refused : (t : ℕ) (b : Box) (buffer : Bytes) → (captureImage t b buffer .answer ≡ Accepted → ⊥) → Blank buffer (captureImage t b buffer)
+unfolding captureImage captureIf
+captured-refused t b buffer = go (not (eqb t 0))
   where
-    go : (t : Bool) → (writeIf t (pageBytes f p) buffer .answer ≡ Accepted → ⊥) → Blank buffer (writeIf t (pageBytes f p) buffer)
-    go true n = absurd (n refl)
+    go : (k : Bool) → (captureIf k (imageOf t b) buffer .answer ≡ Accepted → ⊥) → Blank buffer (captureIf k (imageOf t b) buffer)
+    go true n = short-blank (leb (length (imageOf t b)) (length buffer)) (imageOf t b) buffer n
     go false n = record { count = refl; buffer-is = refl }
 
 module _ (w : Lent) where
-  page-left : {A : Type 0} (f : A → Bytes) (reply : Reply (Page A)) (r : Wrote) (out : Bytes) → WroteAs (written f reply (w .buffer)) r out → (r .answer ≡ Accepted → ⊥) → Unchanged w (paged r out)
-  page-left f reply r out p n =
-      let b = written-refused f reply (w .buffer) (λ e. n (p .answer-is .case-is ∙ e)) in
+  wrote-left : (x : Written) → ((x .answer ≡ Accepted → ⊥) → Blank (w .buffer) x) → (r : Wrote) (out : Bytes) → WroteAs x r out → (r .answer ≡ Accepted → ⊥) → Unchanged w (paged r out)
+  wrote-left x blank r out p n =
+      let b = blank (λ e. n (p .answer-is .case-is ∙ e)) in
       record {
         left = ap (λ (x : Bytes). record { store = w .store; area = w .area; buffer = x }) (p .out-is ∙ b .buffer-is);
         box = refl;
@@ -61,6 +74,9 @@ module _ (w : Lent) where
         shown = refl;
         part = refl;
       }
+
+  page-left : {A : Type 0} (f : A → Bytes) (reply : Reply (Page A)) (r : Wrote) (out : Bytes) → WroteAs (written f reply (w .buffer)) r out → (r .answer ≡ Accepted → ⊥) → Unchanged w (paged r out)
+  page-left f reply = wrote-left (written f reply (w .buffer)) (written-refused f reply (w .buffer))
 
   -- ---- a changing call
 
@@ -124,3 +140,4 @@ refusals w (calling (Call.Change (Changing.OneStep h s))) (stepped r area) p n =
 refusals w (calling (Call.Restore s)) (changed r area) p n = changed-left w r area (p .refused n)
 refusals w (calling Call.Statistics) (counted s) p n = absurd (n refl)
 refusals w (calling Call.Marks) (marked m) p n = absurd (n refl)
+refusals w (calling (Call.Capture t)) (paged r out) p n = wrote-left w (captureImage t (boxIn w) (w .buffer)) (captured-refused t (boxIn w) (w .buffer)) r out p n

@@ -24,3 +24,4 @@ stays-made w (calling (Call.Change (Changing.OneStep h s))) (stepped r area) p m
 stays-made w (calling (Call.Restore s)) (changed r area) p m = p .made
 stays-made w (calling Call.Statistics) (counted s) p m = m
 stays-made w (calling Call.Marks) (marked s) p m = m
+stays-made w (calling (Call.Capture t)) (paged r out) p m = m

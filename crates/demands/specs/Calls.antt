@@ -23,6 +23,7 @@ use Rattle.rules.specs.Commit.{commitBatch}
 use Rattle.rules.specs.Rollback.{rollbackBatch}
 use Rattle.rules.specs.OneStep.{oneStep}
 use Rattle.rules.specs.Restore.{restore}
+use Rattle.rules.specs.Capture.{captureImage}
 use Rattle.rules.specs.Figures.{stats, marks}
 use Rattle.store.specs.declared.table.Store.{Store}
 use Rattle.store.specs.View.{boxOf}
@@ -77,11 +78,12 @@ gives (calling (Call.Change (Changing.OneStep h s))) = aStep
 gives (calling (Call.Restore s)) = aChange
 gives (calling Call.Statistics) = someStats
 gives (calling Call.Marks) = someMarks
+gives (calling (Call.Capture t)) = aPage
 gives (handingRow s) = aPart
 gives (handingPrimary p) = aPart
 
--- what a call is made on and may write to: the store, the area in which it keeps its bytes, and the buffer lent for a page. A call that
--- writes no page is lent no such buffer, and has any here. Every other slice (keys, rows, batches, bounds, an image) is lent as `&` alone, and
+-- what a call is made on and may write to: the store, the area in which it keeps its bytes, and the buffer lent for a page or an image. A call
+-- that writes neither is lent no such buffer, and has any here. Every other slice (keys, rows, batches, bounds, an image) is lent as `&` alone, and
 -- no call can write to it.
 pub record Lent : Type 0 where
   pub store : Store
@@ -100,7 +102,7 @@ pub data Given : Sort → Type 0 where
   pointed : LockSeen → Bytes → Given aLock
   -- a part
   handed : Bytes → Given aPart
-  -- a page's answer and count, and the buffer
+  -- the answer and the count of a call that writes a page or an image, and the buffer
   paged : Wrote → Bytes → Given aPage
   -- store and answer, and the area; a one-step batch gives its count too
   changed : Changed → Bytes → Given aChange
@@ -207,6 +209,7 @@ Kept w (calling (Call.Change (Changing.OneStep h s))) (stepped r area) = Counts 
 Kept w (calling (Call.Restore s)) (changed r area) = Replaced (w .store) (w .area) (restore s (boxIn w)) r area
 Kept w (calling Call.Statistics) (counted s) = s ≡ stats (boxIn w)
 Kept w (calling Call.Marks) (marked m) = m ≡ marks (boxIn w)
+Kept w (calling (Call.Capture t)) (paged r out) = WroteAs (captureImage t (boxIn w) (w .buffer)) r out
 Kept w (handingRow s) (handed part) = RowPart (w .area) s part
 Kept w (handingPrimary p) (handed part) = PrimaryPart (w .area) p part
 

@@ -262,6 +262,13 @@ pub fn restore(store: Store, area: &mut [u8; AREA], image: &[u8]) -> Changed
     mvcc::restore(store, area, image)
 }
 
+pub fn capture_snapshot_table(store: Store, area: &[u8; AREA], table: u32, out: &mut [u8]) -> Wrote
+    requires { ⌜ Made store (now area) ⌝ }
+    ensures { λ r. ⌜ Kept (record { store = store; area = now (area .entry); buffer = now (out .entry) }) (calling (Call.Capture table)) (paged r (now (out .exit))) ⌝ }
+{
+    mvcc::capture_snapshot_table(store, area, table, out)
+}
+
 pub fn stats(store: Store, area: &[u8; AREA]) -> Stats
     requires { ⌜ Made store (now area) ⌝ }
     ensures { λ r. ⌜ KeptOn store (now (area .entry)) (calling Call.Statistics) (counted r) ⌝ }

@@ -83,7 +83,7 @@ fn asked_many() -> bool {
 }
 
 fn main() {
-    let mut out = [0u8; 65573];
+    let mut out = [0u8; 262182];
     let mut trace = [0u8; 262145];
     if asked_many() {
         answer_many(&mut trace, &mut out);

@@ -1,7 +1,3 @@
 -- The laws of `driving`, in the order in which they build on each other.
-pub mod TellLaws
-pub mod ReplyLaws
-pub mod PagingLaws
-pub mod ShowLaws
 pub mod RunCallLaws
 pub mod KeepLaws

@@ -1,6 +1,6 @@
 -- A call, run: from the arguments to the call's own definition, and from an answer that fits to what `run_call` promises.
 -- Assumes nothing.
-use Prim.Native.Nat.{ℕ, _≤_, _<_}
+use Prim.Native.Nat.{ℕ, _≤_, _<_, _^_}
 use native.Mathlib.Omega.{arith}
 use mathlib.Core.Path.{_≡_, refl, sym, _∙_, ap, subst}
 use mathlib.Core.Bool.{Bool, true, false, not}
@@ -26,18 +26,19 @@ use Rattle.traces.specs.declared.args.Args.{Args}
 use Rattle.traces.specs.declared.op.ChangeOp.{ChangeOp}
 use Rattle.traces.specs.declared.op.Op.{Op}
 use Rattle.traces.specs.Calls.{TraceCall, oneEntry, call}
-use Rattle.traces.specs.Places.{kindOf}
+use Rattle.traces.specs.Ops.{isCapture}
+use Rattle.traces.specs.Places.{kindOf, firstWidth, bufferBelow}
 use Rattle.traces.specs.Args.{callOf, callAs, ArgsOf}
 use Rattle.traces.specs.Answers.{answerBytes}
 use Rattle.traces.proofs.FormLaws.{length-answer}
 use Rattle.store.specs.declared.table.Store.{Store}
 use Rattle.store.specs.View.{boxOf}
 use Rattle.store.specs.Made.{Made}
-use Rattle.driving.specs.Told.{Told, told, toldIn, toldOf, toldBytes, notRun, changing, counting, Writes}
+use Rattle.showing.specs.Told.{Told, told, toldIn, toldOf, toldBytes, notRun, changing, counting, Writes}
 use Rattle.driving.specs.Changes.{changedBy}
-use Rattle.driving.specs.Ran.{RanAs, DoneAs, TellsChange, Unrun, RunCall, longest}
-use Rattle.driving.specs.declared.ran.Ran.{Ran}
-use Rattle.driving.proofs.TellLaws.{written, written-count}
+use Rattle.showing.specs.Ran.{RanAs, DoneAs, TellsChange, Unrun, RunCall, RunAsks, CaptureAsks, longest}
+use Rattle.showing.specs.declared.ran.Ran.{Ran}
+use Rattle.showing.proofs.TellLaws.{written, written-count}
 
 -- what a call that changes the store promises, once its answer is written with its count
 counts-told : (d : Counted) {st : Store} {a : Answer} {c : ℕ} {area′ out out′ : Bytes} {n : ℕ} → DoneAs (d .done) (record { store = st; answer = a }) area′ → c ≡ d .count → longest ≤ length out → Writes (answerBytes a c []) out n out′
@@ -108,6 +109,15 @@ module _ (s : Bytes) (a : Args) (b : Box) where
   -- of any call
   pub by-op : (op : Op) {out : Bytes} {x : Ran} {area′ out′ : Bytes} → a .op ≡ op → RanAs (told (callAs op s a) (a .buffer) b) out x area′ out′ → RanAs (toldIn (callOf s a) b) out x area′ out′
   by-op op {out} {x} {area′} {out′} e v = subst (λ (o : Op). RanAs (told (callAs o s a) (a .buffer) b) out x area′ out′) (sym e) v
+
+-- ---- the call that writes the image: its table and its long buffer are within their limits
+
+module _ {st : Store} {area s : Bytes} {a : Args} {out : Bytes} (v : RunAsks st area s a (a .op) out) (e : a .op ≡ Op.Capture) where
+  pub table-fits : a .first < 4294967296
+  table-fits = subst (λ (x : Op). a .first < 256 ^ firstWidth (isCapture x)) e (v .places .first)
+
+  pub asks-capture : CaptureAsks st area (a .buffer) out
+  asks-capture = record { made = v .made; small = subst (λ (x : Op). a .buffer < bufferBelow (isCapture x)) e (v .places .buffer); length-is = v .length-is }
 
 -- ---- the call's bytes
 

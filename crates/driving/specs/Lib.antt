@@ -1,6 +1,2 @@
 -- The definitions of `driving`, in the order in which they build on each other.
-pub mod Told
-pub mod Replying
-pub mod Paging
 pub mod Changes
-pub mod Ran

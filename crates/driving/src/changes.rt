@@ -6,13 +6,13 @@ ghost use Rattle.traces.specs.declared.op.Op.{Op};
 ghost use Rattle.traces.specs.Args.{callAs};
 ghost use Rattle.store.specs.View.{boxOf};
 ghost use Rattle.store.specs.Made.{Made};
-ghost use Rattle.driving.specs.Told.{told};
+ghost use Rattle.showing.specs.Told.{told};
 ghost use Rattle.driving.specs.Changes.{changedBy};
-ghost use Rattle.driving.specs.Ran.{RunAsks, RanAs, DoneAs, TellsChange, longest};
-use crate::parts::part;
-use crate::ran::Ran;
-use crate::telling::tell_plain;
+ghost use Rattle.showing.specs.Ran.{RunAsks, RanAs, DoneAs, TellsChange, longest};
 use calls::Changed;
+use showing::Ran;
+use showing::part;
+use showing::tell_plain;
 use store::AREA;
 use store::Store;
 use traces::Args;
@@ -99,7 +99,7 @@ pub(crate) fn run_change(
     op: ChangeOp,
     out: &mut [u8],
 ) -> Ran
-    requires { ⌜ RunAsks store (now area) (now call) args (now out) ⌝ }
+    requires { ⌜ RunAsks store (now area) (now call) args (Op.Changes op) (now out) ⌝ }
     ensures { λ r. ⌜ RanAs (told (callAs (Op.Changes op) (now (call .entry)) args) (args .buffer) (boxOf store (now (area .entry)))) (now (out .entry)) r (now (area .exit)) (now (out .exit)) ⌝ }
 {
     let primary = part(call, args.primaryat, args.primarylen);
@@ -130,7 +130,7 @@ pub(crate) fn run_step(
     args: Args,
     out: &mut [u8],
 ) -> Ran
-    requires { ⌜ RunAsks store (now area) (now call) args (now out) ⌝ }
+    requires { ⌜ RunAsks store (now area) (now call) args Op.OneStep (now out) ⌝ }
     ensures { λ r. ⌜ RanAs (told (callAs Op.OneStep (now (call .entry)) args) (args .buffer) (boxOf store (now (area .entry)))) (now (out .entry)) r (now (area .exit)) (now (out .exit)) ⌝ }
 {
     let rest = part(call, args.restat, args.restlen);

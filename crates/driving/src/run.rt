@@ -2,15 +2,16 @@
 ghost use Rattle.traces.specs.Args.{callOf};
 ghost use Rattle.store.specs.View.{boxOf};
 ghost use Rattle.store.specs.Made.{Made};
-ghost use Rattle.driving.specs.Told.{toldIn};
-ghost use Rattle.driving.specs.Ran.{RunAsks, RanAs, RunCall};
+ghost use Rattle.showing.specs.Told.{toldIn};
+ghost use Rattle.showing.specs.Ran.{RunAsks, RanAs, RunCall};
 use crate::changes::run_change;
 use crate::changes::run_step;
 use crate::changes::tell_change;
-use crate::ran::Ran;
-use crate::shows::run_shown;
 use calls::Changed;
 use rules::Answer;
+use showing::Ran;
+use showing::run_capture;
+use showing::run_shown;
 use store::AREA;
 use store::Store;
 use traces::Args;
@@ -18,7 +19,7 @@ use traces::Op;
 
 // The call that the arguments say, by its op.
 fn run_args(store: Store, area: &mut [u8; AREA], call: &[u8], args: Args, out: &mut [u8]) -> Ran
-    requires { ⌜ RunAsks store (now area) (now call) args (now out) ⌝ }
+    requires { ⌜ RunAsks store (now area) (now call) args (args .op) (now out) ⌝ }
     ensures { λ r. ⌜ RanAs (toldIn (callOf (now (call .entry)) args) (boxOf store (now (area .entry)))) (now (out .entry)) r (now (area .exit)) (now (out .exit)) ⌝ }
 {
     let op = args.op;
@@ -26,11 +27,12 @@ fn run_args(store: Store, area: &mut [u8; AREA], call: &[u8], args: Args, out: &
         Op::Shows(show) => run_shown(store, area, call, args, show, out),
         Op::Changes(change) => run_change(store, area, call, args, change, out),
         Op::OneStep => run_step(store, area, call, args, out),
+        Op::Capture => run_capture(store, area, args.first as u32, args.buffer, out),
     }
 }
 
-// The longest answer: 38 bytes, and a lent buffer of 65,535.
-const LONGEST: usize = 65573;
+// The longest answer: 38 bytes, and a long buffer of 262,144.
+const LONGEST: usize = 262182;
 
 // Runs the call on the store, and writes its answer over the front of `out`. Bytes that are no call in form tell 6, and nothing is run; so
 // is nothing where `out` is shorter than the longest answer.

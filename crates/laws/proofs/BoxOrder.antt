@@ -88,7 +88,7 @@ less-else a b n h = lt-ltb b a (omega (arith, ltb-false a b h, eqb-false a b n))
 less-apart : (a b : ℕ) → ltb a b ≡ true → eqb a b ≡ false
 less-apart a b h = let l : a < b = ltb-true a b h in ne-eqb a b (λ e. omega arith)
 
-eqb-sym : (a b : ℕ) → eqb a b ≡ eqb b a
+pub eqb-sym : (a b : ℕ) → eqb a b ≡ eqb b a
 eqb-sym a b = go (eqb b a) refl
   where
     go : (t : Bool) → eqb b a ≡ t → eqb a b ≡ t

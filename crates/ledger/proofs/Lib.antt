@@ -18,3 +18,6 @@ pub mod Tidiness
 pub mod Unmet
 pub mod Restored
 pub mod Example
+pub mod PartSoundLaws
+pub mod ReadBackLaws
+pub mod Captured

@@ -1,4 +1,5 @@
--- The bytes of several entries, one after the other, and the loop that writes them; and a lock, its pieces in the order of the paper.
+-- The bytes of several entries, one after the other, and the loop that writes them; and a lock, a record and a default, their pieces in
+-- the order of the paper.
 -- Assumes nothing.
 use Prim.Native.Nat.{ℕ, _+_, _≤_, _<_}
 use native.Mathlib.Numerals.{add-one}
@@ -12,8 +13,10 @@ use Rattle.forms.specs.Numbers.{digits}
 use Rattle.forms.specs.Writers.{Laid}
 use Rattle.forms.proofs.NumberLaws.{length-digits}
 use Rattle.forms.proofs.WriterLaws.{laid-as, laid-none, laid-then}
-use Rattle.rules.specs.Box.{Lock, kindByte}
+use Rattle.rules.specs.declared.records.Record.{Record}
+use Rattle.rules.specs.Box.{Lock, Default, kindByte}
 use Rattle.rules.specs.Written.{lockBytes, allBytes}
+use Rattle.rules.specs.Capture.{recordBytes, defaultBytes}
 
 -- ---- several entries
 
@@ -78,3 +81,27 @@ pub lock-laid : (l : Lock) {k at a b c d r : ℕ} {s t u v w x : Bytes} → Laid
 unfolding lockBytes
 lock-laid l {at = at} {r = r} {s = s} {x = x} p q y z f e =
     subst (λ (n : ℕ). Laid at n (lockBytes l) s r x) (lock-long l) (laid-as (laid-then p (laid-then q (laid-then y (laid-then z f)))) (rw e))
+
+-- ---- a record
+
+pub record-long : (w : Record) → length (recordBytes w) ≡ 25
+unfolding recordBytes
+record-long w = simp length-append (omega (arith, length-digits 8 (w .stamp), length-digits 8 (w .start), length-digits 8 (w .commit)))
+
+pub record-laid : (w : Record) {k at a b c r : ℕ} {s t u v x : Bytes} → Laid at 8 (digits 8 (w .stamp)) s a t → Laid a 8 (digits 8 (w .start)) t b u → Laid b 8 (digits 8 (w .commit)) u c v → Laid c 1 (k ∷ []) v r x
+    → k ≡ kindByte (w .kind) → Laid at 25 (recordBytes w) s r x
+unfolding recordBytes
+record-laid w {at = at} {r = r} {s = s} {x = x} p q y f e =
+    subst (λ (n : ℕ). Laid at n (recordBytes w) s r x) (record-long w) (laid-as (laid-then p (laid-then q (laid-then y f))) (rw e))
+
+-- ---- a default
+
+pub default-long : (d : Default) → length (defaultBytes d) ≡ length (d .key) + length (d .row) + 10
+unfolding defaultBytes
+default-long d = simp length-append (omega (arith, length-digits 8 (d .start)))
+
+pub default-laid : (d : Default) {at a b r : ℕ} {s t u v : Bytes} → Laid at (length (d .key) + 1) (pieceBytes (d .key)) s a t → Laid a 8 (digits 8 (d .start)) t b u → Laid b (length (d .row) + 1) (pieceBytes (d .row)) u r v
+    → Laid at (length (d .key) + length (d .row) + 10) (defaultBytes d) s r v
+unfolding defaultBytes
+default-laid d {at = at} {r = r} {s = s} {v = v} p q y =
+    subst (λ (n : ℕ). Laid at n (defaultBytes d) s r v) (default-long d) (laid-as (laid-then p (laid-then q y)) refl)

@@ -39,3 +39,5 @@ pub data Call : Type 0 where
   Restore : (image : Bytes) → Call
   Statistics : Call
   Marks : Call
+  -- document 02, CR 1: "From a store and a table number, write that table's image"
+  Capture : (table : ℕ) → Call

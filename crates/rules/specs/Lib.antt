@@ -18,3 +18,4 @@ pub mod Image
 pub mod Restore
 pub mod Figures
 pub mod Call
+pub mod Capture

@@ -1,6 +1,6 @@
 // What code and definitions both speak of document 01: answers, kinds and records, room, figures. The steps themselves are the
 // definitions in specs/; here are the types, the paper's numbers of answers and kinds, the few tests that every call makes of a record
-// and of the room, and the writer of a lock.
+// and of the room, and the writers of an image's entries.
 pub mod answers;
 pub mod figures;
 pub mod records;
@@ -23,5 +23,7 @@ pub use records::record_sound;
 pub use room::Load;
 pub use room::load_fits;
 pub use terms::CommitTerms;
+pub use writers::put_default;
 pub use writers::put_lock;
+pub use writers::put_record;
 pub use written::Wrote;

@@ -1,11 +1,13 @@
 // A worked session in one hall: a curator prewrites two labels, a visitor reads and is told who holds the key, for what and how long, the
-// commit, a page, and a removal that is withdrawn. Each line says who asks for what, and then what the box answered. The store and its area live here; every step hands on a
-// made store, whatever was answered.
+// commit, a page, a removal that is withdrawn, and a second box that is filled from the hall's image. Each line says who asks for what, and then
+// what the box answered. The store and its area live here; every step hands on a made store, whatever was answered.
+mod copying;
 mod curators;
 mod telling;
 mod visitors;
 
 ghost use Rattle.store.specs.Made.{Made};
+use copying::copies_hall;
 use curators::commits;
 use curators::prewrites;
 use curators::withdraws;
@@ -60,4 +62,5 @@ fn main() {
     asks_page(labelled, &area, 16);
     let kept = withdrawn_removal(labelled, &mut area, jaw);
     asks_figures(kept, &area, b"in the end: ");
+    copies_hall(kept, &area, 1, jaw);
 }

@@ -1,8 +1,8 @@
 -- The arguments of a call, one after the other to the end: what each way out of `args_for` and `args_of` says.
 -- Assumes nothing.
-use Prim.Native.Nat.{ℕ, _-_, _≤_, _<_}
+use Prim.Native.Nat.{ℕ, _-_, _≤_, _<_, _^_}
 use native.Mathlib.Omega.{arith}
-use mathlib.Core.Path.{_≡_, refl, sym, _∙_, ap}
+use mathlib.Core.Path.{_≡_, refl, sym, _∙_, ap, subst}
 use mathlib.Core.Bool.{Bool, true, false, not, true≢false}
 use mathlib.Core.List.{[], _∷_}
 use mathlib.Core.Option.{Option, none, some}
@@ -12,6 +12,7 @@ use lib.Dec.{ltb}
 use borrow.Author.Tests.{not-true, not-false}
 use Rattle.forms.specs.Bytes.{Bytes}
 use Rattle.forms.specs.Readers.{Read, Reader, readOn, _>>=_, just, ended, whole}
+use Rattle.forms.specs.Numbers.{numberOf}
 use Rattle.forms.specs.Key.{Key}
 use Rattle.forms.proofs.ReaderLaws.{after, byte-none, byte-at}
 use Rattle.rules.specs.declared.records.Kind.{Kind}
@@ -21,12 +22,12 @@ use Rattle.traces.specs.declared.op.ChangeOp.{ChangeOp}
 use Rattle.traces.specs.declared.op.Op.{Op}
 use Rattle.traces.specs.declared.shape.Shape.{Shape}
 use Rattle.traces.specs.declared.args.Args.{Args}
-use Rattle.traces.specs.Ops.{knownOp, opOf}
-use Rattle.traces.specs.Arguments.{number, kind, text, bound, buffer, remaining}
+use Rattle.traces.specs.Ops.{knownOp, opOf, isCapture}
+use Rattle.traces.specs.Arguments.{number, kind, text, bound, remaining}
 use Rattle.traces.specs.Calls as calls
 use Rattle.traces.specs.Calls.{TraceCall, lending, call}
 use Rattle.traces.specs.Shapes.{shapeOf, shapeBy}
-use Rattle.traces.specs.Places.{goOn, given, Goes}
+use Rattle.traces.specs.Places.{goOn, given, firstWidth, bufferBy, bufferBelow, Goes}
 use Rattle.traces.specs.Args.{callBy, shaped, ArgsIn, ArgsFor, ArgsOf, noArgs}
 
 -- ---- one argument after another
@@ -44,8 +45,8 @@ pub record Walked (s : Bytes) (w : Shape) (ok : Bool) (x : TraceCall) (end : ℕ
   pub is : shaped w (drop 1 s) ≡ goOn (just x) s ok end
   pub within : end ≤ length s
 
-module _ {s : Bytes} (w : Shape)
-    {ok1 : Bool} {a n1 : ℕ} (v1 : Goes (ltb 0 (w .numbers)) number 0 s true 1 ok1 a n1)
+module _ {s : Bytes} (w : Shape) {capture : Bool} (is-capture : capture ≡ isCapture (w .op))
+    {ok1 : Bool} {a n1 : ℕ} (v1 : Goes (ltb 0 (w .numbers)) (numberOf (firstWidth capture)) 0 s true 1 ok1 a n1)
     {ok2 : Bool} {b n2 : ℕ} (v2 : Goes (ltb 1 (w .numbers)) number 0 s ok1 n1 ok2 b n2)
     {ok3 : Bool} {c n3 : ℕ} (v3 : Goes (ltb 2 (w .numbers)) number 0 s ok2 n2 ok3 c n3)
     {ok4 : Bool} {d : Kind} {n4 : ℕ} (v4 : Goes (w .kind) kind Delete s ok3 n3 ok4 d n4)
@@ -55,11 +56,21 @@ module _ {s : Bytes} (w : Shape)
     {ok8 : Bool} {f : Option Key} {n8 : ℕ} (v8 : Goes (w .page) bound none s ok7 n7 ok8 f n8)
     {ok9 : Bool} {t : Option Key} {n9 : ℕ} (v9 : Goes (w .page) bound none s ok8 n8 ok9 t n9)
     {oka : Bool} {u : Option Key} {na : ℕ} (va : Goes (w .page) bound none s ok9 n9 oka u na)
-    {okb : Bool} {n nb : ℕ} (vb : Goes (w .page) buffer 0 s oka na okb n nb)
+    {okb : Bool} {n nb : ℕ} (vb : Goes true (bufferBy capture (w .page)) 0 s oka na okb n nb)
     {ok : Bool} {m : Bytes} {end : ℕ} (vc : Goes (w .rest) remaining [] s okb nb ok m end) where
   pub walked : Walked s w ok (lending n (callBy (w .op) a b c d p k r f t u m)) end
   unfolding shaped
-  walked = record { within = vc .within; is = next v1 _ (next v2 _ (next v3 _ (next v4 _ (next v5 _ (next v6 _ (next v7 _ (next v8 _ (next v9 _ (next va _ (next vb _ (next vc _ refl))))))))))) }
+  walked =
+      let x1 : Goes (ltb 0 (w .numbers)) (numberOf (firstWidth (isCapture (w .op)))) 0 s true 1 ok1 a n1 = subst (λ (x : Bool). Goes (ltb 0 (w .numbers)) (numberOf (firstWidth x)) 0 s true 1 ok1 a n1) is-capture v1 in
+      let xb : Goes true (bufferBy (isCapture (w .op)) (w .page)) 0 s oka na okb n nb = subst (λ (x : Bool). Goes true (bufferBy x (w .page)) 0 s oka na okb n nb) is-capture vb in
+      record { within = vc .within; is = next x1 _ (next v2 _ (next v3 _ (next v4 _ (next v5 _ (next v6 _ (next v7 _ (next v8 _ (next v9 _ (next va _ (next xb _ (next vc _ refl))))))))))) }
+
+-- how far the table and the buffer's length go
+pub first-below : (op : Op) {capture : Bool} {n : ℕ} → capture ≡ isCapture op → n < 256 ^ firstWidth capture → n < 256 ^ firstWidth (isCapture op)
+first-below op {n = n} e h = subst (λ (x : Bool). n < 256 ^ firstWidth x) e h
+
+pub buffer-below : (op : Op) {capture : Bool} {n : ℕ} → capture ≡ isCapture op → n < bufferBelow capture → n < bufferBelow (isCapture op)
+buffer-below op {n = n} e h = subst (λ (x : Bool). n < bufferBelow x) e h
 
 -- ---- to the end of the call
 
@@ -72,6 +83,7 @@ no-places s = record {
   to = omega arith;
   resume = omega arith;
   rest = omega arith;
+  first = omega arith;
   buffer = omega arith;
 }
 
@@ -104,7 +116,7 @@ module _ {s : Bytes} {w : Shape} {ok : Bool} {x : TraceCall} {end : ℕ} (v : Wa
 
 -- the arguments of a call are those that its shape names
 ops-shaped : (op : Op) (t : Bytes) → shaped (shapeOf op) t ≡ calls.argumentsOf op t
-unfolding shaped calls.argumentsOf _>>=_ readOn just calls.readArguments calls.pageArguments calls.intentPageArguments calls.conflictingIntentsArguments calls.oneIntentArguments calls.prewriteArguments calls.prewriteBatchArguments calls.commitArguments calls.commitBatchArguments calls.rollbackArguments calls.rollbackBatchArguments calls.oneStepArguments calls.restoreArguments calls.statisticsArguments calls.marksArguments
+unfolding shaped calls.argumentsOf _>>=_ readOn just calls.readArguments calls.pageArguments calls.intentPageArguments calls.conflictingIntentsArguments calls.oneIntentArguments calls.prewriteArguments calls.prewriteBatchArguments calls.commitArguments calls.commitBatchArguments calls.rollbackArguments calls.rollbackBatchArguments calls.oneStepArguments calls.restoreArguments calls.statisticsArguments calls.marksArguments calls.captureArguments
 ops-shaped (Op.Shows ShowOp.Read) t = refl
 ops-shaped (Op.Shows ShowOp.Page) t = refl
 ops-shaped (Op.Shows ShowOp.IntentPage) t = refl
@@ -120,6 +132,7 @@ ops-shaped Op.OneStep t = refl
 ops-shaped (Op.Changes ChangeOp.Restore) t = refl
 ops-shaped (Op.Shows ShowOp.Statistics) t = refl
 ops-shaped (Op.Shows ShowOp.Marks) t = refl
+ops-shaped Op.Capture t = refl
 
 begin : (s : Bytes) → 0 < length s → calls.callFrom s ≡ calls.ofOp (knownOp (getD s 0 0)) (opOf (getD s 0 0)) (drop 1 s)
 unfolding calls.callFrom _>>=_ readOn
@@ -159,6 +172,7 @@ module _ {s : Bytes} where
           good (Op.Changes ChangeOp.Restore) = refl
           good (Op.Shows ShowOp.Statistics) = refl
           good (Op.Shows ShowOp.Marks) = refl
+          good Op.Capture = refl
 
           go : (o : Option Op) → opOf (getD s 0 0) ≡ o → calls.ofOp true o (drop 1 s) ≡ none
           go none p = refl

@@ -2,25 +2,26 @@
 -- Assumes nothing.
 use Prim.Native.Nat.{ℕ, _+_, _-_, _≤_, _<_}
 use native.Mathlib.Omega.{arith}
-use mathlib.Core.Path.{_≡_, refl, sym, _∙_, ap}
+use mathlib.Core.Path.{_≡_, refl, sym, _∙_, ap, subst}
 use mathlib.Core.Bool.{Bool, true, false, not}
 use mathlib.Core.Option.{some}
 use lib.ListN.{length, getD, drop}
 use lib.Seq.{drop-length}
-use lib.Dec.{eqb}
-use borrow.Author.Tests.{eq-eqb, ne-eqb, not-true, not-false}
+use lib.Dec.{leb, eqb}
+use borrow.Author.Tests.{eq-eqb, ne-eqb, le-leb, lt-leb, not-true, not-false}
 use Rattle.seqs.proofs.Parts.{part-end}
 use Rattle.forms.specs.Bytes.{Bytes, bytesAt}
 use Rattle.forms.specs.Readers.{Reader, readOn, _>>=_, just, stretch}
-use Rattle.forms.specs.Numbers.{widthOf}
+use Rattle.forms.specs.Numbers.{widthOf, numberOf}
 use Rattle.forms.specs.Places.{found, NumberAt}
 use Rattle.forms.specs.declared.number.Number.{Number}
 use Rattle.forms.specs.declared.number.Width.{Width}
 use Rattle.forms.proofs.ReaderLaws.{after, byte-none, byte-at, stretch-good, stretch-short}
 use Rattle.forms.proofs.NumberLaws.{power-pos, number-bad, number-good, number-long, width-some}
 use Rattle.rules.specs.declared.records.Kind.the-variants.{Put, Delete}
-use Rattle.traces.specs.Arguments.{kindIf, kind, text, boundIf, bound, remaining}
-use Rattle.traces.specs.Places.{goOn, given, Goes, ValueAt, TextAt, noText, BoundAt, noBound}
+use Rattle.traces.specs.Arguments.{longIf, longBuffer, kindIf, kind, text, boundIf, bound, remaining}
+use Rattle.traces.specs.Places.{goOn, given, Goes, ValueAt, firstWidth, BufferAt, TextAt, noText, BoundAt, noBound}
+use Rattle.traces.specs.declared.argument.Value.{Value}
 use Rattle.traces.specs.declared.argument.Text.{Text}
 
 -- ---- for every reader
@@ -63,6 +64,35 @@ module _ {wanted : Bool} {w : ℕ} {s : Bytes} {before : Bool} {at : ℕ} (go : 
 -- a number that was found lies within the bytes
 pub number-in : (w : Width) {s : Bytes} {at : ℕ} {n : Number} → NumberAt (widthOf w) s at n → not (n .ok) ≡ false → at + widthOf w ≤ length s
 number-in w v good = omega (arith, number-long v good, width-some w)
+
+-- ---- `first_from` and `buffer_from`
+
+-- whether the call writes the image is known
+pub first-by : {capture : Bool} (b : Bool) {wanted : Bool} {s : Bytes} {r : Value} → capture ≡ b → ValueAt wanted (firstWidth b) s true 1 r → ValueAt wanted (firstWidth capture) s true 1 r
+first-by b {wanted} {s} {r} e v = subst (λ (x : Bool). ValueAt wanted (firstWidth x) s true 1 r) (sym e) v
+
+long-over : {s : Bytes} {before : Bool} {at : ℕ} {ok : Bool} {n next : ℕ} → Goes true (numberOf 4) 0 s before at ok n next → 262144 < n → Goes true longBuffer 0 s before at false 0 0
+unfolding longBuffer longIf _>>=_ readOn
+long-over {before = false} v h = record { is = refl; within = omega arith }
+long-over {before = true} {ok = true} {n = n} v h = record { is = after (λ m. longIf (leb m 262144) m) (v .is) ∙ rw (lt-leb n 262144 h); within = omega arith }
+long-over {before = true} {ok = false} v h = record { is = after (λ m. longIf (leb m 262144) m) (v .is); within = omega arith }
+
+long-fits : {s : Bytes} {before : Bool} {at : ℕ} {ok : Bool} {n next : ℕ} → Goes true (numberOf 4) 0 s before at ok n next → n ≤ 262144 → Goes true longBuffer 0 s before at ok n next
+unfolding longBuffer longIf _>>=_ readOn just
+long-fits {before = false} v h = record { is = v .is; within = v .within }
+long-fits {before = true} {ok = true} {n = n} v h = record { is = after (λ m. longIf (leb m 262144) m) (v .is) ∙ rw (le-leb n 262144 h); within = v .within }
+long-fits {before = true} {ok = false} v h = record { is = after (λ m. longIf (leb m 262144) m) (v .is); within = v .within }
+
+module _ {capture page : Bool} {s : Bytes} {before : Bool} {at : ℕ} {r : Value} where
+  pub buffer-short : capture ≡ false → ValueAt page 2 s before at r → BufferAt capture page s before at r
+  buffer-short e v = subst (λ (b : Bool). BufferAt b page s before at r) (sym e) (record { goes = record { is = v .goes .is; within = v .goes .within }; small = v .small })
+
+  module _ (e : capture ≡ true) (v : ValueAt true 4 s before at r) where
+    pub buffer-over : 262144 < r .value → BufferAt capture page s before at (record { ok = false; value = 0; next = 0 })
+    buffer-over h = subst (λ (b : Bool). BufferAt b page s before at (record { ok = false; value = 0; next = 0 })) (sym e) (record { goes = long-over (v .goes) h; small = omega arith })
+
+    pub buffer-long : r .value ≤ 262144 → BufferAt capture page s before at r
+    buffer-long h = subst (λ (b : Bool). BufferAt b page s before at r) (sym e) (record { goes = long-fits (v .goes) h; small = omega arith })
 
 -- ---- `kind_from`
 

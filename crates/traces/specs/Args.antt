@@ -1,6 +1,6 @@
 -- What the code finds of a call's arguments: the call that its numbers and places say, and where those lie.
 -- Assumes nothing.
-use Prim.Native.Nat.{ℕ, _+_, _≤_, _<_}
+use Prim.Native.Nat.{ℕ, _+_, _≤_, _<_, _^_}
 use mathlib.Core.Path.{_≡_}
 use mathlib.Core.Bool.{Bool, false}
 use mathlib.Core.Option.{Option, none}
@@ -9,6 +9,7 @@ use lib.ListN.{length, drop}
 use lib.Dec.{ltb}
 use Rattle.forms.specs.Bytes.{Bytes, bytesAt}
 use Rattle.forms.specs.Readers.{Reader, _>>=_, just, when, whole}
+use Rattle.forms.specs.Numbers.{numberOf}
 use Rattle.forms.specs.Key.{Key}
 use Rattle.forms.specs.Ones.{oneKey}
 use Rattle.rules.specs.declared.records.Kind.{Kind}
@@ -19,9 +20,10 @@ use Rattle.traces.specs.declared.op.ChangeOp.{ChangeOp}
 use Rattle.traces.specs.declared.op.Op.{Op}
 use Rattle.traces.specs.declared.shape.Shape.{Shape}
 use Rattle.traces.specs.declared.args.Args.{Args}
-use Rattle.traces.specs.Arguments.{number, kind, text, bound, buffer, remaining}
+use Rattle.traces.specs.Ops.{isCapture}
+use Rattle.traces.specs.Arguments.{number, kind, text, bound, remaining}
 use Rattle.traces.specs.Calls.{TraceCall, lending, oneEntry, call}
-use Rattle.traces.specs.Places.{given, kindOf}
+use Rattle.traces.specs.Places.{given, firstWidth, bufferBy, bufferBelow, kindOf}
 
 -- a call from its arguments, of which each takes its own
 abbrev pub callBy : Op → (first second third : ℕ) → Kind → (primary key row : Bytes) → (from to resume : Option Key) → (rest : Bytes) → Call
@@ -40,11 +42,12 @@ callBy Op.OneStep a b c d p k r f t u s = Call.Change (Changing.OneStep (record 
 callBy (Op.Changes ChangeOp.Restore) a b c d p k r f t u s = Call.Restore s
 callBy (Op.Shows ShowOp.Statistics) a b c d p k r f t u s = Call.Statistics
 callBy (Op.Shows ShowOp.Marks) a b c d p k r f t u s = Call.Marks
+callBy Op.Capture a b c d p k r f t u s = Call.Capture a
 
 -- the arguments that a shape names, in their order
 unfoldable pub shaped : Shape → Reader TraceCall
 shaped w = do
-  a ← given (ltb 0 (w .numbers)) number 0
+  a ← given (ltb 0 (w .numbers)) (numberOf (firstWidth (isCapture (w .op)))) 0
   b ← given (ltb 1 (w .numbers)) number 0
   c ← given (ltb 2 (w .numbers)) number 0
   d ← given (w .kind) kind Delete
@@ -54,7 +57,7 @@ shaped w = do
   f ← given (w .page) bound none
   t ← given (w .page) bound none
   u ← given (w .page) bound none
-  n ← given (w .page) buffer 0
+  n ← bufferBy (isCapture (w .op)) (w .page)
   s ← given (w .rest) remaining []
   just (lending n (callBy (w .op) a b c d p k r f t u s))
 
@@ -78,7 +81,7 @@ callAs op s a =
 abbrev pub callOf : Bytes → Args → TraceCall
 callOf s a = lending (a .buffer) (callAs (a .op) s a)
 
--- where they lie
+-- where they lie, and how far the table and the buffer's length go
 pub record ArgsIn (s : Bytes) (a : Args) : Type 0 where
   pub primary : a .primaryat + a .primarylen ≤ length s
   pub key : a .keyat + a .keylen ≤ length s
@@ -87,7 +90,8 @@ pub record ArgsIn (s : Bytes) (a : Args) : Type 0 where
   pub to : a .toat + a .tolen ≤ length s
   pub resume : a .resumeat + a .resumelen ≤ length s
   pub rest : a .restat + a .restlen ≤ length s
-  pub buffer : a .buffer < 65536
+  pub first : a .first < 256 ^ firstWidth (isCapture (a .op))
+  pub buffer : a .buffer < bufferBelow (isCapture (a .op))
 
 pub record ArgsFor (s : Bytes) (w : Shape) (r : Args) : Type 0 where
   pub is : whole (shaped w) (drop 1 s) ≡ when (r .ok) (callOf s r)

@@ -4,7 +4,7 @@ use Prim.Native.Nat.{ℕ}
 use mathlib.Core.Bool.{Bool, true, false}
 use mathlib.Core.List.{[]}
 use mathlib.Core.Option.{Option, none, some}
-use lib.Dec.{eqb}
+use lib.Dec.{leb, eqb}
 use Rattle.forms.specs.Bytes.{Bytes}
 use Rattle.forms.specs.Readers.{Reader, _>>=_, just, byte, stretch}
 use Rattle.forms.specs.Numbers.{numberOf}
@@ -49,6 +49,21 @@ bound = do
 -- "buffer | a 2-byte length: the call is lent a buffer of that many bytes, each 0xEE before the call"
 abbrev pub buffer : Reader ℕ
 buffer = numberOf 2
+
+-- "table | 4"
+abbrev pub table : Reader ℕ
+table = numberOf 4
+
+unfoldable pub longIf : Bool → ℕ → Reader ℕ
+longIf true n = just n
+longIf false n = λ s. none
+
+-- "long buffer | a 4-byte length, at most 262,144: the call is lent a buffer of that many bytes, each 0xEE before the call"; "Not in form: .. a
+-- long buffer above 262,144"
+unfoldable pub longBuffer : Reader ℕ
+longBuffer = do
+  n ← numberOf 4
+  longIf (leb n 262144) n
 
 -- "batch, image | the rest of the call, any bytes"
 unfoldable pub remaining : Reader Bytes

@@ -15,10 +15,10 @@ use Rattle.traces.specs.declared.op.ShowOp.{ShowOp}
 use Rattle.traces.specs.declared.op.ChangeOp.{ChangeOp}
 use Rattle.traces.specs.declared.op.Op.{Op}
 use Rattle.traces.specs.Ops.{knownOp, opOf}
-use Rattle.traces.specs.Arguments.{number, kind, text, bound, buffer, remaining}
+use Rattle.traces.specs.Arguments.{number, kind, text, bound, buffer, table, longBuffer, remaining}
 
--- what a call of a trace says: the call of document 01, and the length of the buffer that it is lent for its page; a call that writes none is
--- lent none, and has 0. A single prewrite, commit or rollback says its batch of one.
+-- what a call of a trace says: the call, and the length of the buffer that it is lent for its page or image; a call that writes none is lent
+-- none, and has 0. A single prewrite, commit or rollback says its batch of one.
 pub record TraceCall : Type 0 where
   pub call : Call
   pub buffer : ℕ
@@ -165,6 +165,13 @@ statisticsArguments = just (lentNone Call.Statistics)
 unfoldable pub marksArguments : Reader TraceCall
 marksArguments = just (lentNone Call.Marks)
 
+-- "35 | write the image | table, long buffer"
+unfoldable pub captureArguments : Reader TraceCall
+captureArguments = do
+  t ← table
+  n ← longBuffer
+  just (lending n (Call.Capture t))
+
 unfoldable pub argumentsOf : Op → Reader TraceCall
 argumentsOf (Op.Shows ShowOp.Read) = readArguments
 argumentsOf (Op.Shows ShowOp.Page) = pageArguments
@@ -181,6 +188,7 @@ argumentsOf Op.OneStep = oneStepArguments
 argumentsOf (Op.Changes ChangeOp.Restore) = restoreArguments
 argumentsOf (Op.Shows ShowOp.Statistics) = statisticsArguments
 argumentsOf (Op.Shows ShowOp.Marks) = marksArguments
+argumentsOf Op.Capture = captureArguments
 
 -- the arguments of a known op; "Not in form: .. an unknown op"
 unfoldable pub ofOp : Bool → Option Op → Reader TraceCall

@@ -26,6 +26,7 @@ knownOps =
     32 ∷  -- restore
     33 ∷  -- statistics
     34 ∷  -- high-water marks
+    35 ∷  -- write the image
     []
 
 unfoldable pub isIn : ℕ → List ℕ → Bool
@@ -59,4 +60,13 @@ opOf b =
     eqb b 32 ⇒ Op.Changes ChangeOp.Restore else
     eqb b 33 ⇒ Op.Shows ShowOp.Statistics else
     eqb b 34 ⇒ Op.Shows ShowOp.Marks else
+    eqb b 35 ⇒ Op.Capture else
     none
+
+-- ---- the call that writes the image
+
+abbrev pub isCapture : Op → Bool
+isCapture (Op.Shows op) = false
+isCapture (Op.Changes op) = false
+isCapture Op.OneStep = false
+isCapture Op.Capture = true

@@ -12,7 +12,7 @@ use Rattle.forms.specs.Numbers.{numberOf}
 use Rattle.forms.specs.Places.{found}
 use Rattle.rules.specs.declared.records.Kind.{Kind}
 use Rattle.rules.specs.declared.records.Kind.the-variants.{Put, Delete}
-use Rattle.traces.specs.Arguments.{bound}
+use Rattle.traces.specs.Arguments.{bound, buffer, longBuffer}
 use Rattle.traces.specs.declared.argument.Value.{Value}
 use Rattle.traces.specs.declared.argument.Flag.{Flag}
 use Rattle.traces.specs.declared.argument.Text.{Text}
@@ -37,6 +37,24 @@ pub record Goes {A : Type 0} (wanted : Bool) (r : Reader A) (absent : A) (s : By
 pub record ValueAt (wanted : Bool) (w : ℕ) (s : Bytes) (before : Bool) (at : ℕ) (r : Value) : Type 0 where
   pub goes : Goes wanted (numberOf w) 0 s before at (r .ok) (r .value) (r .next)
   pub small : r .value < 256 ^ w
+
+-- the first number of a call, or the table of the image that it writes
+abbrev pub firstWidth : (capture : Bool) → ℕ
+firstWidth true = 4
+firstWidth false = 8
+
+-- the buffer of the image that a call writes, or of its page if it has one
+abbrev pub bufferBy : (capture page : Bool) → Reader ℕ
+bufferBy true page = longBuffer
+bufferBy false page = given page buffer 0
+
+abbrev pub bufferBelow : (capture : Bool) → ℕ
+bufferBelow true = 262145
+bufferBelow false = 65536
+
+pub record BufferAt (capture page : Bool) (s : Bytes) (before : Bool) (at : ℕ) (r : Value) : Type 0 where
+  pub goes : Goes true (bufferBy capture page) 0 s before at (r .ok) (r .value) (r .next)
+  pub small : r .value < bufferBelow capture
 
 abbrev pub kindOf : Bool → Kind
 kindOf true = Put

@@ -36,6 +36,7 @@ shapeOf Op.OneStep = withRest Op.OneStep 3 false true
 shapeOf (Op.Changes ChangeOp.Restore) = withRest (Op.Changes ChangeOp.Restore) 0 false true
 shapeOf (Op.Shows ShowOp.Statistics) = withRest (Op.Shows ShowOp.Statistics) 0 false false
 shapeOf (Op.Shows ShowOp.Marks) = withRest (Op.Shows ShowOp.Marks) 0 false false
+shapeOf Op.Capture = withRest Op.Capture 1 false false
 
 abbrev pub shapeBy : Option Op → Shape
 shapeBy none = noShape

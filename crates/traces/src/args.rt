@@ -4,18 +4,21 @@ ghost use Prim.Native.Nat.{_≤_};
 ghost use lib.ListN.{length};
 ghost use Rattle.traces.specs.Args.{noArgs, ArgsFor, ArgsOf};
 use crate::argument::bound_from;
+use crate::argument::buffer_from;
+use crate::argument::first_from;
 use crate::argument::kind_from;
 use crate::argument::number_from;
 use crate::argument::rest_from;
 use crate::argument::text_from;
 use crate::op::Op;
 use crate::op::ShowOp;
+use crate::op::is_capture;
 use crate::op::known_op;
 use crate::shape::Shape;
 use crate::shape::shape_of;
 use forms::Width;
 
-// Not ok where the bytes are no call in form. An argument that the call has not is 0, or absent, or no bytes.
+// Not ok where the bytes are no call in form. An argument that the call has not is 0, or absent, or no bytes; the table is the first number.
 pub struct Args {
     pub ok: bool,
     pub op: Op,
@@ -80,7 +83,8 @@ fn args_for(call: &[u8], shape: Shape) -> Args
     ensures { λ r. ⌜ ArgsFor (now (call .entry)) shape r ⌝ }
 {
     let op = shape.op;
-    let first = number_from(call, true, 1, Width::Eight, 0 < shape.numbers);
+    let capture = is_capture(op);
+    let first = first_from(call, capture, 0 < shape.numbers);
     let second = number_from(call, first.ok, first.next, Width::Eight, 1 < shape.numbers);
     let third = number_from(
         call,
@@ -96,7 +100,7 @@ fn args_for(call: &[u8], shape: Shape) -> Args
     let from = bound_from(call, row.ok, row.next, shape.page);
     let to = bound_from(call, from.ok, from.next, shape.page);
     let resume = bound_from(call, to.ok, to.next, shape.page);
-    let buffer = number_from(call, resume.ok, resume.next, Width::Two, shape.page);
+    let buffer = buffer_from(call, resume.ok, resume.next, capture, shape.page);
     let rest = rest_from(call, buffer.ok, buffer.next, shape.rest);
     if !rest.ok {
         return no_args();

@@ -1,12 +1,13 @@
 // The arguments of a call, one after the other. Each function goes on at the place where the one before it ended, and refuses where that
 // refused; an argument that the call has not is passed over.
 ghost use mathlib.Core.Path.{_≡_};
+ghost use mathlib.Core.Bool.{true};
 ghost use Prim.Native.Nat.{_≤_};
 ghost use lib.ListN.{length};
 ghost use Rattle.forms.specs.Numbers.{widthOf};
 ghost use Rattle.rules.specs.declared.records.Kind.the-variants.{Delete};
 ghost use Rattle.traces.specs.Arguments.{kind, text, remaining};
-ghost use Rattle.traces.specs.Places.{Goes, ValueAt, TextAt, BoundAt, kindOf, noFlag, noText, noBound};
+ghost use Rattle.traces.specs.Places.{Goes, ValueAt, firstWidth, BufferAt, TextAt, BoundAt, kindOf, noFlag, noText, noBound};
 use forms::Width;
 use forms::bytes_in;
 use forms::number_at;
@@ -49,6 +50,39 @@ pub(crate) fn number_from(s: &[u8], before: bool, at: usize, width: Width, wante
         value: n.value,
         next: at + w,
     }
+}
+
+// The first number, after the op byte; "table | 4" if the call writes the image.
+pub(crate) fn first_from(s: &[u8], capture: bool, wanted: bool) -> Value
+    requires { ⌜ 1 ≤ length (now s) ⌝ }
+    ensures { λ r. ⌜ ValueAt wanted (firstWidth capture) (now (s .entry)) true 1 r ⌝ }
+{
+    if capture {
+        return number_from(s, true, 1, Width::Four, wanted);
+    }
+    number_from(s, true, 1, Width::Eight, wanted)
+}
+
+// "a 4-byte length, at most 262,144"
+const LONG: u64 = 262144;
+
+// The length of the long buffer, if the call writes the image; else that of the page's buffer, if it has one.
+pub(crate) fn buffer_from(s: &[u8], before: bool, at: usize, capture: bool, page: bool) -> Value
+    requires { ⌜ at ≤ length (now s) ⌝ }
+    ensures { λ r. ⌜ BufferAt capture page (now (s .entry)) before at r ⌝ }
+{
+    if capture {
+        let n = number_from(s, before, at, Width::Four, true);
+        if LONG < n.value {
+            return Value {
+                ok: false,
+                value: 0,
+                next: 0,
+            };
+        }
+        return n;
+    }
+    number_from(s, before, at, Width::Two, page)
 }
 
 // "1 Put, 2 Delete"

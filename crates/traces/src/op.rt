@@ -1,7 +1,7 @@
 // The op bytes of the table of calls. An op byte without a line in known_op, here and in specs/Ops.antt, is unknown, and a trace that holds it is
 // out of form.
 ghost use mathlib.Core.Path.{_≡_};
-ghost use Rattle.traces.specs.Ops.{knownOp, isIn};
+ghost use Rattle.traces.specs.Ops.{knownOp, isIn, isCapture};
 
 // The calls that show something and leave the store as it was, by their names in the table.
 pub enum ShowOp {
@@ -25,11 +25,24 @@ pub enum ChangeOp {
     Restore,
 }
 
-// Every call.
+// Every call. The one that writes the image shows it in a long buffer, and stands apart from those whose payload is short.
 pub enum Op {
     Shows(ShowOp),
     Changes(ChangeOp),
     OneStep,
+    Capture,
+}
+
+// Whether the call has a table and a long buffer.
+pub(crate) fn is_capture(op: Op) -> bool
+    ensures { λ r. ⌜ r ≡ isCapture op ⌝ }
+{
+    match op {
+        Op::Shows(_) => false,
+        Op::Changes(_) => false,
+        Op::OneStep => false,
+        Op::Capture => true,
+    }
 }
 
 fn is_in(x: u8, list: &[u8]) -> bool
@@ -65,6 +78,7 @@ pub fn known_op(byte: u8) -> bool
         32, // restore
         33, // statistics
         34, // high-water marks
+        35, // write the image
     ];
     is_in(byte, &known)
 }

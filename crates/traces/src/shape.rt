@@ -1,5 +1,5 @@
 // Which arguments each call has. Where a call has several, they stand in the order of the fields here: numbers, kind, primary, key, row,
-// the three bounds and the buffer's length, the rest.
+// the three bounds and the buffer's length, the rest. The call that writes the image has its table as its one number, and a long buffer.
 ghost use mathlib.Core.Path.{_≡_};
 ghost use Rattle.traces.specs.Ops.{opOf};
 ghost use Rattle.traces.specs.Shapes.{shapeBy, noShape, withKey, withPage, withRest};
@@ -107,6 +107,7 @@ pub(crate) fn shape_of(byte: u8) -> Shape
         32 => with_rest(Op::Changes(ChangeOp::Restore), 0, false, true),
         33 => with_rest(Op::Shows(ShowOp::Statistics), 0, false, false),
         34 => with_rest(Op::Shows(ShowOp::Marks), 0, false, false),
+        35 => with_rest(Op::Capture, 1, false, false),
         _ => no_shape(),
     }
 }

@@ -1,6 +1,6 @@
 -- `drive::refuse` meets its contract.
 -- Assumes nothing.
-use Rattle.driving.proofs.TellLaws.{within}
+use Rattle.showing.proofs.TellLaws.{within}
 use lib.Seq.{length-take-le}
 use borrow.Author.Needs.{needs}
 use native.Mathlib.Omega.{arith}

@@ -29,6 +29,9 @@ withdrawn-removal-requires c κs = (c .before .before .before .before .two-label
 asks-figures-requires-2 : tie.Need-asks-figures-requires-2
 asks-figures-requires-2 c κs = (c .before .before .withdrawn-removal) .ensures
 
+copies-hall-requires : tie.Need-copies-hall-requires
+copies-hall-requires c κs = (c .before .before .before .before .before .withdrawn-removal) .ensures
+
 returns : tie.Need-returns
 returns c = search needs
 
@@ -44,4 +47,5 @@ main-spec =
     withdrawn-removal-requires
     slice-aggregate-asks-figures-2
     asks-figures-requires-2
+    copies-hall-requires
     returns)

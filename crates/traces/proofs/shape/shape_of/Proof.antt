@@ -68,12 +68,17 @@ unfolding opOf
 returns-15 c = at-op 34 (c .with-rest7 .ensures) (c .before .match .keys15)
 
 returns-16 : tie.Need-returns-16
-returns-16 c = c .no-shape .ensures ∙ no-op _ (c .before .match .rest)
+unfolding opOf
+returns-16 c = at-op 35 (c .with-rest8 .ensures) (c .before .match .keys16)
+
+returns-17 : tie.Need-returns-17
+returns-17 c = c .no-shape .ensures ∙ no-op _ (c .before .match .rest)
 
 pub shape-of-spec : {M : Type 1} → statement M
 shape-of-spec =
     tie.close
     (tie.spec
+    (λ c κs. search needs)
     (λ c κs. search needs)
     (λ c κs. search needs)
     (λ c κs. search needs)
@@ -105,4 +110,5 @@ shape-of-spec =
     returns-13
     returns-14
     returns-15
-    returns-16)
+    returns-16
+    returns-17)

@@ -1,0 +1,138 @@
+-- The entries of an image: how long they are, and what their writers leave. Assumes nothing.
+use Prim.Native.Nat.{ℕ, _+_, _-_, _≤_}
+use native.Mathlib.Omega.{arith}
+use mathlib.Core.Path.{_≡_, refl, sym, ap, ap₂, _∙_, subst}
+use mathlib.Core.List.{_++_}
+use lib.ListN.{length, take, drop, length-append}
+use Rattle.forms.specs.Bytes.{Bytes, bytesAt, pieceBytes}
+use Rattle.forms.specs.Writers.{Laid, PieceAsks}
+use Rattle.forms.proofs.WriterLaws.{laid-as, laid-then}
+use Rattle.rules.specs.Box.{startOf}
+use Rattle.rules.specs.Written.{lockBytes}
+use Rattle.rules.specs.Capture.{defaultBytes, recordBytes}
+use Rattle.rules.proofs.WriterLaws as writers
+use Rattle.rules.proofs.WriterLaws.{lock-long, record-long}
+use Rattle.store.specs.declared.table.Line.{Line}
+use Rattle.store.specs.declared.table.Line.the-variants.{Standing, Finished}
+use Rattle.store.specs.declared.table.LockSlot.{LockSlot}
+use Rattle.store.specs.declared.table.RecordSlot.{RecordSlot}
+use Rattle.store.specs.declared.table.Slot.{Slot}
+use Rattle.store.specs.declared.views.LineView.{LineView}
+use Rattle.store.specs.declared.views.LineView.the-variants as view
+use Rattle.store.specs.View.{eightAt, placeOf, rowLen, lineIn, past, keyOf, lineOf, rowIn}
+use Rattle.store.specs.KeyStates.{viewIn, viewOf, lockIn, recordIn}
+use Rattle.forms.proofs.WriterLaws.{bytes-long}
+use Rattle.captures.specs.Lines.{lineBytes, entryBytes, rowAt, ShortLine, SlotIn}
+use Rattle.captures.specs.Asks.{LockAsks, EntryAsks}
+use Rattle.captures.proofs.CaptureLineLaws.{stretch, key-in, key-long, key-some, row-in, row-long, row-short, start-is}
+
+-- ---- how long they are
+
+module _ {area : Bytes} {s : Slot} (q : SlotIn area s) where
+  pub default-long : length (defaultBytes (rowAt area s)) ≡ s .len + rowLen (s .line) + 10
+  default-long = writers.default-long (rowAt area s) ∙ omega (arith, key-long q, row-long q)
+
+  entry-long : length (entryBytes (lineOf area s)) ≡ s .len + 1 + length (lineBytes (lineOf area s .line))
+  unfolding entryBytes
+  entry-long = length-append (pieceBytes (keyOf area s)) (lineBytes (lineOf area s .line)) ∙ omega (arith, key-long q)
+
+  pub size-standing : {l : LockSlot} → s .line ≡ Standing l → s .len + 1 + l .plen + 26 ≡ length (entryBytes (lineOf area s))
+  size-standing {l} e =
+      let w : placeOf s + s .len + past (Standing l) ≤ length area = subst (λ (x : Line). placeOf s + s .len + past x ≤ length area) e (q .within) in
+      let at = placeOf s + s .len in
+      let n : length (lineBytes (lineIn area at (s .line))) ≡ length (lineBytes (lineIn area at (Standing l))) = ap (λ (x : Line). length (lineBytes (lineIn area at x))) e in
+      omega (arith, entry-long, n, lock-long (record { txn = eightAt area at; primary = bytesAt area (at + 8 + 8 + l .rowlen + 8) (l .plen); start = eightAt area (at + 8); ttl = eightAt area (at + 8 + 8 + l .rowlen); kind = l .kind }), bytes-long area (at + 8 + 8 + l .rowlen + 8) (l .plen) (omega arith))
+
+  pub size-finished : {w : RecordSlot} → s .line ≡ Finished w → s .len + 26 ≡ length (entryBytes (lineOf area s))
+  size-finished {w} e =
+      let at = placeOf s + s .len in
+      let n : length (lineBytes (lineIn area at (s .line))) ≡ length (lineBytes (lineIn area at (Finished w))) = ap (λ (x : Line). length (lineBytes (lineIn area at x))) e in
+      omega (arith, entry-long, n, record-long (record { stamp = eightAt area at; start = eightAt area (at + 8); commit = eightAt area at; kind = w .kind }))
+
+  pub entry-small : length (entryBytes (lineOf area s)) ≤ 400
+  entry-small = go (s .line) refl
+    where
+      go : (x : Line) → s .line ≡ x → length (entryBytes (lineOf area s)) ≤ 400
+      go (Standing l) e = let h : ShortLine (Standing l) = subst ShortLine e (q .short) in omega (arith, size-standing e, h .0, key-some q .1)
+      go (Finished w) e = omega (arith, size-finished e, key-some q .1)
+
+  pub default-small : length (defaultBytes (rowAt area s)) ≤ 400
+  default-small = omega (arith, default-long, key-some q .1, row-short q)
+
+-- ---- a stretch of the area, as the code cuts it out
+
+module _ (area : Bytes) (from len : ℕ) (h : from + len ≤ length area) where
+  stretch-long : length (take (from + len - from) (drop from area)) ≡ len
+  stretch-long = ap length (stretch area from len) ∙ bytes-long area from len h
+
+  pub stretch-laid : (f : Bytes → Bytes) (k : ℕ) {at r : ℕ} {s t : Bytes} → Laid at (length (take (from + len - from) (drop from area)) + k) (f (take (from + len - from) (drop from area))) s r t → Laid at (len + k) (f (bytesAt area from len)) s r t
+  stretch-laid f k {at} {r} {s} {t} v =
+      subst (λ (b : Bytes). Laid at (len + k) (f b) s r t) (stretch area from len) (subst (λ (n : ℕ). Laid at (n + k) (f (take (from + len - from) (drop from area))) s r t) stretch-long v)
+
+pub key-laid : (area : Bytes) (x : Slot) → placeOf x + x .len ≤ length area → {p : ℕ} → p ≡ placeOf x → {at r : ℕ} {s t : Bytes}
+    → Laid at (length (take (p + x .len - p) (drop p area)) + 1) (pieceBytes (take (p + x .len - p) (drop p area))) s r t → Laid at (x .len + 1) (pieceBytes (keyOf area x)) s r t
+key-laid area x h {p} e {at} {r} {s} {t} v =
+    subst (λ (k : ℕ). Laid at (x .len + 1) (pieceBytes (bytesAt area k (x .len))) s r t) e (stretch-laid area p (x .len) (omega arith) pieceBytes 1 v)
+
+-- ---- a key, and its lock or record
+
+abbrev toldBytes : Bytes → LineView → Bytes
+toldBytes area (view.Standing i) = lockBytes (lockIn area i)
+toldBytes area (view.Finished w) = recordBytes (recordIn w)
+
+told-bytes : (area : Bytes) (at : ℕ) (x : Line) → toldBytes area (viewIn area at x) ≡ lineBytes (lineIn area at x)
+told-bytes area at (Standing l) = refl
+told-bytes area at (Finished w) = refl
+
+-- what the writer of a lock or a record asks
+abbrev ToldAsks : Bytes → ℕ → Bytes → LineView → Type 0
+ToldAsks area at out (view.Standing i) = LockAsks area i at out
+ToldAsks area at out (view.Finished w) = at + 25 ≤ length out
+
+module _ {area : Bytes} {s : Slot} {at : ℕ} {out : Bytes} (q : EntryAsks area s (entryBytes (lineOf area s)) at out) where
+  pub line-key : at + (s .len + 1) ≤ length out
+  line-key = omega (arith, q .room, entry-long (q .slot))
+
+  module _ {a : ℕ} {t : Bytes} (k : Laid at (s .len + 1) (pieceBytes (keyOf area s)) out a t) where
+    line-asks : ToldAsks area a t (viewOf area s)
+    line-asks = go (s .line) (q .slot .within) (q .slot .short) (omega (arith, q .room, entry-long (q .slot), k .next, k .length-is))
+      where
+        go : (x : Line) → placeOf s + s .len + past x ≤ length area → ShortLine x → a + length (lineBytes (lineIn area (placeOf s + s .len) x)) ≤ length t → ToldAsks area a t (viewIn area (placeOf s + s .len) x)
+        go (Standing l) f g h =
+            let p = placeOf s + s .len in
+            record {
+              within = omega arith;
+              short = g .0;
+              room = omega (arith, lock-long (record { txn = eightAt area p; primary = bytesAt area (p + 8 + 8 + l .rowlen + 8) (l .plen); start = eightAt area (p + 8); ttl = eightAt area (p + 8 + 8 + l .rowlen); kind = l .kind }), bytes-long area (p + 8 + 8 + l .rowlen + 8) (l .plen) (omega arith));
+            }
+        go (Finished w) f g h = let p = placeOf s + s .len in omega (arith, record-long (record { stamp = eightAt area p; start = eightAt area (p + 8); commit = eightAt area p; kind = w .kind }))
+
+    module _ {line : LineView} (e : line ≡ viewOf area s) where
+      pub told-asks : {x : LineView} → line ≡ x → ToldAsks area a t x
+      told-asks f = subst (ToldAsks area a t) (sym e ∙ f) line-asks
+
+      pub line-laid : {x : LineView} {n r : ℕ} {u : Bytes} → line ≡ x → Laid a n (toldBytes area x) t r u → Laid at (length (entryBytes (lineOf area s))) (entryBytes (lineOf area s)) out r u
+      unfolding entryBytes
+      line-laid {x} f v = laid-as (laid-then k v) (ap (λ (b : Bytes). pieceBytes (keyOf area s) ++ b) (ap (toldBytes area) (sym f ∙ e) ∙ told-bytes area (placeOf s + s .len) (s .line)))
+
+-- ---- a default
+
+module _ {area : Bytes} {s : Slot} {at : ℕ} {out : Bytes} (q : EntryAsks area s (defaultBytes (rowAt area s)) at out) {k len : ℕ} (e : k ≡ placeOf s) (f : len ≡ rowLen (s .line)) where
+  pub default-asks : PieceAsks (take (k + s .len - k) (drop k area)) (length (take (k + s .len - k) (drop k area)) + length (take (k + s .len + 16 + len - (k + s .len + 16)) (drop (k + s .len + 16) area)) + 10) at out
+      × (length (take (k + s .len + 16 + len - (k + s .len + 16)) (drop (k + s .len + 16) area)) ≤ 255)
+  default-asks =
+      let key = stretch-long area k (s .len) (omega (arith, key-in (q .slot))) in
+      let row = stretch-long area (k + s .len + 16) len (omega (arith, row-in (q .slot))) in
+      (record { short = omega (arith, key, key-some (q .slot) .1); room = omega (arith, key, row, q .room, default-long (q .slot)) }, omega (arith, row, row-short (q .slot)))
+
+  pub default-laid : {start n r : ℕ} {v : Bytes} → start ≡ eightAt area (k + s .len + 8)
+      → Laid at n (defaultBytes (record { key = take (k + s .len - k) (drop k area); start = start; row = take (k + s .len + 16 + len - (k + s .len + 16)) (drop (k + s .len + 16) area) })) out r v
+      → Laid at (length (defaultBytes (rowAt area s))) (defaultBytes (rowAt area s)) out r v
+  default-laid {start} g v =
+      let i : k + s .len + 16 ≡ placeOf s + s .len + 8 + 8 = omega arith in
+      let key : take (k + s .len - k) (drop k area) ≡ keyOf area s = stretch area k (s .len) ∙ ap (λ (n : ℕ). bytesAt area n (s .len)) e in
+      let row : take (k + s .len + 16 + len - (k + s .len + 16)) (drop (k + s .len + 16) area) ≡ rowIn area s = stretch area (k + s .len + 16) len ∙ ap₂ (λ (n m : ℕ). bytesAt area n m) i f in
+      let at-start : start ≡ startOf (lineOf area s .line) = g ∙ ap (λ (n : ℕ). eightAt area (n + s .len + 8)) e ∙ sym (start-is (q .slot)) in
+      laid-as v
+      (ap₂ (λ (b c : Bytes). defaultBytes (record { key = b; start = start; row = c })) key row
+      ∙ ap (λ (n : ℕ). defaultBytes (record { key = keyOf area s; start = n; row = rowIn area s })) at-start)

@@ -1,0 +1,120 @@
+-- Document 02's sentences on a written image, carried to stores: of a made store, whose area holds bytes, the image restores to the table's part,
+-- equal bytes are equal parts, and what is restored is written the same. Assumes nothing.
+use Prim.Native.Nat.{ℕ, zero, suc, _+_, _<_}
+use native.Mathlib.Omega.{arith}
+use mathlib.Core.Path.{subst}
+use mathlib.Core.Bool.{Bool, true, false}
+use mathlib.Core.List.{List, [], _∷_, map}
+use lib.ListN.{length, getD, take, drop, length-take}
+use Rattle.seqs.specs.Tables.{All, shown}
+use Rattle.forms.specs.Bytes.{Bytes, bytesAt}
+use Rattle.forms.proofs.NumberLaws.{power-pos, below-word, number-below}
+use Rattle.rules.specs.declared.records.Kind.{Kind}
+use Rattle.rules.specs.declared.records.Kind.the-variants.{Put, Delete, Rollback}
+use Rattle.rules.specs.Box as box
+use Rattle.rules.specs.Box.{startOf, kindIn, putIn, insertBy}
+use Rattle.rules.specs.Room.{Fits, loadOf, roomFor}
+use Rattle.rules.specs.Capture.{Word, LineWords, Words}
+use Rattle.rules.proofs.RoomLaws.{fits-in}
+use Rattle.ledger.specs.Captured.{Stored, TableNumber, CaptureRestores, EqualBytes, EqualBytesOnly, Canonical}
+use Rattle.ledger.proofs.Captured.{capture-restores, canonical, equal-bytes, equal-bytes-only}
+use Rattle.store.specs.declared.table.Line.{Line}
+use Rattle.store.specs.declared.table.Line.the-variants.{Standing, Finished}
+use Rattle.store.specs.declared.table.Slot.{Slot}
+use Rattle.store.specs.declared.table.Store.{Store}
+use Rattle.store.specs.View.{eightAt, placeOf, lineIn, lineOf, ifPut, defaultIn, addIf, stored, boxOf}
+use Rattle.store.specs.Made.{Made}
+use Rattle.store.proofs.TidyLaws.{built-tidy}
+use Rattle.captures.specs.Lines.{rowAt}
+
+-- ---- bytes, and the numbers that they say
+
+-- each is a byte
+abbrev pub AllBytes : Bytes → Type 0
+AllBytes s = (i : ℕ) → getD s i 0 < 256
+
+bytes-take : (n : ℕ) (s : Bytes) → AllBytes s → AllBytes (take n s)
+bytes-take zero s g i = omega arith
+bytes-take (suc n) [] g i = omega arith
+bytes-take (suc n) (x ∷ s) g zero = g 0
+bytes-take (suc n) (x ∷ s) g (suc i) = bytes-take n s (λ j. g (suc j)) i
+
+bytes-drop : (n : ℕ) (s : Bytes) → AllBytes s → AllBytes (drop n s)
+bytes-drop zero s g i = g i
+bytes-drop (suc n) [] g i = omega arith
+bytes-drop (suc n) (x ∷ s) g i = bytes-drop n s (λ j. g (suc j)) i
+
+word : (area : Bytes) (at : ℕ) → AllBytes area → Word (eightAt area at)
+word area at g =
+    below-word (0 + length (bytesAt area at 8)) (eightAt area at) (omega (arith, length-take 8 (drop at area))) (number-below (bytesAt area at 8) 0 0 (bytes-take 8 (drop at area) (bytes-drop at area g)) (power-pos 0))
+
+line-words : (area : Bytes) (at : ℕ) (x : Line) → AllBytes area → LineWords (lineIn area at x)
+line-words area at (Standing l) g = (word area at g, word area (at + 8) g, word area (at + 8 + 8 + l .rowlen) g)
+line-words area at (Finished w) g = (word area at g, word area (at + 8) g, word area at g)
+
+start-word : (area : Bytes) (at : ℕ) (x : Line) → AllBytes area → Word (startOf (lineIn area at x))
+start-word area at (Standing l) g = word area (at + 8) g
+start-word area at (Finished w) g = word area (at + 8) g
+
+-- ---- of each line and of each row
+
+all-map : {A B : Type 0} (f : A → B) (P : B → Type 0) → ((x : A) → P (f x)) → (xs : List A) → All P (map f xs)
+unfolding All
+all-map f P h [] = tt
+all-map f P h (x ∷ xs) = (h x, all-map f P h xs)
+
+all-put : {A : Type 0} (lt : A → A → Bool) (P : A → Type 0) (x : A) (l : List A) → P x → All P l → All P (insertBy lt x l)
+unfolding All insertBy putIn
+all-put lt P x [] h a = (h, tt)
+all-put lt P x (y ∷ ys) h a = go (lt x y) (all-put lt P x ys h (a .1))
+  where
+    go : (b : Bool) → All P (insertBy lt x ys) → All P (putIn b x y ys (insertBy lt x ys))
+    go true r = (h, a)
+    go false r = (a .0, r)
+
+module _ (area : Bytes) (g : AllBytes area) where
+  row-words : (xs : List Slot) → All (λ (d : box.Default). Word (d .start)) (stored (map (defaultIn area) xs))
+  unfolding All stored addIf
+  row-words [] = tt
+  row-words (s ∷ xs) = go (kindIn (lineOf area s .line)) (row-words xs)
+    where
+      go : (k : Kind) → All (λ (d : box.Default). Word (d .start)) (stored (map (defaultIn area) xs)) → All (λ (d : box.Default). Word (d .start)) (addIf (ifPut k (rowAt area s)) (stored (map (defaultIn area) xs)))
+      go Put a = all-put box.rowBefore (λ (d : box.Default). Word (d .start)) (rowAt area s) (stored (map (defaultIn area) xs)) (start-word area (placeOf s + s .len) (s .line) g) a
+      go Delete a = a
+      go Rollback a = a
+
+-- ---- stores
+
+module _ {st : Store} {area : Bytes} (m : Made st area) (g : AllBytes area) where
+  words : Words (boxOf st area)
+  unfolding shown
+  words = record {
+    lines = all-map (lineOf area) (λ (e : box.KeyLine). LineWords (e .line)) (λ s. line-words area (placeOf s + s .len) (s .line) g) (take (st .load .lines) (st .lines));
+    defaults = row-words area g (take (st .load .lines) (st .lines));
+  }
+
+  pub made-stored : Stored (boxOf st area)
+  unfolding roomFor
+  made-stored = record {
+    tidy = built-tidy (m .built);
+    order = m .built .kept .sorted;
+    room = fits-in (loadOf (boxOf st area)) (subst Fits (m .built .kept .load-is) (m .fit));
+    words = words;
+  }
+
+  module _ (t : ℕ) (n : TableNumber t) where
+    -- "Restoring what was written gives that table's part of the store"
+    pub store-restores : CaptureRestores t (boxOf st area)
+    store-restores = capture-restores t n (boxOf st area) made-stored
+
+    pub store-canonical : Canonical t (boxOf st area)
+    store-canonical = canonical t n (boxOf st area) made-stored
+
+-- "two stores .. have equal bytes exactly when they hold the same entries"
+module _ {st su : Store} {area area′ : Bytes} (m : Made st area) (g : AllBytes area) (k : Made su area′) (h : AllBytes area′) (t : ℕ) (n : TableNumber t) where
+  pub stores-equal : EqualBytes t (boxOf st area) (boxOf su area′)
+  stores-equal = equal-bytes t n (boxOf st area) (boxOf su area′) (made-stored m g) (made-stored k h)
+
+  -- "holding only that table"
+  pub stores-equal-only : EqualBytesOnly t (boxOf st area) (boxOf su area′)
+  stores-equal-only = equal-bytes-only t n (boxOf st area) (boxOf su area′) (made-stored m g) (made-stored k h)

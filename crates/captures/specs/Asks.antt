@@ -1,0 +1,41 @@
+-- What the writers ask: that what they write lies in the area, and that there is room for it.
+-- Assumes nothing.
+use Prim.Native.Nat.{ℕ, _+_, _≤_}
+use mathlib.Core.List.{List}
+use lib.ListN.{length}
+use Rattle.forms.specs.Bytes.{Bytes}
+use Rattle.store.specs.declared.table.Slot.{Slot}
+use Rattle.store.specs.declared.views.LockView.{LockView}
+use Rattle.store.specs.View.{placeOf}
+use Rattle.captures.specs.declared.sizes.Sizes.{Sizes}
+use Rattle.captures.specs.Lines.{SlotIn, Lined}
+use Rattle.captures.specs.Sizes.{SizesAre}
+
+pub record KeyAsks (area : Bytes) (s : Slot) (at : ℕ) (out : Bytes) : Type 0 where
+  pub within : placeOf s + s .len ≤ length area
+  pub room : at + (s .len + 1) ≤ length out
+
+pub record LockAsks (area : Bytes) (l : LockView) (at : ℕ) (out : Bytes) : Type 0 where
+  pub within : l .at + l .len ≤ length area
+  pub short : l .len ≤ 255
+  pub room : at + (l .len + 26) ≤ length out
+
+-- the bytes of a slot's entry
+pub record EntryAsks (area : Bytes) (s : Slot) (bytes : Bytes) (at : ℕ) (out : Bytes) : Type 0 where
+  pub slot : SlotIn area s
+  pub room : at + length bytes ≤ length out
+
+-- two keys that lie in the area
+pub record BothIn (area : Bytes) (a b : Slot) : Type 0 where
+  pub one : placeOf a + a .len ≤ length area
+  pub other : placeOf b + b .len ≤ length area
+
+-- the bytes of a section's entries
+pub record SectionAsks (lines : List Slot) (n : ℕ) (area bytes out : Bytes) : Type 0 where
+  pub lined : Lined lines n area
+  pub room : length bytes ≤ length out
+
+pub record ImageAsks (lines : List Slot) (n : ℕ) (area : Bytes) (t : ℕ) (z : Sizes) (out : Bytes) : Type 0 where
+  pub lined : Lined lines n area
+  pub sizes : SizesAre lines n area t z
+  pub room : z .bytes + 10 ≤ length out

@@ -1,0 +1,185 @@
+-- A table's part of a box: it keeps the order, the limits and whatever holds of every entry, and of a part the part is itself. The entries
+-- of an image are the lines of its box, locks and writes apart. Assumes nothing.
+use Prim.Native.Nat.{ℕ, suc, _+_, _≤_}
+use native.Mathlib.Omega.{arith}
+use mathlib.Core.Path.{_≡_, refl, ap₂}
+use mathlib.Core.Logic.{_⊎_, inl, inr}
+use mathlib.Core.Bool.{Bool, true}
+use mathlib.Core.List.{List, [], _∷_, map}
+use lib.ListN.{length}
+use Rattle.seqs.specs.Tables.{All}
+use Rattle.forms.specs.Key.{Key}
+use Rattle.rules.specs.Box.{Box, Line, Standing, Finished, KeyLine, Default, inOrder}
+use Rattle.rules.specs.Room.{sumOf, oneLock, lineBytes, loadOf, Fits, roomFor}
+use Rattle.rules.specs.Read.{keepIf}
+use Rattle.rules.specs.Page.{KeyLock, locksOf}
+use Rattle.rules.specs.Image.{KeyRecord}
+use Rattle.rules.specs.Restore.{allGood, lockLine, writeLine}
+use Rattle.rules.specs.Capture.{selected, lineOfTable, rowOfTable, partOf, writesOf, LineWords, LockWords, RecordWords, Words}
+use Rattle.rules.proofs.RoomLaws.{fits-out, fits-in}
+use Rattle.laws.proofs.StepLaws.{by-test, and-left, and-right, and-both}
+use Rattle.laws.proofs.Sorted.{In, Fewer, empty, gone, kept, ordered-fewer}
+use Rattle.laws.proofs.BoxOrder.{order-lines, order-defaults, in-order}
+
+-- ---- those of which a test holds
+
+module _ {A : Type 0} (p : A → Bool) where
+  pub selected-fewer : (xs : List A) → Fewer (selected p xs) xs
+  unfolding selected keepIf
+  selected-fewer [] = empty
+  selected-fewer (x ∷ xs) = by-test (λ t. Fewer (keepIf t x (selected p xs)) (x ∷ xs)) (p x) (λ e. kept (selected-fewer xs)) (λ e. gone (selected-fewer xs))
+
+  pub selected-good : (xs : List A) → allGood p (selected p xs) ≡ true
+  unfolding selected keepIf allGood
+  selected-good [] = refl
+  selected-good (x ∷ xs) = by-test (λ t. allGood p (keepIf t x (selected p xs)) ≡ true) (p x) (λ e. and-both (p x) _ e (selected-good xs)) (λ e. selected-good xs)
+
+  pub selected-all : (xs : List A) → allGood p xs ≡ true → selected p xs ≡ xs
+  unfolding selected keepIf allGood
+  selected-all [] a = refl
+  selected-all (x ∷ xs) a = rw (and-left (p x) _ a, selected-all xs (and-right (p x) _ a))
+
+pub fewer-sum : {A : Type 0} (f : A → ℕ) {ys xs : List A} → Fewer ys xs → sumOf f ys ≤ sumOf f xs
+unfolding sumOf
+fewer-sum f empty = omega arith
+fewer-sum f (gone q) = omega (arith, fewer-sum f q)
+fewer-sum f (kept q) = omega (arith, fewer-sum f q)
+
+pub fewer-length : {A : Type 0} {ys xs : List A} → Fewer ys xs → length ys ≤ length xs
+fewer-length empty = omega arith
+fewer-length (gone q) = omega (arith, fewer-length q)
+fewer-length (kept q) = omega (arith, fewer-length q)
+
+pub fewer-each : {A : Type 0} (P : A → Type 0) {ys xs : List A} → Fewer ys xs → All P xs → All P ys
+unfolding All
+fewer-each P empty a = tt
+fewer-each P (gone q) a = fewer-each P q (a .1)
+fewer-each P (kept q) a = (a .0, fewer-each P q (a .1))
+
+-- ---- the part
+
+module _ (t : ℕ) (b : Box) where
+  abbrev fewerLines : Fewer (selected (lineOfTable t) (b .lines)) (b .lines)
+  fewerLines = selected-fewer (lineOfTable t) (b .lines)
+
+  abbrev fewerRows : Fewer (selected (rowOfTable t) (b .defaults)) (b .defaults)
+  fewerRows = selected-fewer (rowOfTable t) (b .defaults)
+
+  pub part-order : inOrder b ≡ true → inOrder (partOf t b) ≡ true
+  unfolding partOf
+  part-order o = in-order _ _ (ordered-fewer _ fewerLines (order-lines b o)) (ordered-fewer _ fewerRows (order-defaults b o))
+
+  pub part-again : partOf t (partOf t b) ≡ partOf t b
+  unfolding partOf
+  part-again = ap₂ (λ (es : List KeyLine) (ds : List Default). record { lines = es; defaults = ds }) (selected-all (lineOfTable t) _ (selected-good (lineOfTable t) (b .lines))) (selected-all (rowOfTable t) _ (selected-good (rowOfTable t) (b .defaults)))
+
+  pub part-words : Words b → Words (partOf t b)
+  unfolding partOf
+  part-words v = record { lines = fewer-each _ fewerLines (v .lines); defaults = fewer-each _ fewerRows (v .defaults) }
+
+  part-fits : Fits (loadOf b) → Fits (loadOf (partOf t b))
+  unfolding partOf loadOf
+  part-fits f = record {
+    lines = omega (arith, fewer-length fewerLines);
+    locks = omega (arith, fewer-sum (λ (e : KeyLine). oneLock (e .line)) fewerLines);
+    defaults = omega (arith, fewer-length fewerRows);
+    bytes = omega (arith, fewer-sum (λ (e : KeyLine). lineBytes (e .key) (e .line)) fewerLines, fewer-sum (λ (d : Default). length (d .key) + length (d .row)) fewerRows);
+  }
+
+  pub part-room : roomFor b ≡ true → roomFor (partOf t b) ≡ true
+  unfolding roomFor
+  part-room r = fits-in (loadOf (partOf t b)) (part-fits (fits-out (loadOf b) r))
+
+-- ---- lines, locks and writes apart
+
+abbrev lineAt : Key → Line → KeyLine
+lineAt k x = record { key = k; line = x }
+
+-- a line is one of the locks or of the writes, and the other way round
+pub apart-in : (es : List KeyLine) (e : KeyLine) → In e es → In e (map lockLine (locksOf es)) ⊎ In e (map writeLine (writesOf es))
+unfolding locksOf writesOf
+apart-in (f ∷ fs) e m = go (f .key) (f .line) m (apart-in fs e)
+  where
+    late : (k : Key) (x : Line) → In e (map lockLine (locksOf fs)) ⊎ In e (map writeLine (writesOf fs)) → In e (map lockLine (locksOf (lineAt k x ∷ fs))) ⊎ In e (map writeLine (writesOf (lineAt k x ∷ fs)))
+    late k (Standing l) (inl q) = inl (inr q)
+    late k (Standing l) (inr q) = inr q
+    late k (Finished w) (inl q) = inl q
+    late k (Finished w) (inr q) = inr (inr q)
+
+    first : (k : Key) (x : Line) → e ≡ lineAt k x → In e (map lockLine (locksOf (lineAt k x ∷ fs))) ⊎ In e (map writeLine (writesOf (lineAt k x ∷ fs)))
+    first k (Standing l) q = inl (inl q)
+    first k (Finished w) q = inr (inl q)
+
+    go : (k : Key) (x : Line) → (e ≡ lineAt k x) ⊎ In e fs → (In e fs → In e (map lockLine (locksOf fs)) ⊎ In e (map writeLine (writesOf fs))) → In e (map lockLine (locksOf (lineAt k x ∷ fs))) ⊎ In e (map writeLine (writesOf (lineAt k x ∷ fs)))
+    go k x (inl q) ih = first k x q
+    go k x (inr q) ih = late k x (ih q)
+
+pub in-apart : (es : List KeyLine) (e : KeyLine) → In e (map lockLine (locksOf es)) ⊎ In e (map writeLine (writesOf es)) → In e es
+unfolding locksOf writesOf
+in-apart [] e (inl m) = m
+in-apart [] e (inr m) = m
+in-apart (f ∷ fs) e m = go (f .key) (f .line) m (in-apart fs e)
+  where
+    go : (k : Key) (x : Line) → In e (map lockLine (locksOf (lineAt k x ∷ fs))) ⊎ In e (map writeLine (writesOf (lineAt k x ∷ fs))) → (In e (map lockLine (locksOf fs)) ⊎ In e (map writeLine (writesOf fs)) → In e fs) → (e ≡ lineAt k x) ⊎ In e fs
+    go k (Standing l) (inl (inl q)) ih = inl q
+    go k (Standing l) (inl (inr q)) ih = inr (ih (inl q))
+    go k (Standing l) (inr q) ih = inr (ih (inr q))
+    go k (Finished w) (inl q) ih = inr (ih (inl q))
+    go k (Finished w) (inr (inl q)) ih = inl q
+    go k (Finished w) (inr (inr q)) ih = inr (ih (inr q))
+
+-- what holds of each line holds of each lock and of each write
+pub locks-good : (p : KeyLine → Bool) (es : List KeyLine) → allGood p es ≡ true → allGood (λ (x : KeyLock). p (lockLine x)) (locksOf es) ≡ true
+unfolding locksOf allGood
+locks-good p [] a = refl
+locks-good p (e ∷ es) a = go (e .key) (e .line) (and-left (p e) _ a) (locks-good p es (and-right (p e) _ a))
+  where
+    go : (k : Key) (x : Line) → p (lineAt k x) ≡ true → allGood (λ (x : KeyLock). p (lockLine x)) (locksOf es) ≡ true → allGood (λ (x : KeyLock). p (lockLine x)) (locksOf (lineAt k x ∷ es)) ≡ true
+    go k (Standing l) h ih = and-both _ _ h ih
+    go k (Finished w) h ih = ih
+
+pub writes-good : (p : KeyLine → Bool) (es : List KeyLine) → allGood p es ≡ true → allGood (λ (x : KeyRecord). p (writeLine x)) (writesOf es) ≡ true
+unfolding writesOf allGood
+writes-good p [] a = refl
+writes-good p (e ∷ es) a = go (e .key) (e .line) (and-left (p e) _ a) (writes-good p es (and-right (p e) _ a))
+  where
+    go : (k : Key) (x : Line) → p (lineAt k x) ≡ true → allGood (λ (x : KeyRecord). p (writeLine x)) (writesOf es) ≡ true → allGood (λ (x : KeyRecord). p (writeLine x)) (writesOf (lineAt k x ∷ es)) ≡ true
+    go k (Standing l) h ih = ih
+    go k (Finished w) h ih = and-both _ _ h ih
+
+-- their numbers, and how many there are
+pub lock-words : (es : List KeyLine) → All (λ (e : KeyLine). LineWords (e .line)) es → All (λ (x : KeyLock). LockWords (x .lock)) (locksOf es)
+unfolding locksOf All
+lock-words [] a = tt
+lock-words (e ∷ es) a = go (e .key) (e .line) (a .0) (lock-words es (a .1))
+  where
+    go : (k : Key) (x : Line) → LineWords x → All (λ (x : KeyLock). LockWords (x .lock)) (locksOf es) → All (λ (x : KeyLock). LockWords (x .lock)) (locksOf (lineAt k x ∷ es))
+    go k (Standing l) h ih = (h, ih)
+    go k (Finished w) h ih = ih
+
+pub write-words : (es : List KeyLine) → All (λ (e : KeyLine). LineWords (e .line)) es → All (λ (x : KeyRecord). RecordWords (x .write)) (writesOf es)
+unfolding writesOf All
+write-words [] a = tt
+write-words (e ∷ es) a = go (e .key) (e .line) (a .0) (write-words es (a .1))
+  where
+    go : (k : Key) (x : Line) → LineWords x → All (λ (x : KeyRecord). RecordWords (x .write)) (writesOf es) → All (λ (x : KeyRecord). RecordWords (x .write)) (writesOf (lineAt k x ∷ es))
+    go k (Standing l) h ih = ih
+    go k (Finished w) h ih = (h, ih)
+
+pub locks-few : (es : List KeyLine) → length (locksOf es) ≤ length es
+unfolding locksOf
+locks-few [] = omega arith
+locks-few (e ∷ es) = go (e .key) (e .line) (locks-few es)
+  where
+    go : (k : Key) (x : Line) → length (locksOf es) ≤ length es → length (locksOf (lineAt k x ∷ es)) ≤ suc (length es)
+    go k (Standing l) h = omega arith
+    go k (Finished w) h = omega arith
+
+pub writes-few : (es : List KeyLine) → length (writesOf es) ≤ length es
+unfolding writesOf
+writes-few [] = omega arith
+writes-few (e ∷ es) = go (e .key) (e .line) (writes-few es)
+  where
+    go : (k : Key) (x : Line) → length (writesOf es) ≤ length es → length (writesOf (lineAt k x ∷ es)) ≤ suc (length es)
+    go k (Standing l) h = omega arith
+    go k (Finished w) h = omega arith

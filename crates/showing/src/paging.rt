@@ -1,0 +1,125 @@
+// Pages of each kind: "the call is lent a buffer of that many bytes, each 0xEE before the call", and what is told is "the whole lent buffer as it
+// stands after the call, refused or not".
+ghost use mathlib.Core.Path.{_≡_};
+ghost use Rattle.bounds.specs.Bounds.{boundsOf};
+ghost use Rattle.store.specs.View.{boxOf};
+ghost use Rattle.store.specs.Made.{Made};
+ghost use Rattle.rules.specs.Written.{WroteAs};
+ghost use Rattle.showing.specs.Told.{lent, paging};
+ghost use Rattle.showing.specs.Paging.{scanned};
+ghost use Rattle.showing.specs.Ran.{ShowAsks, ShownTold, boundsIn};
+use crate::parts::part;
+use crate::ran::Shown;
+use rules::Wrote;
+use store::AREA;
+use store::Store;
+use traces::Args;
+
+// A page, an intent page, or conflicting intents.
+pub enum Which {
+    Rows,
+    Intents,
+    Conflicts,
+}
+
+// The numbers are the moment and both limits, or the one limit of an intent page.
+fn scan(
+    store: Store,
+    area: &[u8; AREA],
+    which: Which,
+    first: u64,
+    second: u64,
+    third: u64,
+    starts: bool,
+    start: &[u8],
+    ends: bool,
+    end: &[u8],
+    resumes: bool,
+    resume: &[u8],
+    page: &mut [u8],
+) -> Wrote
+    requires { ⌜ Made store (now area) ⌝ }
+    ensures { λ r. ⌜ WroteAs (scanned which (boundsOf starts (now (start .entry)) ends (now (end .entry)) resumes (now (resume .entry))) first second third (boxOf store (now (area .entry))) (now (page .entry))) r (now (page .exit)) ⌝ }
+{
+    match which {
+        Which::Rows => pages::scan_page(
+            store,
+            area,
+            first,
+            second,
+            third,
+            starts,
+            start,
+            ends,
+            end,
+            resumes,
+            resume,
+            page,
+        ),
+        Which::Intents => pages::scan_intent_page(
+            store,
+            area,
+            first,
+            starts,
+            start,
+            ends,
+            end,
+            resumes,
+            resume,
+            page,
+        ),
+        Which::Conflicts => pages::scan_conflicting_intents(
+            store,
+            area,
+            first,
+            second,
+            third,
+            starts,
+            start,
+            ends,
+            end,
+            resumes,
+            resume,
+            page,
+        ),
+    }
+}
+
+// "start bound, end bound, resume bound, buffer": the lent buffer is the front of `payload`.
+pub fn show_page(
+    store: Store,
+    area: &[u8; AREA],
+    call: &[u8],
+    args: Args,
+    which: Which,
+    payload: &mut [u8],
+) -> Shown
+    requires { ⌜ ShowAsks store (now area) (now call) args (now payload) ⌝ }
+    ensures { λ r. ⌜ ShownTold (paging (scanned which (boundsIn (now (call .entry)) args) (args .first) (args .second) (args .third) (boxOf store (now (area .entry))) (lent (args .buffer))) (boxOf store (now (area .entry)))) (boxOf store (now (area .entry))) r (now (payload .exit)) ⌝ }
+{
+    let start = part(call, args.fromat, args.fromlen);
+    let end = part(call, args.toat, args.tolen);
+    let resume = part(call, args.resumeat, args.resumelen);
+    let n = args.buffer;
+    let done = scan(
+        store,
+        area,
+        which,
+        args.first,
+        args.second,
+        args.third,
+        args.from,
+        start,
+        args.to,
+        end,
+        args.resume,
+        resume,
+        &mut payload[..n],
+    );
+    let answer = done.answer;
+    Shown {
+        answer,
+        count: done.count as u64,
+        len: n,
+    }
+}
