@@ -36,16 +36,17 @@ use Rattle.laws.proofs.PrewriteLaws.{PrewritePassed, prewrite-passed, prewrite-
 use Rattle.laws.proofs.CommitLaws.{committed, CommitWay, commit-replay, commit-first, commit-way, commit-old, committed-lock}
 use Rattle.laws.proofs.RollbackLaws.{RollbackWay, rollback-replay, rollback-first, RollbackLock, lock-free, lock-own, rollback-passed, rollback-way, rollback-old, rollback-new, rolledBack-stamped}
 use Rattle.laws.proofs.OneStepLaws.{stepCheck, StepPassed, step-passed, step-own}
-use Rattle.store.specs.declared.lookup.Found.the-variants.{Nothing, Is}
-use Rattle.store.specs.declared.lookup.Locked.{Locked}
-use Rattle.store.specs.declared.lookup.Locked.the-variants.{Nobody, By}
-use Rattle.store.specs.declared.lookup.KeyState.{KeyState}
+use Rattle.lookups.specs.declared.lookup.Found.the-variants.{Nothing, Is}
+use Rattle.lookups.specs.declared.lookup.Locked.{Locked}
+use Rattle.lookups.specs.declared.lookup.Locked.the-variants.{Nobody, By}
+use Rattle.lookups.specs.declared.lookup.KeyState.{KeyState}
 use Rattle.store.specs.declared.views.LockView.{LockView}
 use Rattle.store.specs.declared.views.RecordView.{RecordView}
 use Rattle.store.specs.declared.table.Store.{Store}
 use Rattle.store.specs.View.{rowIf, addIf, boxOf}
 use Rattle.store.specs.Made.{Built}
-use Rattle.store.specs.KeyStates.{lockIn, lockedBy, said, LockThere, IntentThere, KeyStateAt}
+use Rattle.store.specs.Views.{lockIn}
+use Rattle.lookups.specs.KeyStates.{lockedBy, said, LockThere, IntentThere, KeyStateAt}
 use Rattle.changes.specs.declared.change.Change.{Change}
 use Rattle.changes.specs.Changes.{entryFor, recordOver, Owned, LockAsks, RecordAsks, EndAsks, Leaves, changed, ChangeAsks}
 use Rattle.changes.proofs.KeptLaws.{row-short}

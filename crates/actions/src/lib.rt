@@ -6,7 +6,7 @@ ghost use Rattle.rules.specs.Commit.{applyCommit};
 ghost use Rattle.rules.specs.Rollback.{applyRollback};
 ghost use Rattle.rules.specs.OneStep.{applyStep};
 ghost use Rattle.store.specs.View.{boxOf};
-ghost use Rattle.store.specs.KeyStates.{KeyStateAt};
+ghost use Rattle.lookups.specs.KeyStates.{KeyStateAt};
 ghost use Rattle.changes.specs.Changes.{prewriteTermsFor, entryFor, changed, ChangeAsks};
 ghost use Rattle.actions.specs.EntryAsks.{commitTermsFor, PrewriteAsks, CommitAsks, RollbackAsks, StepAsks, Applied};
 ghost use Rattle.actions.specs.Actions.{pointOf, mostOf, applyOf, EntryAsks};
@@ -22,10 +22,10 @@ use changes::end_lock;
 use changes::kind_for;
 use changes::put_lock;
 use changes::put_record;
+use lookups::Found;
+use lookups::KeyState;
+use lookups::Locked;
 use rules::Kind;
-use store::Found;
-use store::KeyState;
-use store::Locked;
 use store::Store;
 
 // "Each entry not yet locked gets a lock .., and a Put's row is stored at this start"

@@ -12,7 +12,7 @@ use Rattle.seqs.proofs.Tables.{table-at, shown-length, shown-next}
 use Rattle.forms.specs.Bytes.{Bytes}
 use Rattle.forms.specs.Key.{Key}
 use Rattle.forms.specs.Batch.{Mutation, ascend}
-use Rattle.forms.specs.Places.{keyAt, EntryIn, noEntry, Listed}
+use Rattle.forms.specs.Places.{keyAt, noEntry, Listed}
 use Rattle.forms.specs.declared.batch.Entry.{Entry}
 use Rattle.rules.specs.declared.answers.Answer.{Answer}
 use Rattle.rules.specs.declared.answers.Answer.the-variants.{Accepted}
@@ -28,10 +28,10 @@ use Rattle.changes.specs.Packs.{Repacked}
 use Rattle.actions.specs.declared.action.Action.{Action}
 use Rattle.actions.specs.declared.action.Action.the-variants.{Prewrite, Commit, Rollback, Step}
 use Rattle.actions.specs.EntryAsks.{Applied}
-use Rattle.actions.specs.Actions.{mostOf, applyOf, EntryAsks}
+use Rattle.actions.specs.Actions.{mostOf, applyOf}
 use Rattle.calls.specs.Settled.{Untouched}
 use Rattle.calls.specs.Entries.{rowAt}
-use Rattle.calls.specs.Passes.{applyEntry, EntryReady, Ready, counted, ApplyAsks, AllApplied}
+use Rattle.calls.specs.Passes.{applyEntry, EntryReady, EntryAt, Ready, counted, ApplyAsks, AllApplied}
 use Rattle.calls.proofs.EntryPartLaws.{parts-are}
 
 -- a call's steps at one entry, by its key: its check and its change
@@ -168,9 +168,6 @@ module _ {d : Action} {primary : Key} {st : Store} {area s : Bytes} {n : ℕ} {e
     pub underway-small : i < 32
     underway-small = omega (arith, a .count-fits)
 
-    pub underway-in : EntryIn s (getD es i noEntry)
-    underway-in = table-at listed i more
-
     abbrev e : Entry
     e = getD es i noEntry
 
@@ -183,9 +180,9 @@ module _ {d : Action} {primary : Key} {st : Store} {area s : Bytes} {n : ℕ} {e
     room-here : cur .top + mostOf d + length rest * mostOf d ≤ 131072
     room-here = omega (arith, here .room, suc-mul (length rest) (mostOf d))
 
-    pub underway-asks : EntryAsks d primary cur area′ (keyAt s (getD es i noEntry)) (getD es i noEntry .put) (rowAt s (getD es i noEntry))
+    pub underway-at : EntryAt d primary cur area′ s (getD es i noEntry)
     unfolding Ready
-    underway-asks = here .ready .0 cur area′ (here .built) refl (omega (arith, room-here))
+    underway-at = record { built = here .built; inside = table-at listed i more; asks = here .ready .0 cur area′ (here .built) refl (omega (arith, room-here)) }
 
     pub underway-more : {r : Store} {area″ : Bytes} → Applied cur area′ (applyOf d primary (entryFor (keyAt s (getD es i noEntry)) (getD es i noEntry .put) (rowAt s (getD es i noEntry))) (boxOf cur area′)) (cur .top + mostOf d) r area″
         → Underway d primary st area s n es (i + 1) area″ r

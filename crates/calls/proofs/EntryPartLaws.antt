@@ -4,20 +4,17 @@ use Prim.Native.Nat.{ℕ, _+_, _-_, _≤_}
 use native.Mathlib.Omega.{arith}
 use native.Mathlib.Nat.{add-sub-cancel-left}
 use mathlib.Core.Path.{_≡_, refl, sym, ap, _∙_}
-use mathlib.Core.Bool.{Bool, true, false, not, _&&_}
+use mathlib.Core.Bool.{Bool, true, false, not}
 use mathlib.Core.Option.{Option, some}
-use lib.Dec.{eqb}
 use lib.ListN.{length}
-use borrow.Author.Tests.{eq-eqb, ne-eqb, not-true, not-false}
+use borrow.Author.Tests.{not-true, not-false}
 use Rattle.forms.specs.Bytes.{Bytes, bytesAt, eqBytes}
 use Rattle.forms.specs.Row.{Row, rowForm}
 use Rattle.forms.specs.Readers.{when}
 use Rattle.forms.specs.Batch.{Mutation}
 use Rattle.forms.specs.Places.{keyAt, mutationOf, EntryIn}
 use Rattle.forms.specs.declared.batch.Entry.{Entry}
-use Rattle.rules.specs.Calls.{kindOf, owns, rowArgument, rowStands}
-use Rattle.store.specs.declared.views.LockView.{LockView}
-use Rattle.store.specs.KeyStates.{lockIn}
+use Rattle.rules.specs.Calls.{kindOf, rowArgument, rowStands}
 use Rattle.forms.proofs.WriterLaws.{bytes-long}
 use Rattle.changes.specs.Changes.{RowFits}
 use Rattle.calls.specs.Entries.{onlyIf, rowAt}
@@ -36,13 +33,6 @@ module _ (put : Bool) (row : Row) where
   stands-put q e s = s ∙ sym (ap (λ (b : Bool). rowStands (when b row) (some q)) (not-false put e))
 
 -- ---- own locks
-
-module _ (area : Bytes) (l : LockView) (txn start : ℕ) where
-  pub owns-other : (l .txn ≡ txn → ⊥) → false ≡ owns txn start (lockIn area l)
-  owns-other n = sym (ap (λ (b : Bool). b && eqb (l .start) start) (ne-eqb _ _ n))
-
-  pub owns-txn : l .txn ≡ txn → eqb (l .start) start ≡ owns txn start (lockIn area l)
-  owns-txn e = sym (ap (λ (b : Bool). b && eqb (l .start) start) (eq-eqb _ _ e))
 
 -- ---- an entry's key and row, as the code cuts them
 

@@ -25,14 +25,15 @@ use Rattle.rules.specs.Commit.{withStart}
 use Rattle.laws.specs.Adds.{plus, lockLoad, ofLock, ofRow}
 use Rattle.laws.proofs.StepLaws.{and-left, and-right, not-true}
 use Rattle.laws.proofs.LoadLaws.{load-eq}
-use Rattle.store.specs.declared.lookup.Locked.{Locked}
-use Rattle.store.specs.declared.lookup.Locked.the-variants.{Nobody, By}
-use Rattle.store.specs.declared.lookup.KeyState.{KeyState}
+use Rattle.lookups.specs.declared.lookup.Locked.{Locked}
+use Rattle.lookups.specs.declared.lookup.Locked.the-variants.{Nobody, By}
+use Rattle.lookups.specs.declared.lookup.KeyState.{KeyState}
 use Rattle.store.specs.declared.table.Store.{Store}
 use Rattle.store.specs.declared.views.LockView.{LockView}
 use Rattle.store.specs.View.{rowIf, boxOf}
 use Rattle.store.specs.Made.{goodLine, goodRow, Built}
-use Rattle.store.specs.KeyStates.{lockIn, lockedBy, LockThere, IntentThere, KeyStateAt}
+use Rattle.store.specs.Views.{lockIn}
+use Rattle.lookups.specs.KeyStates.{lockedBy, LockThere, IntentThere, KeyStateAt}
 use Rattle.forms.proofs.WriterLaws.{bytes-long}
 use Rattle.store.proofs.MemberLaws.{lock-found, row-found}
 use Rattle.store.proofs.KeySoundLaws.{good-in}

@@ -9,7 +9,7 @@ use lib.Dec.{ltb}
 use Rattle.seqs.specs.Tables.{shown}
 use Rattle.forms.specs.Bytes.{Bytes}
 use Rattle.forms.specs.Key.{Key}
-use Rattle.forms.specs.Places.{keyAt, mutationOf, Listed}
+use Rattle.forms.specs.Places.{keyAt, mutationOf, EntryIn, Listed}
 use Rattle.forms.specs.declared.batch.Entry.{Entry}
 use Rattle.rules.specs.declared.answers.Answer.{Answer}
 use Rattle.rules.specs.declared.answers.Answer.the-variants.{Accepted}
@@ -23,7 +23,10 @@ use Rattle.laws.proofs.BatchLaws.{checkAll, applyAll}
 use Rattle.store.specs.declared.table.Store.{Store}
 use Rattle.store.specs.View.{boxOf}
 use Rattle.store.specs.Made.{Built, Made}
+use Rattle.changes.specs.declared.change.Change.{Change}
+use Rattle.changes.specs.Changes.{entryFor, changed, ChangeAsks}
 use Rattle.actions.specs.declared.action.Action.{Action}
+use Rattle.actions.specs.EntryAsks.{Applied}
 use Rattle.actions.specs.Actions.{mostOf, applyOf, EntryAsks}
 use Rattle.calls.specs.Entries.{rowAt}
 use Rattle.calls.specs.Settled.{isAccepted, Untouched}
@@ -59,6 +62,17 @@ applyEntry d primary s e = applyOf d primary (mutationOf s e)
 -- a store that shows the box, with place for the entry's bytes, has what its change asks
 abbrev pub EntryReady : Action → Key → Bytes → Entry → Box → Type 0
 EntryReady d primary s e b = (st : Store) (area : Bytes) → Built st area → boxOf st area ≡ b → st .top + mostOf d ≤ 131072 → EntryAsks d primary st area (keyAt s e) (e .put) (rowAt s e)
+
+-- so it is of the store as it stands, for an entry of the batch
+pub record EntryAt (d : Action) (primary : Key) (st : Store) (area s : Bytes) (e : Entry) : Type 0 where
+  pub built : Built st area
+  pub inside : EntryIn s e
+  pub asks : EntryAsks d primary st area (keyAt s e) (e .put) (rowAt s e)
+
+-- the change in numbers, and what making it leaves
+abbrev pub EntryChanged : Action → Key → Store → Bytes → Bytes → Entry → Change → Bytes → Type 0
+EntryChanged d primary st area s e r area′ =
+    (ChangeAsks st r) × (Applied st area (applyOf d primary (entryFor (keyAt s e) (e .put) (rowAt s e)) (boxOf st area)) (st .top + mostOf d) (changed st r) area′)
 
 -- so it is for each entry in its turn
 unfoldable pub Ready : Action → Key → Bytes → List Entry → Box → Type 0

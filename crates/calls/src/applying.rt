@@ -1,6 +1,6 @@
 // The applying pass of every changing call: one entry after the other, each the definition's own change. The loop changes the table where it
 // stands, since a function that took and gave back a store would copy it twice for each entry.
-ghost use Rattle.calls.specs.Passes.{ApplyAsks, AllApplied};
+ghost use Rattle.calls.specs.Passes.{EntryAt, EntryChanged, ApplyAsks, AllApplied};
 use crate::parts::key_of;
 use crate::parts::row_of;
 use actions::Action;
@@ -10,9 +10,31 @@ use actions::point_of;
 use changes::Change;
 use changes::repack;
 use forms::Entry;
+use lookups::look_up;
 use store::AREA;
 use store::Store;
-use store::look_up;
+
+// The change for one entry, by what stands at its key; its bytes are written. It takes the store and gives numbers back, so the table is
+// copied for the lookup alone.
+fn change_of(
+    store: Store,
+    area: &mut [u8],
+    action: Action,
+    primary: &[u8],
+    batch: &[u8],
+    e: Entry,
+) -> Change
+    requires { ⌜ EntryAt action (now primary) store (now area) (now batch) e ⌝ }
+    ensures { λ r. ⌜ EntryChanged action (now (primary .entry)) store (now (area .entry)) (now (batch .entry)) e r (now (area .exit)) ⌝ }
+{
+    let point = point_of(action);
+    let key = key_of(batch, e);
+    let row = row_of(batch, e);
+    let lines = store.lines;
+    let load = store.load;
+    let seen = look_up(lines, load, store.top, area, key, point.start, point.stamp);
+    apply_entry(store, area, seen, action, primary, key, e.put, row)
+}
 
 // The area is packed anew where the entries' bytes would pass its end. A slot that comes moves those from its place on by one; where one
 // goes for it, those between the two places close up.
@@ -28,7 +50,6 @@ pub fn apply_all(
     requires { ⌜ ApplyAsks action (now primary) store (now area) (now batch) n list ⌝ }
     ensures { λ r. ⌜ AllApplied action (now (primary .entry)) store (now (area .entry)) (now (batch .entry)) n list r (now (area .exit)) ⌝ }
 {
-    let point = point_of(action);
     let need = n * most_of(action);
     let mut l = store;
     while AREA - l.top < need {
@@ -37,12 +58,7 @@ pub fn apply_all(
     let mut i: usize = 0;
     while i < n {
         let e = list[i];
-        let key = key_of(batch, e);
-        let row = row_of(batch, e);
-        let lines = l.lines;
-        let old = l.load;
-        let seen = look_up(lines, old, l.top, area, key, point.start, point.stamp);
-        let c = apply_entry(l, area, seen, action, primary, key, e.put, row);
+        let c = change_of(l, area, action, primary, batch, e);
         i += 1;
         match c {
             Change::Stays => {}
@@ -50,7 +66,7 @@ pub fn apply_all(
                 let s = x.slot;
                 let load = x.load;
                 let to = x.to;
-                let mut k = old.lines;
+                let mut k = l.load.lines;
                 while to < k {
                     let t = l.lines[k - 1];
                     l.lines[k] = t;

@@ -17,7 +17,6 @@ pub use parts::key_of;
 pub use parts::only_if;
 pub use parts::row_of;
 pub use steps::accepted;
-pub use steps::owns;
 pub use steps::row_argument;
 pub use steps::row_stands;
 pub use steps::same_kind;

@@ -3,15 +3,13 @@ ghost use mathlib.Core.Path.{_≡_};
 ghost use mathlib.Core.Option.{some};
 ghost use Prim.Native.Nat.{_+_, _≤_};
 ghost use lib.ListN.{length};
-ghost use Rattle.forms.specs.Bytes.{Bytes, bytesAt};
+ghost use Rattle.forms.specs.Bytes.{bytesAt};
 ghost use Rattle.forms.specs.Readers.{when};
 ghost use Rattle.rules.specs.Box.{eqKind};
-ghost use Rattle.rules.specs.Calls.{owns, zeroStep, rowArgument, rowStands};
-ghost use Rattle.store.specs.KeyStates.{lockIn};
+ghost use Rattle.rules.specs.Calls.{zeroStep, rowArgument, rowStands};
 ghost use Rattle.calls.specs.Settled.{isAccepted};
 use rules::Answer;
 use rules::Kind;
-use store::LockView;
 
 // "zero transaction, start": 3
 pub fn zero_step(txn: u64, start: u64) -> Answer
@@ -34,16 +32,6 @@ pub fn accepted(a: Answer) -> bool
         Answer::No(_) => false,
         Answer::Held(_) => false,
     }
-}
-
-// Own means that both transaction and start are the call's.
-pub fn owns(l: LockView, txn: u64, start: u64) -> bool
-    ensures { λ r. ⌜ ((area : Bytes) → r ≡ owns txn start (lockIn area l)) ⌝ }
-{
-    if l.txn != txn {
-        return false;
-    }
-    l.start == start
 }
 
 pub fn same_kind(a: Kind, b: Kind) -> bool

@@ -10,8 +10,8 @@ use Rattle.forms.proofs.WriterLaws.{laid-as, laid-then}
 use Rattle.rules.specs.Box.{startOf}
 use Rattle.rules.specs.Written.{lockBytes}
 use Rattle.rules.specs.Capture.{defaultBytes, recordBytes}
-use Rattle.rules.proofs.WriterLaws as writers
-use Rattle.rules.proofs.WriterLaws.{lock-long, record-long}
+use Rattle.rules.proofs.EntryWriterLaws as writers
+use Rattle.rules.proofs.EntryWriterLaws.{lock-long, record-long}
 use Rattle.store.specs.declared.table.Line.{Line}
 use Rattle.store.specs.declared.table.Line.the-variants.{Standing, Finished}
 use Rattle.store.specs.declared.table.LockSlot.{LockSlot}
@@ -20,11 +20,13 @@ use Rattle.store.specs.declared.table.Slot.{Slot}
 use Rattle.store.specs.declared.views.LineView.{LineView}
 use Rattle.store.specs.declared.views.LineView.the-variants as view
 use Rattle.store.specs.View.{eightAt, placeOf, rowLen, lineIn, past, keyOf, lineOf, rowIn}
-use Rattle.store.specs.KeyStates.{viewIn, viewOf, lockIn, recordIn}
+use Rattle.store.specs.Views.{viewIn, viewOf, lockIn, recordIn}
+use Rattle.store.specs.Stretches.{StretchAsks}
+use Rattle.store.proofs.StretchLaws.{stretch, stretch-long, stretch-laid}
 use Rattle.forms.proofs.WriterLaws.{bytes-long}
 use Rattle.captures.specs.Lines.{lineBytes, entryBytes, rowAt, ShortLine, SlotIn}
-use Rattle.captures.specs.Asks.{LockAsks, EntryAsks}
-use Rattle.captures.proofs.CaptureLineLaws.{stretch, key-in, key-long, key-some, row-in, row-long, row-short, start-is}
+use Rattle.captures.specs.Asks.{EntryAsks}
+use Rattle.captures.proofs.CaptureLineLaws.{key-in, key-long, key-some, row-in, row-long, row-short, start-is}
 
 -- ---- how long they are
 
@@ -61,14 +63,6 @@ module _ {area : Bytes} {s : Slot} (q : SlotIn area s) where
 
 -- ---- a stretch of the area, as the code cuts it out
 
-module _ (area : Bytes) (from len : ℕ) (h : from + len ≤ length area) where
-  stretch-long : length (take (from + len - from) (drop from area)) ≡ len
-  stretch-long = ap length (stretch area from len) ∙ bytes-long area from len h
-
-  pub stretch-laid : (f : Bytes → Bytes) (k : ℕ) {at r : ℕ} {s t : Bytes} → Laid at (length (take (from + len - from) (drop from area)) + k) (f (take (from + len - from) (drop from area))) s r t → Laid at (len + k) (f (bytesAt area from len)) s r t
-  stretch-laid f k {at} {r} {s} {t} v =
-      subst (λ (b : Bytes). Laid at (len + k) (f b) s r t) (stretch area from len) (subst (λ (n : ℕ). Laid at (n + k) (f (take (from + len - from) (drop from area))) s r t) stretch-long v)
-
 pub key-laid : (area : Bytes) (x : Slot) → placeOf x + x .len ≤ length area → {p : ℕ} → p ≡ placeOf x → {at r : ℕ} {s t : Bytes}
     → Laid at (length (take (p + x .len - p) (drop p area)) + 1) (pieceBytes (take (p + x .len - p) (drop p area))) s r t → Laid at (x .len + 1) (pieceBytes (keyOf area x)) s r t
 key-laid area x h {p} e {at} {r} {s} {t} v =
@@ -86,7 +80,7 @@ told-bytes area at (Finished w) = refl
 
 -- what the writer of a lock or a record asks
 abbrev ToldAsks : Bytes → ℕ → Bytes → LineView → Type 0
-ToldAsks area at out (view.Standing i) = LockAsks area i at out
+ToldAsks area at out (view.Standing i) = StretchAsks area (i .at) (i .len) 26 at out
 ToldAsks area at out (view.Finished w) = at + 25 ≤ length out
 
 module _ {area : Bytes} {s : Slot} {at : ℕ} {out : Bytes} (q : EntryAsks area s (entryBytes (lineOf area s)) at out) where

@@ -15,24 +15,24 @@ use Rattle.forms.specs.Key.{Key}
 use Rattle.forms.specs.Numbers.{digits}
 use Rattle.forms.specs.Writers.{Laid}
 use Rattle.forms.proofs.NumberLaws.{length-digits}
-use Rattle.forms.proofs.WriterLaws.{laid-as, laid-then, laid-lent, rest-long}
+use Rattle.forms.proofs.WriterLaws.{laid-front, laid-as, laid-then, laid-lent, rest-long}
 use Rattle.rules.specs.declared.answers.Answer.the-variants.{Accepted, No}
 use Rattle.rules.specs.Box as box
-use Rattle.rules.specs.Read.{keepIf}
+use Rattle.rules.specs.Read.{keepIf, those}
 use Rattle.rules.specs.Page.{locksOf}
 use Rattle.rules.specs.Written.{lockBytes, keyLockBytes, allBytes, writeIf, WroteAs}
 use Rattle.rules.specs.Restore.{ofTable}
-use Rattle.rules.specs.Capture.{selected, lineOfTable, partOf, writesOf, entriesOf, defaultBytes, recordBytes, writeBytes, sectionBytes, imageBytes, imageOf, captureIf, captureImage}
+use Rattle.rules.specs.Capture.{lineOfTable, partOf, writesOf, entriesOf, defaultBytes, recordBytes, writeBytes, sectionBytes, imageBytes, imageOf, captureIf, captureImage}
 use Rattle.laws.proofs.StepLaws.{answered}
 use Rattle.store.specs.declared.table.Slot.{Slot}
 use Rattle.store.specs.declared.table.Store.{Store}
 use Rattle.store.specs.View.{lineOf, boxOf}
 use Rattle.rules.specs.declared.written.Wrote.{Wrote}
-use Rattle.captures.specs.declared.lines_of.Section.the-variants.{Locks, Writes}
+use Rattle.captures.specs.declared.slots.Section.the-variants.{Locks, Writes}
 use Rattle.captures.specs.declared.sizes.Sizes.{Sizes}
-use Rattle.captures.specs.Lines.{inSection, belongs, entryBytes, linesIn, rowsIn, entriesIn}
+use Rattle.captures.specs.Lines.{inSection, belongs, entryBytes, linesIn, rowsIn, linesBytes, entriesIn}
 use Rattle.captures.specs.Sizes.{SizesAre}
-use Rattle.captures.specs.Asks.{SectionAsks, ImageAsks}
+use Rattle.captures.specs.Asks.{SectionAsks, LinesAsk, ImageAsks}
 
 -- ---- the lines of a section are its entries
 
@@ -43,13 +43,13 @@ module _ (t : ℕ) where
   abbrev SameLocks : List box.KeyLine → List box.KeyLine → Type 0
   SameLocks xs es = (allBytes entryBytes xs ≡ allBytes keyLockBytes (locksOf es)) × (length xs ≡ length (locksOf es))
 
-  locks-are : (es : List box.KeyLine) → SameLocks (selected (belongs Locks t) es) (selected (lineOfTable t) es)
-  unfolding selected keepIf allBytes entryBytes keyLockBytes locksOf
+  locks-are : (es : List box.KeyLine) → SameLocks (those (belongs Locks t) es) (those (lineOfTable t) es)
+  unfolding those keepIf allBytes entryBytes keyLockBytes locksOf
   locks-are [] = (refl, refl)
   locks-are (e ∷ es) = go (e .key) (e .line) (ofTable t (e .key)) (locks-are es)
     where
-      go : (k : Key) (x : box.Line) (b : Bool) → SameLocks (selected (belongs Locks t) es) (selected (lineOfTable t) es)
-          → SameLocks (keepIf (inSection Locks x && b) (lineAt k x) (selected (belongs Locks t) es)) (keepIf b (lineAt k x) (selected (lineOfTable t) es))
+      go : (k : Key) (x : box.Line) (b : Bool) → SameLocks (those (belongs Locks t) es) (those (lineOfTable t) es)
+          → SameLocks (keepIf (inSection Locks x && b) (lineAt k x) (those (belongs Locks t) es)) (keepIf b (lineAt k x) (those (lineOfTable t) es))
       go k (box.Standing l) true ih = (ap (λ (c : Bytes). (pieceBytes k ++ lockBytes l) ++ c) (ih .0), ap suc (ih .1))
       go k (box.Standing l) false ih = ih
       go k (box.Finished w) true ih = ih
@@ -58,13 +58,13 @@ module _ (t : ℕ) where
   abbrev SameWrites : List box.KeyLine → List box.KeyLine → Type 0
   SameWrites xs es = (allBytes entryBytes xs ≡ allBytes writeBytes (writesOf es)) × (length xs ≡ length (writesOf es))
 
-  writes-are : (es : List box.KeyLine) → SameWrites (selected (belongs Writes t) es) (selected (lineOfTable t) es)
-  unfolding selected keepIf allBytes entryBytes writeBytes writesOf
+  writes-are : (es : List box.KeyLine) → SameWrites (those (belongs Writes t) es) (those (lineOfTable t) es)
+  unfolding those keepIf allBytes entryBytes writeBytes writesOf
   writes-are [] = (refl, refl)
   writes-are (e ∷ es) = go (e .key) (e .line) (ofTable t (e .key)) (writes-are es)
     where
-      go : (k : Key) (x : box.Line) (b : Bool) → SameWrites (selected (belongs Writes t) es) (selected (lineOfTable t) es)
-          → SameWrites (keepIf (inSection Writes x && b) (lineAt k x) (selected (belongs Writes t) es)) (keepIf b (lineAt k x) (selected (lineOfTable t) es))
+      go : (k : Key) (x : box.Line) (b : Bool) → SameWrites (those (belongs Writes t) es) (those (lineOfTable t) es)
+          → SameWrites (keepIf (inSection Writes x && b) (lineAt k x) (those (belongs Writes t) es)) (keepIf b (lineAt k x) (those (lineOfTable t) es))
       go k (box.Standing l) true ih = ih
       go k (box.Standing l) false ih = ih
       go k (box.Finished w) true ih = (ap (λ (c : Bytes). (pieceBytes k ++ recordBytes w) ++ c) (ih .0), ap suc (ih .1))
@@ -124,47 +124,19 @@ module _ {lines : List Slot} {n : ℕ} {area : Bytes} {t : ℕ} {z : Sizes} {s :
     rows-laid : Laid b (length (allBytes defaultBytes (rowsIn lines n area t))) (allBytes defaultBytes (rowsIn lines n area t)) v (b + k) (putMid b (length v - b) v part)
     rows-laid = laid-lent v b (omega (arith, two .within, two .length-is)) three
 
-    pub locks-asked : SectionAsks lines n area (allBytes entryBytes (linesIn lines n area t Locks)) (take (length w - d) (drop d w))
-    locks-asked = record { lined = q .lined; room = omega (arith, q .room, q .sizes .bytes, one .next, one .length-is, two .next, two .length-is, rows-laid .next, rows-laid .length-is, four .next, four .length-is, rest-long w d) }
+    pub lines-asked : LinesAsk lines n area t (z .held) (z .writes) (take (length w - d) (drop d w))
+    lines-asked = record {
+      lined = q .lined;
+      place = q .sizes .held;
+      room = omega (arith, q .room, q .sizes .held, q .sizes .bytes, one .next, one .length-is, two .next, two .length-is, rows-laid .next, rows-laid .length-is, four .next, four .length-is, rest-long w d);
+    }
 
-    module _ {k2 f : ℕ} {part2 x : Bytes} (five : Laid 0 (length (allBytes entryBytes (linesIn lines n area t Locks))) (allBytes entryBytes (linesIn lines n area t Locks)) (take (length w - d) (drop d w)) k2 part2)
-        (six : Laid (d + k2) 2 (digits 2 (z .writes)) (putMid d (length w - d) w part2) f x) where
-      locks-laid : Laid d (length (allBytes entryBytes (linesIn lines n area t Locks))) (allBytes entryBytes (linesIn lines n area t Locks)) w (d + k2) (putMid d (length w - d) w part2)
-      locks-laid = laid-lent w d (omega (arith, four .within, four .length-is)) five
+    module _ {k2 : ℕ} {part2 : Bytes} (five : Laid 0 (length (linesBytes lines n area t (z .writes))) (linesBytes lines n area t (z .writes)) (take (length w - d) (drop d w)) k2 part2) where
+      pub image-laid : Laid 0 (length (imageBytes (entriesIn lines n area t))) (imageBytes (entriesIn lines n area t)) s (d + k2) (putMid d (length w - d) w part2)
+      image-laid = laid-as (laid-then one (laid-then two (laid-then rows-laid (laid-then four (laid-lent w d (omega (arith, four .within, four .length-is)) five))))) (flat-is (q .sizes))
 
-      pub writes-asked : SectionAsks lines n area (allBytes entryBytes (linesIn lines n area t Writes)) (take (length x - f) (drop f x))
-      writes-asked = record {
-        lined = q .lined;
-        room =
-            omega (
-              arith,
-              q .room,
-              q .sizes .bytes,
-              one .next,
-              one .length-is,
-              two .next,
-              two .length-is,
-              rows-laid .next,
-              rows-laid .length-is,
-              four .next,
-              four .length-is,
-              locks-laid .next,
-              locks-laid .length-is,
-              six .next,
-              six .length-is,
-              rest-long x f,
-            );
-      }
-
-      module _ {k3 : ℕ} {part3 : Bytes} (seven : Laid 0 (length (allBytes entryBytes (linesIn lines n area t Writes))) (allBytes entryBytes (linesIn lines n area t Writes)) (take (length x - f) (drop f x)) k3 part3) where
-        writes-laid : Laid f (length (allBytes entryBytes (linesIn lines n area t Writes))) (allBytes entryBytes (linesIn lines n area t Writes)) x (f + k3) (putMid f (length x - f) x part3)
-        writes-laid = laid-lent x f (omega (arith, six .within, six .length-is)) seven
-
-        pub image-laid : Laid 0 (length (imageBytes (entriesIn lines n area t))) (imageBytes (entriesIn lines n area t)) s (f + k3) (putMid f (length x - f) x part3)
-        image-laid = laid-as (laid-then one (laid-then two (laid-then rows-laid (laid-then four (laid-then locks-laid (laid-then six writes-laid)))))) (flat-is (q .sizes))
-
-        pub image-fits : f + k3 ≤ 2097162
-        image-fits = omega (arith, image-laid .next, image-long (q .sizes), q .sizes .small)
+      pub image-fits : d + k2 ≤ 2097162
+      image-fits = omega (arith, image-laid .next, image-long (q .sizes), q .sizes .small)
 
 -- ---- the answer
 
@@ -193,6 +165,11 @@ module _ (st : Store) (area : Bytes) (t : ℕ) (out : Bytes) where
     captured-short l p =
         by false (lt-leb (length (imageOf t (boxOf st area))) (length out) (omega (arith, length-is)))
         (record { answer-is = answered (ap (λ (x : Wrote). x .answer) p); count-is = ap (λ (x : Wrote). x .count) p; out-is = refl })
+
+    -- what is written is the image
+    pub put-front : {m : ℕ} {out′ : Bytes} → Laid 0 (length (imageBytes (entriesIn (st .lines) (st .load .lines) area t))) (imageBytes (entriesIn (st .lines) (st .load .lines) area t)) out m out′ → take m out′ ≡ imageOf t (boxOf st area)
+    unfolding imageOf
+    put-front x = laid-front x
 
     pub captured-put : z .bytes + 10 ≤ length out → {m : ℕ} {out′ : Bytes} → Laid 0 (length (imageBytes (entriesIn (st .lines) (st .load .lines) area t))) (imageBytes (entriesIn (st .lines) (st .load .lines) area t)) out m out′
         → WroteAs (captureImage t (boxOf st area) out) (record { answer = Accepted; count = m }) out′

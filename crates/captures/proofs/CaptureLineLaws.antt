@@ -1,7 +1,6 @@
 -- Which lines an image takes, by what the code tests; and how long the pieces of a slot are.
 -- Assumes nothing.
 use Prim.Native.Nat.{ℕ, _+_, _-_, _≤_}
-use native.Mathlib.Nat.{add-sub-cancel-left}
 use native.Mathlib.Omega.{arith}
 use mathlib.Core.Path.{_≡_, refl, sym, ap, ap₂, _∙_}
 use mathlib.Core.Bool.{Bool, true, false, _&&_, not}
@@ -29,8 +28,9 @@ use Rattle.store.specs.declared.table.Slot.{Slot}
 use Rattle.store.specs.View.{eightAt, placeOf, rowLen, lineIn, keyOf, lineOf, rowIn}
 use Rattle.forms.proofs.WriterLaws.{bytes-long}
 use Rattle.store.proofs.ViewLaws.{past-numbers, past-row}
-use Rattle.captures.specs.declared.lines_of.Section.{Section}
-use Rattle.captures.specs.declared.lines_of.Section.the-variants.{Locks, Writes}
+use Rattle.store.proofs.StretchLaws.{stretch}
+use Rattle.captures.specs.declared.slots.Section.{Section}
+use Rattle.captures.specs.declared.slots.Section.the-variants.{Locks, Writes}
 use Rattle.captures.specs.Lines.{belongs, isPut, ifSo, putStart, ShortLine, SlotIn}
 
 pub form-long : (k : Bytes) → keyForm k ≡ true → (5 ≤ length k) × (length k ≤ 48)
@@ -119,19 +119,12 @@ kind-finished s e area = rw e
 
 -- ---- two keys
 
--- a part of the area as the code lends it
-pub stretch : (area : Bytes) (p len : ℕ) → take (p + len - p) (drop p area) ≡ bytesAt area p len
-stretch area p len = ap (λ (n : ℕ). take n (drop p area)) (add-sub-cancel-left p len)
-
 pub both-same : (area : Bytes) (a b : Slot) {there r : Bool} {p q : ℕ} → p ≡ placeOf a → q ≡ placeOf b → there ≡ true
     → r ≡ eqBytes (take (p + a .len - p) (drop p area)) (take (q + b .len - q) (drop q area)) → r ≡ there && eqBytes (keyOf area a) (keyOf area b)
 both-same area a b {p = p} {q = q} e f g h =
     rw g (h ∙ ap₂ eqBytes (stretch area p (a .len) ∙ ap (λ (k : ℕ). bytesAt area k (a .len)) e) (stretch area q (b .len) ∙ ap (λ (k : ℕ). bytesAt area k (b .len)) f))
 
 -- ---- what counts only where a test holds
-
-pub if-is : {r : ℕ} (n m : ℕ) (b d : Bool) → r ≡ ifSo b n → b ≡ d → n ≡ m → r ≡ ifSo d m
-if-is n m b d p q r = rw (sym q, sym r) p
 
 pub if-few : {r : ℕ} (n : ℕ) (b : Bool) → r ≡ ifSo b n → r ≤ n
 if-few n true e = omega arith

@@ -9,10 +9,9 @@ use lib.ListN.{length, length-append}
 use Rattle.forms.specs.Bytes.{Bytes}
 use Rattle.forms.specs.Writers.{Laid}
 use Rattle.forms.proofs.WriterLaws.{laid-as, laid-then, laid-none}
-use Rattle.rules.specs.Read.{keepIf}
+use Rattle.rules.specs.Read.{keepIf, those}
 use Rattle.rules.specs.Room.{sumOf}
 use Rattle.rules.specs.Written.{allBytes}
-use Rattle.rules.specs.Capture.{selected}
 use Rattle.laws.proofs.StepLaws.{by-test}
 use Rattle.captures.specs.Lines.{ifSo}
 
@@ -45,26 +44,18 @@ going-length v = (v .laid .length-is, v .laid .within)
 -- ---- those of which a test holds
 
 module _ {A : Type 0} (p : A → Bool) where
-  pub selected-one : (x : A) (xs : List A) → p x ≡ true → selected p (x ∷ xs) ≡ x ∷ selected p xs
-  unfolding selected keepIf
-  selected-one x xs h = rw h
-
-  pub selected-other : (x : A) (xs : List A) → p x ≡ false → selected p (x ∷ xs) ≡ selected p xs
-  unfolding selected keepIf
-  selected-other x xs h = rw h
-
   -- how many they are, and how many bytes they have
-  pub selected-count : (xs : List A) → sumOf (λ (x : A). ifSo (p x) 1) xs ≡ length (selected p xs)
-  unfolding selected keepIf sumOf
-  selected-count [] = refl
-  selected-count (x ∷ xs) = by-test (λ t. ifSo t 1 + sumOf (λ (x : A). ifSo (p x) 1) xs ≡ length (keepIf t x (selected p xs))) (p x) (λ e. omega (arith, selected-count xs)) (λ e. omega (arith, selected-count xs))
+  pub those-count : (xs : List A) → sumOf (λ (x : A). ifSo (p x) 1) xs ≡ length (those p xs)
+  unfolding those keepIf sumOf
+  those-count [] = refl
+  those-count (x ∷ xs) = by-test (λ t. ifSo t 1 + sumOf (λ (x : A). ifSo (p x) 1) xs ≡ length (keepIf t x (those p xs))) (p x) (λ e. omega (arith, those-count xs)) (λ e. omega (arith, those-count xs))
 
-  pub selected-bytes : (f : A → Bytes) (xs : List A) → sumOf (λ (x : A). ifSo (p x) (length (f x))) xs ≡ length (allBytes f (selected p xs))
-  unfolding selected keepIf sumOf allBytes
-  selected-bytes f [] = refl
-  selected-bytes f (x ∷ xs) =
-      by-test (λ t. ifSo t (length (f x)) + sumOf (λ (x : A). ifSo (p x) (length (f x))) xs ≡ length (allBytes f (keepIf t x (selected p xs)))) (p x)
-      (λ e. omega (arith, selected-bytes f xs, length-append (f x) (allBytes f (selected p xs)))) (λ e. omega (arith, selected-bytes f xs))
+  pub those-bytes : (f : A → Bytes) (xs : List A) → sumOf (λ (x : A). ifSo (p x) (length (f x))) xs ≡ length (allBytes f (those p xs))
+  unfolding those keepIf sumOf allBytes
+  those-bytes f [] = refl
+  those-bytes f (x ∷ xs) =
+      by-test (λ t. ifSo t (length (f x)) + sumOf (λ (x : A). ifSo (p x) (length (f x))) xs ≡ length (allBytes f (keepIf t x (those p xs)))) (p x)
+      (λ e. omega (arith, those-bytes f xs, length-append (f x) (allBytes f (those p xs)))) (λ e. omega (arith, those-bytes f xs))
 
 pub sum-map : {A B : Type 0} (g : A → B) (f : B → ℕ) (xs : List A) → sumOf f (map g xs) ≡ sumOf (λ (x : A). f (g x)) xs
 unfolding sumOf

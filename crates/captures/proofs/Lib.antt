@@ -12,4 +12,4 @@ pub mod LeastLaws
 pub mod MadeLaws
 pub mod CaptureImageLaws
 pub mod MadeStoredLaws
-pub mod Worked
+pub mod WorkedImages

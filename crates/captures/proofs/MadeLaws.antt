@@ -29,8 +29,8 @@ use Rattle.store.specs.declared.table.Slot.{Slot}
 use Rattle.store.specs.declared.table.Store.{Store}
 use Rattle.store.specs.View.{placeOf, rowLen, lineIn, past, keyOf, lineOf, rowIn, rowIf, boxOf, noSlot}
 use Rattle.store.specs.Made.{soundLine, goodLine, LeanRow, Built}
-use Rattle.store.specs.KeyStates.{RowThere}
-use Rattle.store.proofs.LookUpLaws.{slot-in, row-there}
+use Rattle.store.specs.Views.{RowThere}
+use Rattle.store.proofs.BuiltLaws.{slot-in, row-there}
 use Rattle.store.proofs.KeySoundLaws.{row-form}
 use Rattle.forms.proofs.WriterLaws.{bytes-long}
 use Rattle.captures.specs.Lines.{ShortLine, SlotIn, Lined}

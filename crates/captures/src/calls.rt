@@ -1,9 +1,8 @@
 // "From a store and a table number, write that table's image .. Refusals: a zero table number 3, then a short buffer 12."
 ghost use mathlib.Core.Path.{_≡_};
-ghost use Rattle.rules.specs.Capture.{captureImage};
 ghost use Rattle.store.specs.View.{boxOf};
 ghost use Rattle.store.specs.Made.{Made};
-ghost use Rattle.rules.specs.Written.{WroteAs};
+ghost use Rattle.captures.specs.Promise.{ImageWritten};
 use crate::sections::put_image;
 use crate::sizes::sizes_of;
 use rules::Answer;
@@ -22,7 +21,7 @@ fn refusal(number: u8) -> Wrote
 
 pub fn capture_snapshot_table(store: Store, area: &[u8; AREA], table: u32, out: &mut [u8]) -> Wrote
     requires { ⌜ Made store (now area) ⌝ }
-    ensures { λ r. ⌜ WroteAs (captureImage table (boxOf store (now (area .entry))) (now (out .entry))) r (now (out .exit)) ⌝ }
+    ensures { λ r. ⌜ ImageWritten table (boxOf store (now (area .entry))) (now (out .entry)) r (now (out .exit)) ⌝ }
 {
     if table == 0 {
         return refusal(3);

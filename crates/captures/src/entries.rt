@@ -3,21 +3,18 @@ ghost use Prim.Native.Nat.{_+_};
 ghost use lib.ListN.{length};
 ghost use Rattle.forms.specs.Bytes.{pieceBytes};
 ghost use Rattle.forms.specs.Writers.{Laid};
-ghost use Rattle.rules.specs.Written.{lockBytes};
 ghost use Rattle.rules.specs.Capture.{defaultBytes};
 ghost use Rattle.store.specs.View.{keyOf, lineOf};
-ghost use Rattle.store.specs.KeyStates.{lockIn};
 ghost use Rattle.captures.specs.Lines.{rowAt, entryBytes};
-ghost use Rattle.captures.specs.Asks.{KeyAsks, LockAsks, EntryAsks};
-use crate::lines_of::row_len;
+ghost use Rattle.captures.specs.Asks.{KeyAsks, EntryAsks};
+use crate::slots::row_len;
 use forms::put_piece;
 use rules::Record;
-use rules::put_lock;
 use rules::put_record;
 use store::LineView;
-use store::LockView;
 use store::Slot;
 use store::place_of;
+use store::put_intent;
 use store::view_of;
 use store::views::eight_at;
 
@@ -29,17 +26,6 @@ fn put_key(out: &mut [u8], at: usize, area: &[u8], s: Slot) -> usize
     let p = place_of(s);
     let e = p + s.len as usize;
     put_piece(out, at, &area[p..e])
-}
-
-// The lock of an intent, whose primary is a stretch of the area.
-fn put_intent(out: &mut [u8], at: usize, area: &[u8], l: LockView) -> usize
-    requires { ⌜ LockAsks (now area) l at (now out) ⌝ }
-    ensures { λ r. ⌜ Laid at (l .len + 26) (lockBytes (lockIn (now (area .entry)) l)) (now (out .entry)) r (now (out .exit)) ⌝ }
-{
-    let from = l.at;
-    let e = from + l.len;
-    let kind = l.kind;
-    put_lock(out, at, l.txn, &area[from..e], l.start, l.ttl, kind)
 }
 
 // A line's key, and its lock or its record.

@@ -1,15 +1,11 @@
 // How many entries each section of an image has, and how many bytes its entries take: known before the first byte is written.
-ghost use mathlib.Core.Path.{_≡_};
-ghost use lib.ListN.{length};
-ghost use Rattle.rules.specs.Capture.{defaultBytes};
-ghost use Rattle.store.specs.View.{lineOf};
-ghost use Rattle.captures.specs.Lines.{SlotIn, Lined, ifSo, rowAt, entryBytes};
-ghost use Rattle.captures.specs.Sizes.{CountAsks, LineCounted, SizesAre};
-use crate::lines_of::Section;
-use crate::lines_of::belongs_to;
-use crate::lines_of::is_put;
-use crate::lines_of::of_table;
-use crate::lines_of::row_len;
+ghost use Rattle.forms.specs.Bytes.{Bytes};
+ghost use Rattle.captures.specs.Lines.{SlotIn, Lined};
+ghost use Rattle.captures.specs.Sizes.{Small, LineAdded, RowAsks, RowAdded, CountAsks, LineCounted, SizesAre};
+use crate::slots::kind_of;
+use crate::slots::of_table;
+use crate::slots::row_len;
+use rules::Kind;
 use store::Line;
 use store::Slot;
 
@@ -17,38 +13,56 @@ pub struct Sizes {
     pub defaults: usize,
     pub locks: usize,
     pub writes: usize,
-    // of all entries
+    // of the locks' entries, and of all
+    pub held: usize,
     pub bytes: usize,
 }
 
-// Of a line's entry.
-fn line_size(s: Slot, area: &[u8]) -> usize
-    requires { ⌜ SlotIn (now area) s ⌝ }
-    ensures { λ r. ⌜ r ≡ length (entryBytes (lineOf (now (area .entry)) s)) ⌝ }
+// With the entry of a lock or of a write.
+fn with_line(z: Sizes, s: Slot) -> Sizes
+    requires { ⌜ Small 4194304 z ⌝ }
+    ensures { λ r. ⌜ ((area : Bytes) → SlotIn area s → LineAdded area z s r) ⌝ }
 {
     let key = s.len as usize;
     let line = s.line;
     match line {
-        Line::Standing(l) => key + 1 + l.plen as usize + 26,
-        Line::Finished(_) => key + 26,
+        Line::Standing(l) => {
+            let size = key + l.plen as usize + 27;
+            Sizes {
+                defaults: z.defaults,
+                locks: z.locks + 1,
+                writes: z.writes,
+                held: z.held + size,
+                bytes: z.bytes + size,
+            }
+        }
+        Line::Finished(_) => Sizes {
+            defaults: z.defaults,
+            locks: z.locks,
+            writes: z.writes + 1,
+            held: z.held,
+            bytes: z.bytes + key + 26,
+        },
     }
 }
 
-// Of the default that a Put line carries.
-fn row_size(s: Slot, area: &[u8]) -> usize
-    requires { ⌜ SlotIn (now area) s ⌝ }
-    ensures { λ r. ⌜ r ≡ length (defaultBytes (rowAt (now (area .entry)) s)) ⌝ }
+// With the default that a Put carries.
+fn with_row(z: Sizes, s: Slot) -> Sizes
+    requires { ⌜ RowAsks z s ⌝ }
+    ensures { λ r. ⌜ ((area : Bytes) → SlotIn area s → RowAdded area z s r) ⌝ }
 {
-    s.len as usize + row_len(s) + 10
-}
-
-fn if_so(so: bool, n: usize) -> usize
-    ensures { λ r. ⌜ r ≡ ifSo so n ⌝ }
-{
-    if so {
-        return n;
+    let kind = kind_of(s);
+    match kind {
+        Kind::Put => Sizes {
+            defaults: z.defaults + 1,
+            locks: z.locks,
+            writes: z.writes,
+            held: z.held,
+            bytes: z.bytes + s.len as usize + row_len(s) + 10,
+        },
+        Kind::Delete => z,
+        Kind::Rollback => z,
     }
-    0
 }
 
 // One line more.
@@ -56,18 +70,10 @@ fn count_line(z: Sizes, s: Slot, area: &[u8], table: u32) -> Sizes
     requires { ⌜ CountAsks (now area) z s ⌝ }
     ensures { λ r. ⌜ LineCounted (now (area .entry)) table z s r ⌝ }
 {
-    let locks = if_so(belongs_to(s, area, table, Section::Locks), 1);
-    let writes = if_so(belongs_to(s, area, table, Section::Writes), 1);
-    let put = is_put(s, area, table);
-    let defaults = if_so(put, 1);
-    let line = if_so(of_table(s, area, table), line_size(s, area));
-    let row = if_so(put, row_size(s, area));
-    Sizes {
-        defaults: z.defaults + defaults,
-        locks: z.locks + locks,
-        writes: z.writes + writes,
-        bytes: z.bytes + line + row,
+    if of_table(s, area, table) {
+        return with_row(with_line(z, s), s);
     }
+    z
 }
 
 // One walk over the lines.
@@ -79,6 +85,7 @@ pub(crate) fn sizes_of(lines: [Slot; 1024], n: usize, area: &[u8], table: u32) -
         defaults: 0,
         locks: 0,
         writes: 0,
+        held: 0,
         bytes: 0,
     };
     let mut i: usize = 0;

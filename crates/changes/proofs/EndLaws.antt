@@ -24,13 +24,14 @@ use Rattle.laws.proofs.StepLaws.{and-left, and-right}
 use Rattle.laws.proofs.Sorted.{ordered-first, ordered-rest, after-in}
 use Rattle.laws.proofs.BoxOrder.{rowBefore-trans, rowBefore-irrefl, order-defaults}
 use Rattle.laws.proofs.KeyLaws.{insert-first, pair-after, dropRow-none}
-use Rattle.store.specs.declared.lookup.Locked.the-variants.{Nobody, By}
-use Rattle.store.specs.declared.lookup.KeyState.{KeyState}
+use Rattle.lookups.specs.declared.lookup.Locked.the-variants.{Nobody, By}
+use Rattle.lookups.specs.declared.lookup.KeyState.{KeyState}
 use Rattle.store.specs.declared.views.LockView.{LockView}
 use Rattle.store.specs.declared.table.Store.{Store}
 use Rattle.store.specs.View.{Pairs, ifPut, rowIf, addIf, boxOf}
 use Rattle.store.specs.Made.{LeanRow, goodLine, goodRow}
-use Rattle.store.specs.KeyStates.{lockIn, lockedBy, LockThere, IntentThere}
+use Rattle.store.specs.Views.{lockIn}
+use Rattle.lookups.specs.KeyStates.{lockedBy, LockThere, IntentThere}
 use Rattle.store.proofs.MemberLaws.{lock-found, row-found}
 use Rattle.store.proofs.KeySoundLaws.{good-in}
 use Rattle.forms.proofs.WriterLaws.{bytes-long}

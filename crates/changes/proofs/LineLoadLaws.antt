@@ -6,8 +6,8 @@ use mathlib.Core.Path.{_≡_, subst}
 use Rattle.rules.specs.declared.records.Kind.{Kind}
 use Rattle.rules.specs.declared.records.Kind.the-variants.{Put, Delete, Rollback}
 use Rattle.rules.specs.declared.room.Load.{Load}
-use Rattle.store.specs.declared.lookup.Locked.{Locked}
-use Rattle.store.specs.declared.lookup.Locked.the-variants.{By}
+use Rattle.lookups.specs.declared.lookup.Locked.{Locked}
+use Rattle.lookups.specs.declared.lookup.Locked.the-variants.{By}
 use Rattle.store.specs.declared.views.LockView.{LockView}
 use Rattle.laws.specs.Adds.{minus}
 use Rattle.laws.proofs.LoadLaws.{load-fields}

@@ -25,20 +25,20 @@ use Rattle.rules.specs.Sound.{soundLock}
 use Rattle.rules.specs.Prewrite.{PrewriteTerms, lockFor, storeIf, lockLine}
 use Rattle.laws.specs.Adds.{plus}
 use Rattle.laws.proofs.StepLaws.{and-right}
-use Rattle.store.specs.declared.lookup.KeyState.{KeyState}
+use Rattle.lookups.specs.declared.lookup.KeyState.{KeyState}
 use Rattle.store.specs.declared.table.Line.the-variants.{Standing}
 use Rattle.store.specs.declared.table.Slot.{Slot}
 use Rattle.store.specs.declared.table.Store.{Store}
 use Rattle.store.specs.View.{Pairs, lineOf, rowIn, carries, addIf, boxOf}
-use Rattle.store.specs.KeyStates.{lockedBy}
+use Rattle.lookups.specs.KeyStates.{lockedBy}
 use Rattle.store.proofs.StoredLaws.{row-none}
-use Rattle.store.proofs.LookUpLaws.{lines-order}
+use Rattle.store.proofs.BuiltLaws.{lines-order}
 use Rattle.store.proofs.NeedLaws.{counted}
 use Rattle.changes.specs.declared.change.NewSlot.{NewSlot}
 use Rattle.changes.specs.declared.change.Change.the-variants.{Inserts}
 use Rattle.changes.specs.Loads.{lockSize, Small}
 use Rattle.changes.specs.Writes.{LockStands}
-use Rattle.changes.specs.Changes.{Leaves, InsertAsks, changed, entryFor, LockAsks}
+use Rattle.changes.specs.Changes.{Leaves, InsertAsks, changed, entryFor, lockSlot, LockAsks}
 use Rattle.changes.proofs.LineLoadLaws.{lock-small, counted-small}
 use Rattle.changes.proofs.TablePlaceLaws.{lock-in-place, lines-few}
 use Rattle.changes.proofs.KeptLaws.{row-short, row-lean, none-pair, kept-lock}
@@ -80,7 +80,7 @@ module _ {st : Store} {area : Bytes} {seen : KeyState} {h : PrewriteTerms} {key 
   top at = at + at + length key + 8 + 8 + length row + 8 + length (h .primary)
 
   abbrev slot : ℕ → Kind → Slot
-  slot at kind = record { at = at; len = length key; used = true; line = Standing (record { plen = length (h .primary); rowlen = length row; kind = kind }) }
+  slot at kind = lockSlot at (length key) (length (h .primary)) kind (length row)
 
   free : box.lockOf key es ≡ none
   free = sym (asks .looked .lock-is) ∙ ap (lockedBy area) (asks .nobody)

@@ -27,19 +27,20 @@ use Rattle.laws.specs.Places.{finishedAt}
 use Rattle.laws.proofs.KeyLaws.{dropLock-none, dropRow-none}
 use Rattle.laws.proofs.LinePlaces.{lock-at}
 use Rattle.laws.proofs.LoadLaws.{load-eq}
-use Rattle.store.specs.declared.lookup.Locked.{Locked}
-use Rattle.store.specs.declared.lookup.Locked.the-variants.{Nobody, By}
-use Rattle.store.specs.declared.lookup.KeyState.{KeyState}
+use Rattle.lookups.specs.declared.lookup.Locked.{Locked}
+use Rattle.lookups.specs.declared.lookup.Locked.the-variants.{Nobody, By}
+use Rattle.lookups.specs.declared.lookup.KeyState.{KeyState}
 use Rattle.store.specs.declared.views.LockView.{LockView}
 use Rattle.store.specs.declared.table.Line.the-variants.{Finished}
 use Rattle.store.specs.declared.table.Slot.{Slot}
 use Rattle.store.specs.declared.table.Store.{Store}
 use Rattle.store.specs.View.{Pairs, rowIf, lineOf, rowIn, carries, defaultIn, addIf, stored, boxOf, noSlot}
 use Rattle.store.specs.Made.{SlotBelow, Tallied}
-use Rattle.store.specs.KeyStates.{lockIn, lockedBy, LockThere, IntentThere}
+use Rattle.store.specs.Views.{lockIn}
+use Rattle.lookups.specs.KeyStates.{lockedBy, LockThere, IntentThere}
 use Rattle.store.proofs.StoredLaws.{row-none, row-out}
 use Rattle.forms.proofs.WriterLaws.{bytes-long}
-use Rattle.store.proofs.LookUpLaws.{lines-order}
+use Rattle.store.proofs.BuiltLaws.{lines-order}
 use Rattle.store.proofs.NeedLaws.{counted}
 use Rattle.changes.specs.declared.change.NewSlot.{NewSlot}
 use Rattle.changes.specs.declared.change.Change.{Change}
@@ -169,11 +170,13 @@ module _ {st : Store} {area : Bytes} {seen : KeyState} {key : Key} {start stamp 
   pub slot-asks : {at : ℕ} → Pairs (st .top) at → SlotAsks at (st .load) seen (length key) kind (length row)
   slot-asks p = record {
     at-in = omega (arith, p .fewest, asks .area-room);
-    key-in = omega (arith, key-few);
-    row-in = row-short kind row (asks .row-fits);
-    small = counted-small (counted (asks .built));
-    freed-asks = small (seen .lock) refl;
-    freed-in = subst (λ (l : Load). Within l (st .load)) (sym (freed-is (seen .lock) refl)) (freed-within (asks .built .kept) key start);
+    loads = record {
+      key-in = omega (arith, key-few);
+      row-in = row-short kind row (asks .row-fits);
+      small = counted-small (counted (asks .built));
+      freed-asks = small (seen .lock) refl;
+      freed-in = subst (λ (l : Load). Within l (st .load)) (sym (freed-is (seen .lock) refl)) (freed-within (asks .built .kept) key start);
+    };
   }
     where
       small : (o : Locked) → seen .lock ≡ o → FreedAsks o (length key)

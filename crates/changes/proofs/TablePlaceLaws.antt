@@ -12,16 +12,17 @@ use Rattle.seqs.specs.Tables.{insertAt, removeAt, moveTo}
 use Rattle.seqs.proofs.Tables.{drop-take}
 use Rattle.forms.specs.Bytes.{ltBytes, cmp}
 use Rattle.forms.specs.Key.{Key}
+use Rattle.rules.specs.Read.{those}
 use Rattle.rules.specs.declared.records.Record.{Record}
 use Rattle.rules.specs.Box as box
 use Rattle.rules.specs.declared.records.Kind.the-variants.{Put}
 use Rattle.rules.specs.Calls.{stampedAt, recordFor}
-use Rattle.laws.specs.Places.{howMany, linesBefore, finishedAt, lockPlace, linesOf, those}
+use Rattle.laws.specs.Places.{howMany, linesBefore, finishedAt, lockPlace, linesOf}
 use Rattle.laws.proofs.PlaceLaws.{howMany-le, howMany-ext, insert-place}
 use Rattle.laws.proofs.BoxOrder.{before-trans, before-irrefl, clear-record, ordered-dropLock}
 use Rattle.laws.proofs.KeyLaws.{records-dropLock, lock-gone}
 use Rattle.laws.proofs.LinePlaces.{lines-from, dropLock-place, linesBefore-dropLock, lock-comes, stampsBelow, record-place}
-use Rattle.store.specs.KeyStates.{stampLine, recordPlace}
+use Rattle.lookups.specs.KeyStates.{stampLine, recordPlace}
 
 -- ---- lines
 

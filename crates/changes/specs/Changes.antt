@@ -20,20 +20,20 @@ use Rattle.rules.specs.Calls.{kindOf, recordFor, stampedAt}
 use Rattle.rules.specs.Sound.{soundLock, soundRecord}
 use Rattle.rules.specs.Prewrite.{PrewriteTerms, lockFor}
 use Rattle.rules.specs.Commit.{withStart}
-use Rattle.laws.specs.Adds.{plus, minus}
 use Rattle.laws.specs.Places.{finishedAt}
-use Rattle.store.specs.declared.lookup.Locked.{Locked}
-use Rattle.store.specs.declared.lookup.Locked.the-variants.{Nobody, By}
-use Rattle.store.specs.declared.lookup.KeyState.{KeyState}
-use Rattle.store.specs.declared.table.Line.the-variants.{Finished}
+use Rattle.lookups.specs.declared.lookup.Locked.{Locked}
+use Rattle.lookups.specs.declared.lookup.Locked.the-variants.{Nobody, By}
+use Rattle.lookups.specs.declared.lookup.KeyState.{KeyState}
+use Rattle.store.specs.declared.table.Line.the-variants.{Standing, Finished}
+use Rattle.store.specs.declared.table.Slot.{Slot}
 use Rattle.store.specs.declared.table.Store.{Store}
 use Rattle.store.specs.View.{carries, addIf, boxOf}
 use Rattle.store.specs.Made.{Built}
-use Rattle.store.specs.KeyStates.{KeyStateAt}
+use Rattle.lookups.specs.KeyStates.{KeyStateAt}
 use Rattle.changes.specs.declared.change.NewSlot.{NewSlot}
 use Rattle.changes.specs.declared.change.Change.{Change}
 use Rattle.changes.specs.declared.change.Change.the-variants.{Stays, Inserts, Replaces}
-use Rattle.changes.specs.Loads.{recordSize, freedBy, FreedAsks, Small, Within}
+use Rattle.changes.specs.Loads.{LoadAsks, loadAfter}
 
 pub record Leaves (b : box.Box) (top : ℕ) (r : Store) (area : Bytes) : Type 0 where
   pub built : Built r area
@@ -79,6 +79,9 @@ prewriteTermsFor txn start primary ttl = record { txn = txn; start = start; prim
 abbrev pub entryFor : Key → Bool → Row → Mutation
 entryFor key put row = record { key = key; row = when put row }
 
+abbrev pub lockSlot : ℕ → ℕ → ℕ → Kind → ℕ → Slot
+lockSlot at key primary kind row = record { at = at; len = key; used = true; line = Standing (record { plen = primary; rowlen = row; kind = kind }) }
+
 -- a stretch begins at a pair of bytes, so one byte more may go before it
 
 -- a lock of a key that has none, of a start that the key has no record of; a slot is free, and the area has place
@@ -105,21 +108,20 @@ abbrev pub changeFor : Locked → ℕ → NewSlot → Change
 changeFor Nobody first c = Inserts c
 changeFor (By i) first c = Replaces first c
 
+abbrev pub recordSlot : ℕ → ℕ → Kind → ℕ → Slot
+recordSlot at key kind row = record { at = at; len = key; used = true; line = Finished (record { rowlen = row; kind = kind }) }
+
 abbrev pub slotChange : ℕ → Load → KeyState → ℕ → Kind → ℕ → ℕ → Change
 slotChange at load seen key kind row end = changeFor (seen .lock) (seen .first) (record {
   to = seen .place;
-  slot = record { at = at; len = key; used = true; line = Finished (record { rowlen = row; kind = kind }) };
-  load = plus (minus load (freedBy (seen .lock) key)) (recordSize kind key row);
+  slot = recordSlot at key kind row;
+  load = loadAfter load (seen .lock) key kind row;
   top = end;
 })
 
 pub record SlotAsks (at : ℕ) (load : Load) (seen : KeyState) (key : ℕ) (kind : Kind) (row : ℕ) : Type 0 where
   pub at-in : at ≤ 65535
-  pub key-in : key ≤ 255
-  pub row-in : row ≤ 255
-  pub small : Small load
-  pub freed-asks : FreedAsks (seen .lock) key
-  pub freed-in : Within (freedBy (seen .lock) key) load
+  pub loads : LoadAsks load (seen .lock) key row
 
 -- the lock, if there is one, is of this start
 abbrev pub Owned : ℕ → Locked → Type 0

@@ -4,9 +4,9 @@ use Prim.Native.Nat.{ℕ, _+_, _≤_}
 use Rattle.rules.specs.declared.records.Kind.{Kind}
 use Rattle.rules.specs.declared.records.Kind.the-variants.{Put, Delete, Rollback}
 use Rattle.rules.specs.declared.room.Load.{Load}
-use Rattle.laws.specs.Adds.{noLoad}
-use Rattle.store.specs.declared.lookup.Locked.{Locked}
-use Rattle.store.specs.declared.lookup.Locked.the-variants.{Nobody, By}
+use Rattle.laws.specs.Adds.{noLoad, plus, minus}
+use Rattle.lookups.specs.declared.lookup.Locked.{Locked}
+use Rattle.lookups.specs.declared.lookup.Locked.the-variants.{Nobody, By}
 
 abbrev pub rowSize : Kind → ℕ → ℕ → Load
 rowSize Put key row = record { lines = 0; locks = 0; defaults = 1; bytes = key + row }
@@ -41,3 +41,15 @@ pub record Within (a b : Load) : Type 0 where
   pub locks : a .locks ≤ b .locks
   pub defaults : a .defaults ≤ b .defaults
   pub bytes : a .bytes ≤ b .bytes
+
+-- ---- a record comes, and its key's lock goes, if it has one
+
+pub record LoadAsks (old : Load) (lock : Locked) (key row : ℕ) : Type 0 where
+  pub key-in : key ≤ 255
+  pub row-in : row ≤ 255
+  pub small : Small old
+  pub freed-asks : FreedAsks lock key
+  pub freed-in : Within (freedBy lock key) old
+
+abbrev pub loadAfter : Load → Locked → ℕ → Kind → ℕ → Load
+loadAfter old lock key kind row = plus (minus old (freedBy lock key)) (recordSize kind key row)

@@ -2,7 +2,7 @@
 // top; where the slot goes is the change that comes back.
 ghost use mathlib.Core.Path.{_≡_};
 ghost use mathlib.Core.Option.{none};
-ghost use Prim.Native.Nat.{_+_};
+ghost use Prim.Native.Nat.{_+_, _≤_};
 ghost use lib.ListN.{length};
 ghost use Rattle.forms.specs.Readers.{when};
 ghost use Rattle.forms.specs.Row.{Row};
@@ -12,23 +12,21 @@ ghost use Rattle.rules.specs.Prewrite.{lockLine};
 ghost use Rattle.rules.specs.Commit.{commitTo};
 ghost use Rattle.store.specs.View.{boxOf};
 ghost use Rattle.store.specs.Made.{storeOf};
-ghost use Rattle.changes.specs.Changes.{prewriteTermsFor, entryFor, recordOver, LockAsks, SlotAsks, slotChange, RecordAsks, EndAsks, Leaves, changed, ChangeAsks};
+ghost use Rattle.changes.specs.Changes.{prewriteTermsFor, entryFor, lockSlot, recordSlot, recordOver, LockAsks, SlotAsks, slotChange, RecordAsks, EndAsks, Leaves, changed, ChangeAsks};
 use crate::change::Change;
 use crate::change::NewSlot;
-use crate::loads::freed_by;
-use crate::loads::less;
+use crate::loads::load_after;
 use crate::loads::lock_load;
 use crate::loads::more;
-use crate::loads::record_load;
 use crate::writes::append_ended;
 use crate::writes::append_lock;
 use crate::writes::append_record;
+use lookups::KeyState;
+use lookups::Locked;
 use rules::Kind;
 use rules::Load;
-use store::KeyState;
 use store::Line;
 use store::LockSlot;
-use store::Locked;
 use store::RecordSlot;
 use store::Slot;
 use store::Store;
@@ -42,6 +40,40 @@ pub fn kind_for(put: bool) -> Kind
         return Kind::Put;
     }
     Kind::Delete
+}
+
+// The slot of a line whose stretch begins after `at` pairs of bytes, by how long its pieces are.
+fn lock_slot(at: usize, key: usize, primary: usize, kind: Kind, row: usize) -> Slot
+    requires { ⌜ at ≤ 65535 ⌝ }
+    requires { ⌜ (key ≤ 255) × (primary ≤ 255) × (row ≤ 255) ⌝ }
+    ensures { λ r. ⌜ r ≡ lockSlot at key primary kind row ⌝ }
+{
+    Slot {
+        at: at as u16,
+        len: key as u8,
+        used: true,
+        line: Line::Standing(LockSlot {
+            plen: primary as u8,
+            rowlen: row as u8,
+            kind: kind,
+        }),
+    }
+}
+
+fn record_slot(at: usize, key: usize, kind: Kind, row: usize) -> Slot
+    requires { ⌜ at ≤ 65535 ⌝ }
+    requires { ⌜ (key ≤ 255) × (row ≤ 255) ⌝ }
+    ensures { λ r. ⌜ r ≡ recordSlot at key kind row ⌝ }
+{
+    Slot {
+        at: at as u16,
+        len: key as u8,
+        used: true,
+        line: Line::Finished(RecordSlot {
+            rowlen: row as u8,
+            kind: kind,
+        }),
+    }
 }
 
 // "a lock with the call's fields and the entry's kind", at the key's first place, "and a Put's row"; a Delete's row is empty.
@@ -65,16 +97,7 @@ pub fn put_lock(
     let kind = kind_for(put);
     let at = pairs_in(top);
     let end = append_lock(area, at + at, key, txn, start, row, ttl, primary);
-    let s = Slot {
-        at: at as u16,
-        len: key.len() as u8,
-        used: true,
-        line: Line::Standing(LockSlot {
-            plen: primary.len() as u8,
-            rowlen: row.len() as u8,
-            kind: kind,
-        }),
-    };
+    let s = lock_slot(at, key.len(), primary.len(), kind, row.len());
     let added = lock_load(kind, key.len(), primary.len(), row.len());
     let load = more(old, added);
     Change::Inserts(NewSlot {
@@ -100,23 +123,10 @@ fn place_record(
     ensures { λ r. ⌜ r ≡ slotChange at old seen key kind row end ⌝ }
 {
     let lock = seen.lock;
-    let s = Slot {
-        at: at as u16,
-        len: key as u8,
-        used: true,
-        line: Line::Finished(RecordSlot {
-            rowlen: row as u8,
-            kind: kind,
-        }),
-    };
-    let freed = freed_by(lock, key);
-    let rest = less(old, freed);
-    let added = record_load(kind, key, row);
-    let load = more(rest, added);
     let c = NewSlot {
         to: seen.place,
-        slot: s,
-        load: load,
+        slot: record_slot(at, key, kind, row),
+        load: load_after(old, lock, key, kind, row),
         top: end,
     };
     match lock {

@@ -2,10 +2,10 @@
 ghost use mathlib.Core.Path.{_≡_};
 ghost use Prim.Native.Nat.{_+_, _≤_};
 ghost use Rattle.laws.specs.Adds.{plus, minus};
-ghost use Rattle.changes.specs.Loads.{rowSize, lockSize, recordSize, freedBy, FreedAsks, Small, Within};
+ghost use Rattle.changes.specs.Loads.{rowSize, lockSize, recordSize, freedBy, FreedAsks, Small, Within, LoadAsks, loadAfter};
+use lookups::Locked;
 use rules::Kind;
 use rules::Load;
-use store::Locked;
 
 fn no_load() -> Load
     ensures { λ r. ⌜ r ≡ record { lines = 0; locks = 0; defaults = 0; bytes = 0 } ⌝ }
@@ -99,4 +99,15 @@ pub fn less(a: Load, b: Load) -> Load
         defaults: a.defaults - b.defaults,
         bytes: a.bytes - b.bytes,
     }
+}
+
+// A record comes, and its key's lock goes, if it has one.
+pub fn load_after(old: Load, lock: Locked, key: usize, kind: Kind, row: usize) -> Load
+    requires { ⌜ LoadAsks old lock key row ⌝ }
+    ensures { λ r. ⌜ r ≡ loadAfter old lock key kind row ⌝ }
+{
+    let freed = freed_by(lock, key);
+    let rest = less(old, freed);
+    let added = record_load(kind, key, row);
+    more(rest, added)
 }

@@ -1,24 +1,12 @@
 // The area packed anew: the stretches of the lines, in table order, from its beginning. "Room that was freed counts as free at once."
-ghost use mathlib.Core.Path.{_≡_};
-ghost use Rattle.store.specs.View.{past};
 ghost use Rattle.store.specs.Made.{Made};
 ghost use Rattle.changes.specs.Packs.{PackAsks, Packed, Repacked};
 use forms::put_bytes;
-use store::Line;
 use store::Slot;
 use store::Store;
 use store::pairs_in;
+use store::past_key;
 use store::place_of;
-
-// How many bytes a line has past its key.
-fn past_key(line: Line) -> usize
-    ensures { λ r. ⌜ r ≡ past line ⌝ }
-{
-    match line {
-        Line::Standing(l) => 8 + 8 + l.rowlen as usize + 8 + l.plen as usize,
-        Line::Finished(w) => 8 + 8 + w.rowlen as usize,
-    }
-}
 
 // Each stretch is copied whole, to the next pair of bytes.
 fn pack(store: Store, area: &[u8], into: &mut [u8]) -> Store

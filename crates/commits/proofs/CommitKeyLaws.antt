@@ -24,14 +24,15 @@ use Rattle.laws.proofs.StepLaws.{and-false-right}
 use Rattle.laws.proofs.ChainLaws.{out, on}
 use Rattle.ledger.proofs.Unmet.{records-sound, own-ready, commit-again}
 use Rattle.store.specs.declared.table.Store.{Store}
-use Rattle.store.specs.declared.lookup.Found.the-variants.{Nothing, Is}
-use Rattle.store.specs.declared.lookup.Locked.{Locked}
-use Rattle.store.specs.declared.lookup.Locked.the-variants.{Nobody, By}
-use Rattle.store.specs.declared.lookup.KeyState.{KeyState}
+use Rattle.lookups.specs.declared.lookup.Found.the-variants.{Nothing, Is}
+use Rattle.lookups.specs.declared.lookup.Locked.{Locked}
+use Rattle.lookups.specs.declared.lookup.Locked.the-variants.{Nobody, By}
+use Rattle.lookups.specs.declared.lookup.KeyState.{KeyState}
 use Rattle.store.specs.declared.views.RecordView.{RecordView}
 use Rattle.store.specs.View.{boxOf}
 use Rattle.store.specs.Made.{Built}
-use Rattle.store.specs.KeyStates.{lockIn, recordIn, said, lockedBy, KeyStateAt}
+use Rattle.store.specs.Views.{lockIn, recordIn}
+use Rattle.lookups.specs.KeyStates.{said, lockedBy, KeyStateAt}
 use Rattle.store.proofs.TidyLaws.{built-tidy}
 use Rattle.calls.specs.Settled.{isAccepted}
 use Rattle.calls.proofs.AnswerLaws.{then-end}

@@ -5,17 +5,18 @@ ghost use Rattle.forms.specs.Bytes.{Bytes};
 ghost use Rattle.rules.specs.Commit.{commitKey};
 ghost use Rattle.store.specs.View.{boxOf};
 ghost use Rattle.store.specs.Made.{Built};
-ghost use Rattle.store.specs.KeyStates.{recordIn, lockedBy};
+ghost use Rattle.store.specs.Views.{recordIn};
+ghost use Rattle.lookups.specs.KeyStates.{lockedBy};
 ghost use Rattle.commits.specs.Checks.{recordSteps, lockSteps, isNew, Judged};
 use calls::BatchVerdict;
+use lookups::Found;
+use lookups::Locked;
+use lookups::look_up;
 use rules::Answer;
 use rules::CommitTerms;
 use rules::Kind;
-use store::Found;
-use store::Locked;
 use store::RecordView;
 use store::Store;
-use store::look_up;
 
 // "Rollback, 8; other commit, 8; equal commit, accepted and unchanged"
 fn check_record(w: RecordView, terms: CommitTerms) -> Answer
@@ -38,7 +39,7 @@ fn check_lock(lock: Locked, newer: bool, terms: CommitTerms) -> Answer
     match lock {
         Locked::Nobody => Answer::No(8),
         Locked::By(l) => {
-            if !calls::owns(l, terms.txn, terms.start) {
+            if !store::owns(l, terms.txn, terms.start) {
                 return store::held_by(l);
             }
             if !newer {

@@ -128,7 +128,7 @@ module _ (w : Lent) where
   marks-once (marked s) (marked t) a b = same w (marked s) (marked t) refl refl (ap highest (a ∙ sym b)) refl refl refl
 
   pub capture-once : (table : ℕ) → Once w (calling (Call.Capture table))
-  capture-once table (paged r x) (paged t y) p o = page-same w p o
+  capture-once table (paged r x) (paged t y) p o = page-same w (p .captured) (o .captured)
 
 -- ---- all calls
 

@@ -3,4 +3,4 @@ pub mod Stays
 pub mod Carried
 pub mod Refusals
 pub mod Alike
-pub mod Captured
+pub mod StoreImages

@@ -140,4 +140,4 @@ refusals w (calling (Call.Change (Changing.OneStep h s))) (stepped r area) p n =
 refusals w (calling (Call.Restore s)) (changed r area) p n = changed-left w r area (p .refused n)
 refusals w (calling Call.Statistics) (counted s) p n = absurd (n refl)
 refusals w (calling Call.Marks) (marked m) p n = absurd (n refl)
-refusals w (calling (Call.Capture t)) (paged r out) p n = wrote-left w (captureImage t (boxIn w) (w .buffer)) (captured-refused t (boxIn w) (w .buffer)) r out p n
+refusals w (calling (Call.Capture t)) (paged r out) p n = wrote-left w (captureImage t (boxIn w) (w .buffer)) (captured-refused t (boxIn w) (w .buffer)) r out (p .captured) n

@@ -23,7 +23,6 @@ use Rattle.rules.specs.Commit.{commitBatch}
 use Rattle.rules.specs.Rollback.{rollbackBatch}
 use Rattle.rules.specs.OneStep.{oneStep}
 use Rattle.rules.specs.Restore.{restore}
-use Rattle.rules.specs.Capture.{captureImage}
 use Rattle.rules.specs.Figures.{stats, marks}
 use Rattle.store.specs.declared.table.Store.{Store}
 use Rattle.store.specs.View.{boxOf}
@@ -39,6 +38,7 @@ use Rattle.rules.specs.declared.written.Wrote.{Wrote}
 use Rattle.onesteps.specs.declared.batch.Stepped.{Stepped}
 use Rattle.onesteps.specs.Counts.{Counts}
 use Rattle.restores.specs.Replaced.{Replaced}
+use Rattle.captures.specs.Promise.{ImageWritten}
 
 -- ---- the calls
 
@@ -209,7 +209,7 @@ Kept w (calling (Call.Change (Changing.OneStep h s))) (stepped r area) = Counts 
 Kept w (calling (Call.Restore s)) (changed r area) = Replaced (w .store) (w .area) (restore s (boxIn w)) r area
 Kept w (calling Call.Statistics) (counted s) = s ≡ stats (boxIn w)
 Kept w (calling Call.Marks) (marked m) = m ≡ marks (boxIn w)
-Kept w (calling (Call.Capture t)) (paged r out) = WroteAs (captureImage t (boxIn w) (w .buffer)) r out
+Kept w (calling (Call.Capture t)) (paged r out) = ImageWritten t (boxIn w) (w .buffer) r out
 Kept w (handingRow s) (handed part) = RowPart (w .area) s part
 Kept w (handingPrimary p) (handed part) = PrimaryPart (w .area) p part
 

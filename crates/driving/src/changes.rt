@@ -32,14 +32,14 @@ pub(crate) fn tell_change(done: Changed, out: &mut [u8]) -> Ran
     }
 }
 
-// The numbers are the transaction, the start, and the time to live or the commit.
+// The numbers `a`, `b` and `c` are the transaction, the start, and the time to live or the commit.
 fn change(
     store: Store,
     area: &mut [u8; AREA],
     op: ChangeOp,
-    first: u64,
-    second: u64,
-    third: u64,
+    a: u64,
+    b: u64,
+    c: u64,
     primary: &[u8],
     key: &[u8],
     put: bool,
@@ -47,46 +47,15 @@ fn change(
     rest: &[u8],
 ) -> Changed
     requires { ⌜ Made store (now area) ⌝ }
-    ensures { λ r. ⌜ DoneAs (changedBy op first second third (now (primary .entry)) (now (key .entry)) put (now (row .entry)) (now (rest .entry)) (boxOf store (now (area .entry)))) r (now (area .exit)) ⌝ }
+    ensures { λ r. ⌜ DoneAs (changedBy op a b c (now (primary .entry)) (now (key .entry)) put (now (row .entry)) (now (rest .entry)) (boxOf store (now (area .entry)))) r (now (area .exit)) ⌝ }
 {
     match op {
-        ChangeOp::Prewrite => prewrites::prewrite(
-            store,
-            area,
-            first,
-            second,
-            third,
-            primary,
-            key,
-            put,
-            row,
-        ),
-        ChangeOp::PrewriteBatch => prewrites::prewrite_batch(
-            store,
-            area,
-            first,
-            second,
-            third,
-            primary,
-            rest,
-        ),
-        ChangeOp::Commit => commits::commit_intent(store, area, first, second, third, key),
-        ChangeOp::CommitBatch => commits::commit_intents_batch(
-            store,
-            area,
-            first,
-            second,
-            third,
-            rest,
-        ),
-        ChangeOp::Rollback => rollbacks::rollback_intent(store, area, first, second, key),
-        ChangeOp::RollbackBatch => rollbacks::rollback_intents_batch(
-            store,
-            area,
-            first,
-            second,
-            rest,
-        ),
+        ChangeOp::Prewrite => prewrites::prewrite(store, area, a, b, c, primary, key, put, row),
+        ChangeOp::PrewriteBatch => prewrites::prewrite_batch(store, area, a, b, c, primary, rest),
+        ChangeOp::Commit => commits::commit_intent(store, area, a, b, c, key),
+        ChangeOp::CommitBatch => commits::commit_intents_batch(store, area, a, b, c, rest),
+        ChangeOp::Rollback => rollbacks::rollback_intent(store, area, a, b, key),
+        ChangeOp::RollbackBatch => rollbacks::rollback_intents_batch(store, area, a, b, rest),
         ChangeOp::Restore => restores::restore(store, area, rest),
     }
 }

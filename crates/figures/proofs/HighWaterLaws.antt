@@ -13,7 +13,7 @@ use Rattle.rules.specs.Figures.{largest, marks}
 use Rattle.rules.specs.declared.figures.Marks.{Marks}
 use Rattle.store.specs.View.{placeOf, eightAt, lineOf, rowIn, boxOf, noSlot}
 use Rattle.store.specs.Made.{Built}
-use Rattle.store.proofs.LookUpLaws.{slot-in}
+use Rattle.store.proofs.BuiltLaws.{slot-in}
 use Rattle.store.proofs.ViewLaws.{past-numbers}
 use Rattle.store.specs.declared.table.LockSlot.{LockSlot}
 use Rattle.store.specs.declared.table.RecordSlot.{RecordSlot}

@@ -22,7 +22,7 @@ use Rattle.laws.proofs.Sorted.{fewer-drop, ordered-fewer}
 use Rattle.laws.proofs.BoxOrder.{order-lines}
 use Rattle.store.specs.View.{placeOf, keyOf, lineIn, lineOf, rowIn, boxOf, noSlot}
 use Rattle.store.specs.Made.{Built}
-use Rattle.store.proofs.LookUpLaws.{slot-in}
+use Rattle.store.proofs.BuiltLaws.{slot-in}
 use Rattle.store.specs.declared.table.Line.{Line}
 use Rattle.store.specs.declared.table.Slot.{Slot}
 use Rattle.store.specs.declared.table.Store.{Store}

@@ -11,8 +11,9 @@ use lib.ListN.{length, take, drop, getD}
 use Rattle.forms.specs.Key.{Key}
 use Rattle.forms.specs.Row.{Row}
 use Rattle.forms.specs.Bytes.{ltBytes}
+use Rattle.rules.specs.Read.{those}
 use Rattle.rules.specs.Box.{Default, rowOf, addRow, atPair, rowBefore, insertDefault, dropRow, unlessRow, ordered, allAfter}
-use Rattle.laws.specs.Places.{oneMore, howMany, those, defaultsBefore, pairsBefore, defaultsOf, rowFirst}
+use Rattle.laws.specs.Places.{oneMore, howMany, defaultsBefore, pairsBefore, defaultsOf, rowFirst}
 use Rattle.laws.proofs.Sorted.{ordered-first, ordered-rest, after-down}
 use Rattle.laws.proofs.BoxOrder.{rowBefore-trans, rowBefore-irrefl, rowBefore-else, rowBefore-apart′, rowBefore-not-above, clear-default}
 use Rattle.laws.proofs.KeyLaws.{row-after, pair-after, dropRow-none}

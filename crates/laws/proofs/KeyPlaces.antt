@@ -11,8 +11,9 @@ use Rattle.forms.specs.Bytes.{cmp, eqBytes, ltBytes, isLess, isEqual}
 use Rattle.forms.specs.declared.key.Order.{Order}
 use Rattle.forms.specs.declared.key.Order.the-variants.{Less, Equal, Greater}
 use Rattle.forms.proofs.Orders.{cmp-flip, flip, ltBytes-le-lt, ltBytes-trans, ltBytes-else, eqBytes-true}
+use Rattle.rules.specs.Read.{those}
 use Rattle.rules.specs.Box.{ordered}
-use Rattle.laws.specs.Places.{howMany, those}
+use Rattle.laws.specs.Places.{howMany}
 use Rattle.laws.proofs.StepLaws.{not-true}
 use Rattle.laws.proofs.Sorted.{ordered-fewer}
 use Rattle.laws.proofs.PlaceLaws.{Down, take-place, drop-place, those-fewer, those-ext, those-those}

@@ -24,5 +24,5 @@ pub mod Unrolled
 pub mod NewestFirstLaws
 pub mod KeysLaws
 pub mod Singles
-pub mod ImageLaws
+pub mod ImageBackLaws
 pub mod TablePartLaws

@@ -15,9 +15,9 @@ use Rattle.forms.specs.Bytes.{eqBytes, ltBytes}
 use Rattle.forms.proofs.Orders.{eqBytes-refl, eqBytes-true, eqBytes-sym, eqBytes-not-lt, ltBytes-not-eq, ltBytes-not-eq′, ltBytes-else}
 use Rattle.rules.specs.declared.records.Record.{Record}
 use Rattle.rules.specs.Box.{Lock, Line, Standing, Finished, KeyLine, recordsOf, addRecord, lockOf, addLock, lineBefore, before, insertLine, unlessLock, dropLock, ordered, allAfter}
-use Rattle.rules.specs.Read.{keepIf}
+use Rattle.rules.specs.Read.{keepIf, those}
 use Rattle.rules.specs.Restore.{allGood}
-use Rattle.laws.specs.Places.{oneMore, howMany, those, linesBefore, finishedAt, linesOf, lockFirst, lockPlace}
+use Rattle.laws.specs.Places.{oneMore, howMany, linesBefore, finishedAt, linesOf, lockFirst, lockPlace}
 use Rattle.laws.proofs.StepLaws.{and-left, and-right}
 use Rattle.laws.proofs.Sorted.{ordered-first, ordered-rest}
 use Rattle.laws.proofs.BoxOrder.{before-trans, before-irrefl, before-same, before-less, before-not-above, clear-lock}

@@ -20,10 +20,10 @@ use Rattle.rules.specs.Answers.{answerOf}
 use Rattle.rules.specs.Box.{Lock, Line, Standing, Finished, KeyLine, Default, recordsOf, rowOf, before, ordered}
 use Rattle.rules.specs.Sound.{soundRecord}
 use Rattle.rules.specs.Calls.{decodes}
-use Rattle.rules.specs.Read.{keepIf, atOrBelow, newestFirst, showIf, showRow, Examined, oneRecord, walk}
+use Rattle.rules.specs.Read.{keepIf, atOrBelow, newestFirst, showIf, showRow, Examined, oneRecord, walk, those}
 use Rattle.rules.specs.Page.{Bounds, inBounds, KeyLock, addStanding, locksOf, locksWithin}
 use Rattle.rules.specs.Restore.{allGood}
-use Rattle.laws.specs.Places.{howMany, those}
+use Rattle.laws.specs.Places.{howMany}
 use Rattle.laws.proofs.StepLaws.{and-left, and-right, and-both, by-test}
 use Rattle.laws.proofs.Sorted.{In}
 use Rattle.laws.proofs.KeyLaws.{stampBefore, records-ordered}

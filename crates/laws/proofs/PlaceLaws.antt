@@ -9,9 +9,9 @@ use lib.Dec.{ltb}
 use lib.ListN.{length, take, drop, getD}
 use borrow.Author.Tests.{lt-ltb, le-ltb, ltb-true, ltb-false}
 use Rattle.rules.specs.Box.{allAfter, ordered, putIn, insertBy}
-use Rattle.rules.specs.Read.{keepIf}
+use Rattle.rules.specs.Read.{keepIf, those}
 use Rattle.rules.specs.Restore.{allGood}
-use Rattle.laws.specs.Places.{oneMore, howMany, those}
+use Rattle.laws.specs.Places.{oneMore, howMany}
 use Rattle.laws.proofs.StepLaws.{and-left, and-right, and-both}
 use Rattle.laws.proofs.Sorted.{Clear, Fewer, empty, gone, kept, ordered-first, ordered-rest}
 

@@ -11,33 +11,24 @@ use Rattle.seqs.specs.Tables.{All}
 use Rattle.forms.specs.Key.{Key}
 use Rattle.rules.specs.Box.{Box, Line, Standing, Finished, KeyLine, Default, inOrder}
 use Rattle.rules.specs.Room.{sumOf, oneLock, lineBytes, loadOf, Fits, roomFor}
-use Rattle.rules.specs.Read.{keepIf}
+use Rattle.rules.specs.Read.{keepIf, those}
 use Rattle.rules.specs.Page.{KeyLock, locksOf}
 use Rattle.rules.specs.Image.{KeyRecord}
 use Rattle.rules.specs.Restore.{allGood, lockLine, writeLine}
-use Rattle.rules.specs.Capture.{selected, lineOfTable, rowOfTable, partOf, writesOf, LineWords, LockWords, RecordWords, Words}
+use Rattle.rules.specs.Capture.{lineOfTable, rowOfTable, partOf, writesOf, LineWords, LockWords, RecordWords, Words}
 use Rattle.rules.proofs.RoomLaws.{fits-out, fits-in}
 use Rattle.laws.proofs.StepLaws.{by-test, and-left, and-right, and-both}
 use Rattle.laws.proofs.Sorted.{In, Fewer, empty, gone, kept, ordered-fewer}
+use Rattle.laws.proofs.PlaceLaws.{those-fewer, those-hold}
 use Rattle.laws.proofs.BoxOrder.{order-lines, order-defaults, in-order}
 
 -- ---- those of which a test holds
 
 module _ {A : Type 0} (p : A → Bool) where
-  pub selected-fewer : (xs : List A) → Fewer (selected p xs) xs
-  unfolding selected keepIf
-  selected-fewer [] = empty
-  selected-fewer (x ∷ xs) = by-test (λ t. Fewer (keepIf t x (selected p xs)) (x ∷ xs)) (p x) (λ e. kept (selected-fewer xs)) (λ e. gone (selected-fewer xs))
-
-  pub selected-good : (xs : List A) → allGood p (selected p xs) ≡ true
-  unfolding selected keepIf allGood
-  selected-good [] = refl
-  selected-good (x ∷ xs) = by-test (λ t. allGood p (keepIf t x (selected p xs)) ≡ true) (p x) (λ e. and-both (p x) _ e (selected-good xs)) (λ e. selected-good xs)
-
-  pub selected-all : (xs : List A) → allGood p xs ≡ true → selected p xs ≡ xs
-  unfolding selected keepIf allGood
-  selected-all [] a = refl
-  selected-all (x ∷ xs) a = rw (and-left (p x) _ a, selected-all xs (and-right (p x) _ a))
+  pub those-all : (xs : List A) → allGood p xs ≡ true → those p xs ≡ xs
+  unfolding those keepIf allGood
+  those-all [] a = refl
+  those-all (x ∷ xs) a = rw (and-left (p x) _ a, those-all xs (and-right (p x) _ a))
 
 pub fewer-sum : {A : Type 0} (f : A → ℕ) {ys xs : List A} → Fewer ys xs → sumOf f ys ≤ sumOf f xs
 unfolding sumOf
@@ -59,11 +50,11 @@ fewer-each P (kept q) a = (a .0, fewer-each P q (a .1))
 -- ---- the part
 
 module _ (t : ℕ) (b : Box) where
-  abbrev fewerLines : Fewer (selected (lineOfTable t) (b .lines)) (b .lines)
-  fewerLines = selected-fewer (lineOfTable t) (b .lines)
+  abbrev fewerLines : Fewer (those (lineOfTable t) (b .lines)) (b .lines)
+  fewerLines = those-fewer (lineOfTable t) (b .lines)
 
-  abbrev fewerRows : Fewer (selected (rowOfTable t) (b .defaults)) (b .defaults)
-  fewerRows = selected-fewer (rowOfTable t) (b .defaults)
+  abbrev fewerRows : Fewer (those (rowOfTable t) (b .defaults)) (b .defaults)
+  fewerRows = those-fewer (rowOfTable t) (b .defaults)
 
   pub part-order : inOrder b ≡ true → inOrder (partOf t b) ≡ true
   unfolding partOf
@@ -71,7 +62,7 @@ module _ (t : ℕ) (b : Box) where
 
   pub part-again : partOf t (partOf t b) ≡ partOf t b
   unfolding partOf
-  part-again = ap₂ (λ (es : List KeyLine) (ds : List Default). record { lines = es; defaults = ds }) (selected-all (lineOfTable t) _ (selected-good (lineOfTable t) (b .lines))) (selected-all (rowOfTable t) _ (selected-good (rowOfTable t) (b .defaults)))
+  part-again = ap₂ (λ (es : List KeyLine) (ds : List Default). record { lines = es; defaults = ds }) (those-all (lineOfTable t) _ (those-hold (lineOfTable t) (b .lines))) (those-all (rowOfTable t) _ (those-hold (rowOfTable t) (b .defaults)))
 
   pub part-words : Words b → Words (partOf t b)
   unfolding partOf

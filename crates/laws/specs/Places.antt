@@ -9,7 +9,7 @@ use Rattle.forms.specs.Key.{Key}
 use Rattle.forms.specs.Row.{Row}
 use Rattle.rules.specs.declared.records.Record.{Record}
 use Rattle.rules.specs.Box.{Lock, KeyLine, Default, Standing, Finished, rowBefore, addLock, addRow, atPair}
-use Rattle.rules.specs.Read.{keepIf}
+use Rattle.rules.specs.Read.{those}
 
 abbrev pub oneMore : Bool → ℕ → ℕ
 oneMore true n = suc n
@@ -19,11 +19,6 @@ oneMore false n = n
 unfoldable pub howMany : {A : Type 0} → (A → Bool) → List A → ℕ
 howMany p [] = 0
 howMany p (x ∷ xs) = oneMore (p x) (howMany p xs)
-
--- those that hold it
-unfoldable pub those : {A : Type 0} → (A → Bool) → List A → List A
-those p [] = []
-those p (x ∷ xs) = keepIf (p x) x (those p xs)
 
 -- how many lines have a key below k: the place of k's first line
 abbrev pub linesBefore : Key → List KeyLine → ℕ

@@ -20,4 +20,4 @@ pub mod Restored
 pub mod Example
 pub mod PartSoundLaws
 pub mod ReadBackLaws
-pub mod Captured
+pub mod BoxImages

@@ -2,4 +2,4 @@
 pub mod Ledger
 pub mod Tidy
 pub mod Restored
-pub mod Captured
+pub mod BoxImages

@@ -35,16 +35,17 @@ use Rattle.laws.proofs.LoadLaws.{load-fields}
 use Rattle.laws.proofs.RecordLaws.{below-started}
 use Rattle.laws.proofs.OneStepLaws.{step-own}
 use Rattle.store.specs.declared.table.Store.{Store}
-use Rattle.store.specs.declared.lookup.Found.{Found}
-use Rattle.store.specs.declared.lookup.Found.the-variants.{Nothing, Is}
-use Rattle.store.specs.declared.lookup.Locked.{Locked}
-use Rattle.store.specs.declared.lookup.Locked.the-variants.{Nobody, By}
-use Rattle.store.specs.declared.lookup.KeyState.{KeyState}
+use Rattle.lookups.specs.declared.lookup.Found.{Found}
+use Rattle.lookups.specs.declared.lookup.Found.the-variants.{Nothing, Is}
+use Rattle.lookups.specs.declared.lookup.Locked.{Locked}
+use Rattle.lookups.specs.declared.lookup.Locked.the-variants.{Nobody, By}
+use Rattle.lookups.specs.declared.lookup.KeyState.{KeyState}
 use Rattle.store.specs.declared.views.LockView.{LockView}
 use Rattle.store.specs.declared.views.RecordView.{RecordView}
 use Rattle.store.specs.View.{lineOf, rowIn, rowIf, boxOf}
 use Rattle.store.specs.Made.{Built, Made}
-use Rattle.store.specs.KeyStates.{lockIn, lockedBy, said, FoundThere, LockThere, IntentThere, KeyStateAt}
+use Rattle.store.specs.Views.{lockIn}
+use Rattle.lookups.specs.KeyStates.{lockedBy, said, FoundThere, LockThere, IntentThere, KeyStateAt}
 use Rattle.forms.proofs.WriterLaws.{bytes-long}
 use Rattle.store.proofs.KeySoundLaws.{sound-records}
 use Rattle.store.proofs.StoredLaws.{row-none}

@@ -22,9 +22,9 @@ use Rattle.rules.specs.declared.terms.CommitTerms.{CommitTerms}
 use Rattle.rules.specs.OneStep.{Applied, already, notYet, otherwise, appliedIn, isAlready, argumentsStep, allApplied, stepEntry, stepEntries}
 use Rattle.laws.specs.Adds.{noLoad, plus, minus, sumLoads, stepAdds, stepFrees}
 use Rattle.store.specs.declared.table.Store.{Store}
-use Rattle.store.specs.declared.lookup.Found.{Found}
-use Rattle.store.specs.declared.lookup.Found.the-variants.{Nothing, Is}
-use Rattle.store.specs.declared.lookup.Locked.{Locked}
+use Rattle.lookups.specs.declared.lookup.Found.{Found}
+use Rattle.lookups.specs.declared.lookup.Found.the-variants.{Nothing, Is}
+use Rattle.lookups.specs.declared.lookup.Locked.{Locked}
 use Rattle.store.specs.Made.{Made}
 use Rattle.changes.specs.Loads.{recordSize, freedBy, FreedAsks}
 use Rattle.calls.specs.Weights.{noWeight, Light}

@@ -9,7 +9,7 @@ ghost use Rattle.rules.specs.Answers.{_▸_, need};
 ghost use Rattle.rules.specs.Calls.{kindOf};
 ghost use Rattle.rules.specs.OneStep.{appliedBy, stepLock};
 ghost use Rattle.store.specs.View.{boxOf};
-ghost use Rattle.store.specs.KeyStates.{said, lockedBy, KeyStateAt};
+ghost use Rattle.lookups.specs.KeyStates.{said, lockedBy, KeyStateAt};
 ghost use Rattle.changes.specs.Changes.{entryFor};
 ghost use Rattle.onesteps.specs.Checks.{argumentStep, rowHeld, FoundIn, tallyOf, Weighed, Asked, CheckAsks, CheckedAt};
 use calls::Checked;
@@ -17,11 +17,11 @@ use calls::Weight;
 use changes::freed_by;
 use changes::kind_for;
 use changes::record_load;
+use lookups::Found;
+use lookups::KeyState;
+use lookups::Locked;
 use rules::Answer;
 use rules::CommitTerms;
-use store::Found;
-use store::KeyState;
-use store::Locked;
 use store::Store;
 
 // Of an entry, or of all of them: each is applied; at no key has the record at commit this start.
@@ -91,7 +91,7 @@ fn lock_step(lock: Locked, terms: CommitTerms, put: bool) -> Answer
     match lock {
         Locked::Nobody => Answer::Accepted,
         Locked::By(l) => {
-            if !calls::owns(l, terms.txn, terms.start) {
+            if !store::owns(l, terms.txn, terms.start) {
                 return store::held_by(l);
             }
             let kind = l.kind;

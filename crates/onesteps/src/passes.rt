@@ -16,11 +16,11 @@ use calls::key_of;
 use calls::row_of;
 use forms::Entry;
 use forms::both;
+use lookups::look_up;
 use rules::Answer;
 use rules::CommitTerms;
 use rules::Load;
 use store::Store;
-use store::look_up;
 
 // The first refusal is the answer.
 fn first(a: Answer, b: Answer) -> Answer

@@ -20,7 +20,7 @@ use Rattle.rules.specs.declared.answers.Answer.the-variants.{Accepted, No, Held
 use Rattle.rules.specs.Answers.{Reply, nothing, shown, refused, ifPassed}
 use Rattle.rules.specs.Page.{Page}
 use Rattle.rules.specs.Written.{Written, allBytes, moreByte, pageBytes, writeIf, written, WroteAs}
-use Rattle.rules.proofs.WriterLaws.{Listing, listing-start, listing-room, listing-more, listing-end}
+use Rattle.rules.proofs.EntryWriterLaws.{Listing, listing-start, listing-room, listing-more, listing-end}
 use Rattle.laws.proofs.StepLaws.{answered}
 use Rattle.store.specs.View.{noSlot}
 use Rattle.walks.specs.declared.walked.Walked.{Walked}

@@ -1,37 +1,25 @@
 -- The entry of a line: a key's piece, and a row's or a lock.
 -- Assumes nothing.
-use Prim.Native.Nat.{ℕ, _+_, _-_, _≤_}
-use native.Mathlib.Nat.{add-sub-cancel-left}
+use Prim.Native.Nat.{ℕ, _+_, _≤_}
 use native.Mathlib.Omega.{arith}
 use mathlib.Core.Path.{_≡_, sym, ap, _∙_, subst}
 use mathlib.Core.List.{_++_}
-use lib.ListN.{length, take, drop, length-append}
-use Rattle.forms.specs.Bytes.{Bytes, bytesAt, pieceBytes}
+use lib.ListN.{length, length-append}
+use Rattle.forms.specs.Bytes.{Bytes, pieceBytes}
 use Rattle.forms.specs.Writers.{Laid}
 use Rattle.forms.proofs.WriterLaws.{bytes-long, laid-as, laid-then}
-use Rattle.rules.proofs.WriterLaws.{lock-long}
+use Rattle.rules.proofs.EntryWriterLaws.{lock-long}
 use Rattle.store.specs.declared.table.Line.{Line}
 use Rattle.store.specs.declared.table.Line.the-variants.{Standing, Finished}
 use Rattle.store.specs.declared.table.Slot.{Slot}
 use Rattle.store.specs.declared.views.LineView.{LineView}
 use Rattle.store.specs.declared.views.LineView.the-variants as view
 use Rattle.store.specs.View.{placeOf, keyOf, past}
-use Rattle.store.specs.KeyStates.{lockIn, viewIn, viewOf}
+use Rattle.store.specs.Views.{lockIn, viewIn, viewOf}
 use Rattle.walks.specs.Walked.{lineBytes, entryBytes, partLen}
 use Rattle.walks.proofs.ListedLineLaws.{intentIn}
-use Rattle.pages.specs.Asks.{StretchAsks, EntryAsks}
-
--- ---- a stretch of the area, as the code cuts it out
-
-module _ (area : Bytes) (from len : ℕ) (h : from + len ≤ length area) where
-  stretch : take (from + len - from) (drop from area) ≡ bytesAt area from len
-  stretch = ap (λ (n : ℕ). take n (drop from area)) (add-sub-cancel-left from len)
-
-  stretch-long : length (take (from + len - from) (drop from area)) ≡ len
-  stretch-long = ap length stretch ∙ bytes-long area from len h
-
-  pub stretch-laid : (f : Bytes → Bytes) (k : ℕ) {at r : ℕ} {s t : Bytes} → Laid at (length (take (from + len - from) (drop from area)) + k) (f (take (from + len - from) (drop from area))) s r t → Laid at (len + k) (f (bytesAt area from len)) s r t
-  stretch-laid f k {at} {r} {s} {t} v = subst (λ (b : Bytes). Laid at (len + k) (f b) s r t) stretch (subst (λ (n : ℕ). Laid at (n + k) (f (take (from + len - from) (drop from area))) s r t) stretch-long v)
+use Rattle.store.specs.Stretches.{StretchAsks}
+use Rattle.pages.specs.Asks.{EntryAsks}
 
 -- ---- a key, and its row or lock
 

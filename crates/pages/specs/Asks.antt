@@ -9,12 +9,6 @@ use Rattle.store.specs.View.{noSlot}
 use Rattle.walks.specs.declared.walked.Walked.{Walked}
 use Rattle.walks.specs.Walked.{entryBytes, SlotIn}
 
--- a stretch of the area that a length byte can tell, and room for it and k bytes more from `at` on
-pub record StretchAsks (area : Bytes) (from len k at : ℕ) (out : Bytes) : Type 0 where
-  pub within : from + len ≤ length area
-  pub short : len ≤ 255
-  pub room : at + (len + k) ≤ length out
-
 -- a line that can be written, and room for its entry from `at` on
 pub record EntryAsks (area : Bytes) (s : Slot) (at : ℕ) (out : Bytes) : Type 0 where
   pub line : SlotIn area s

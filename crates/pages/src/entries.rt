@@ -3,16 +3,14 @@ ghost use Prim.Native.Nat.{_+_};
 ghost use lib.ListN.{length};
 ghost use Rattle.forms.specs.Bytes.{bytesAt, pieceBytes};
 ghost use Rattle.forms.specs.Writers.{Laid};
-ghost use Rattle.rules.specs.Written.{lockBytes};
-ghost use Rattle.store.specs.KeyStates.{lockIn};
 ghost use Rattle.walks.specs.Walked.{entryBytes};
-ghost use Rattle.pages.specs.Asks.{StretchAsks, EntryAsks};
+ghost use Rattle.store.specs.Stretches.{StretchAsks};
+ghost use Rattle.pages.specs.Asks.{EntryAsks};
 use forms::put_piece;
-use rules::put_lock;
 use store::LineView;
-use store::LockView;
 use store::Slot;
 use store::place_of;
+use store::put_intent;
 use store::view_of;
 
 // "a length byte and its bytes", of a stretch of the area
@@ -22,17 +20,6 @@ fn put_stretch(out: &mut [u8], at: usize, area: &[u8], from: usize, len: usize) 
 {
     let e = from + len;
     put_piece(out, at, &area[from..e])
-}
-
-// The lock of an intent, whose primary is a stretch of the area.
-fn put_intent(out: &mut [u8], at: usize, area: &[u8], l: LockView) -> usize
-    requires { ⌜ StretchAsks (now area) (l .at) (l .len) 26 at (now out) ⌝ }
-    ensures { λ r. ⌜ Laid at (l .len + 26) (lockBytes (lockIn (now (area .entry)) l)) (now (out .entry)) r (now (out .exit)) ⌝ }
-{
-    let from = l.at;
-    let e = from + l.len;
-    let kind = l.kind;
-    put_lock(out, at, l.txn, &area[from..e], l.start, l.ttl, kind)
 }
 
 // A line's key, and a record's row or an intent's lock.

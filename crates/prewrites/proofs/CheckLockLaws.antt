@@ -18,9 +18,10 @@ use Rattle.rules.specs.Prewrite.{PrewriteTerms, sameLock, lockStep}
 use Rattle.laws.proofs.StepLaws.{and-both, and-false, and-false-right}
 use Rattle.laws.proofs.ChainLaws.{own-out, own-on, last-out, last-on, denied, granted}
 use Rattle.store.specs.declared.views.LockView.{LockView}
-use Rattle.store.specs.declared.lookup.Locked.{Locked}
-use Rattle.store.specs.declared.lookup.Locked.the-variants.{Nobody, By}
-use Rattle.store.specs.KeyStates.{lockIn, lockedBy}
+use Rattle.lookups.specs.declared.lookup.Locked.{Locked}
+use Rattle.lookups.specs.declared.lookup.Locked.the-variants.{Nobody, By}
+use Rattle.store.specs.Views.{lockIn}
+use Rattle.lookups.specs.KeyStates.{lockedBy}
 use Rattle.prewrites.specs.Checks.{IntentIn, LockIn, rowHeld}
 
 -- ---- "own lock with any other field"

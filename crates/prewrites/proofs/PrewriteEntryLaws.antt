@@ -32,13 +32,14 @@ use Rattle.laws.proofs.LoadLaws.{load-fields}
 use Rattle.laws.proofs.StepLaws.{need-true, and-right}
 use Rattle.ledger.proofs.Unmet.{records-sound, prewrite-free}
 use Rattle.store.specs.declared.table.Store.{Store}
-use Rattle.store.specs.declared.lookup.Locked.{Locked}
-use Rattle.store.specs.declared.lookup.Locked.the-variants.{Nobody, By}
-use Rattle.store.specs.declared.lookup.KeyState.{KeyState}
+use Rattle.lookups.specs.declared.lookup.Locked.{Locked}
+use Rattle.lookups.specs.declared.lookup.Locked.the-variants.{Nobody, By}
+use Rattle.lookups.specs.declared.lookup.KeyState.{KeyState}
 use Rattle.store.specs.declared.views.LockView.{LockView}
 use Rattle.store.specs.View.{rowIf, boxOf}
 use Rattle.store.specs.Made.{Built}
-use Rattle.store.specs.KeyStates.{lockIn, lockedBy, LockThere, IntentThere, KeyStateAt}
+use Rattle.store.specs.Views.{lockIn}
+use Rattle.lookups.specs.KeyStates.{lockedBy, LockThere, IntentThere, KeyStateAt}
 use Rattle.forms.proofs.WriterLaws.{bytes-long}
 use Rattle.store.proofs.TidyLaws.{built-tidy}
 use Rattle.changes.specs.Loads.{rowSize, lockSize}

@@ -18,11 +18,11 @@ use Rattle.rules.specs.Calls.{rowArgument}
 use Rattle.rules.specs.Prewrite.{PrewriteTerms, lockStep, prewriteEntry, unlessLocked}
 use Rattle.laws.specs.Adds.{noLoad, plus, lockLoad, ofRow, prewriteAdds}
 use Rattle.store.specs.declared.table.Store.{Store}
-use Rattle.store.specs.declared.lookup.Locked.{Locked}
-use Rattle.store.specs.declared.lookup.Locked.the-variants.{Nobody, By}
+use Rattle.lookups.specs.declared.lookup.Locked.{Locked}
+use Rattle.lookups.specs.declared.lookup.Locked.the-variants.{Nobody, By}
 use Rattle.store.specs.declared.views.LockView.{LockView}
 use Rattle.store.specs.Made.{Built}
-use Rattle.store.specs.KeyStates.{lockedBy}
+use Rattle.lookups.specs.KeyStates.{lockedBy}
 use Rattle.calls.specs.Weights.{Light, Steps}
 use Rattle.calls.specs.declared.weights.Weight.{Weight}
 use Rattle.prewrites.specs.declared.heads.LockTerms.{LockTerms}

@@ -8,7 +8,8 @@ ghost use Rattle.forms.specs.Readers.{when};
 ghost use Rattle.rules.specs.Calls.{kindOf};
 ghost use Rattle.rules.specs.Prewrite.{sameLock, lockStep};
 ghost use Rattle.store.specs.View.{boxOf};
-ghost use Rattle.store.specs.KeyStates.{lockIn, lockedBy};
+ghost use Rattle.store.specs.Views.{lockIn};
+ghost use Rattle.lookups.specs.KeyStates.{lockedBy};
 ghost use Rattle.calls.specs.Weights.{EntryChecked};
 ghost use Rattle.prewrites.specs.Checks.{withPrimary, entryOf, stepsOf, LockIn, rowHeld, entrySteps, PartsShort, Weighs, EntryAsks};
 use crate::heads::LockTerms;
@@ -16,11 +17,11 @@ use calls::Checked;
 use calls::Weight;
 use changes::kind_for;
 use changes::lock_load;
+use lookups::Locked;
+use lookups::look_up;
 use rules::Answer;
 use store::LockView;
-use store::Locked;
 use store::Store;
-use store::look_up;
 
 // "own lock with any other field": primary, time to live or kind differs from the call's.
 fn same_lock(l: LockView, area: &[u8], terms: LockTerms, primary: &[u8], put: bool) -> bool
@@ -56,7 +57,7 @@ fn check_lock(
     match lock {
         Locked::Nobody => Answer::Accepted,
         Locked::By(l) => {
-            if !calls::owns(l, terms.txn, terms.start) {
+            if !store::owns(l, terms.txn, terms.start) {
                 return store::held_by(l);
             }
             if !same_lock(l, area, terms, primary, put) {

@@ -14,12 +14,13 @@ use Rattle.rules.specs.Box.{Box, Lock}
 use Rattle.rules.specs.Intent.{lockIf, unlessAbove, judgeLock, intentAt}
 use Rattle.store.specs.declared.table.Store.{Store}
 use Rattle.store.specs.declared.views.LockView.{LockView}
-use Rattle.store.specs.declared.lookup.Locked.{Locked}
-use Rattle.store.specs.declared.lookup.Locked.the-variants.{Nobody, By}
-use Rattle.store.specs.declared.lookup.KeyState.{KeyState}
+use Rattle.lookups.specs.declared.lookup.Locked.{Locked}
+use Rattle.lookups.specs.declared.lookup.Locked.the-variants.{Nobody, By}
+use Rattle.lookups.specs.declared.lookup.KeyState.{KeyState}
 use Rattle.store.specs.View.{boxOf}
 use Rattle.store.specs.Made.{Built}
-use Rattle.store.specs.KeyStates.{KeyStateAt, LockThere, lockIn, lockedBy}
+use Rattle.store.specs.Views.{lockIn}
+use Rattle.lookups.specs.KeyStates.{KeyStateAt, LockThere, lockedBy}
 use Rattle.laws.proofs.StepLaws.{answered}
 use Rattle.reads.specs.declared.seen.LockSeen.{LockSeen}
 use Rattle.reads.specs.declared.seen.LockSeen.the-variants as pointed

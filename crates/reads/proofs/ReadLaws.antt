@@ -28,14 +28,15 @@ use Rattle.rules.specs.Read.{lockLets, keepIf, atOrBelow, newestFirst, showRow,
 use Rattle.laws.proofs.StepLaws.{answered, and-left, and-right, and-both}
 use Rattle.store.specs.declared.table.Store.{Store}
 use Rattle.store.specs.declared.views.LockView.{LockView}
-use Rattle.store.specs.declared.lookup.Found.{Found}
-use Rattle.store.specs.declared.lookup.Found.the-variants.{Nothing, Is}
-use Rattle.store.specs.declared.lookup.Locked.{Locked}
-use Rattle.store.specs.declared.lookup.Locked.the-variants.{Nobody, By}
-use Rattle.store.specs.declared.lookup.KeyState.{KeyState}
+use Rattle.lookups.specs.declared.lookup.Found.{Found}
+use Rattle.lookups.specs.declared.lookup.Found.the-variants.{Nothing, Is}
+use Rattle.lookups.specs.declared.lookup.Locked.{Locked}
+use Rattle.lookups.specs.declared.lookup.Locked.the-variants.{Nobody, By}
+use Rattle.lookups.specs.declared.lookup.KeyState.{KeyState}
 use Rattle.store.specs.View.{rowIf, boxOf}
 use Rattle.store.specs.Made.{Built}
-use Rattle.store.specs.KeyStates.{lockIn, said, lockedBy, notRolled, examinedIf, examinedIn, FoundThere, KeyStateAt}
+use Rattle.store.specs.Views.{lockIn}
+use Rattle.lookups.specs.KeyStates.{said, lockedBy, notRolled, examinedIf, examinedIn, FoundThere, KeyStateAt}
 use Rattle.reads.specs.declared.seen.RowSeen.{RowSeen}
 use Rattle.reads.specs.declared.seen.RowSeen.the-variants as seen
 use Rattle.reads.specs.declared.seen.Reading.{Reading}

@@ -2,17 +2,26 @@
 -- Assumes nothing.
 use Prim.Native.Nat.{ℕ, _+_, _≤_}
 use mathlib.Core.Path.{_≡_}
+use mathlib.Core.Bool.{true}
 use lib.ListN.{length}
 use Rattle.forms.specs.Bytes.{Bytes, bytesAt}
+use Rattle.forms.specs.Key.{keyForm}
 use Rattle.forms.specs.Row.{Row}
 use Rattle.rules.specs.declared.answers.Answer.{Answer}
 use Rattle.rules.specs.declared.records.Kind.{Kind}
 use Rattle.rules.specs.declared.records.Kind.the-variants.{Put, Delete, Rollback}
 use Rattle.rules.specs.Answers.{Answered, Reply, nothing, shown, refused, answerOf}
 use Rattle.rules.specs.Box.{Lock}
-use Rattle.rules.specs.Read.{Examined}
-use Rattle.store.specs.declared.lookup.Found.{Found}
-use Rattle.store.specs.declared.lookup.Found.the-variants.{Nothing, Is}
+use Rattle.rules.specs.Read.{Examined, examine}
+use Rattle.rules.specs.Intent.{intentAt}
+use Rattle.store.specs.declared.table.Store.{Store}
+use Rattle.store.specs.View.{boxOf}
+use Rattle.store.specs.Made.{Built}
+use Rattle.lookups.specs.declared.lookup.Found.{Found}
+use Rattle.lookups.specs.declared.lookup.Found.the-variants.{Nothing, Is}
+use Rattle.lookups.specs.declared.lookup.Locked.{Locked}
+use Rattle.lookups.specs.declared.lookup.KeyState.{KeyState}
+use Rattle.lookups.specs.KeyStates.{KeyStateAt}
 use Rattle.reads.specs.declared.seen.RowSeen.{RowSeen}
 use Rattle.reads.specs.declared.seen.RowSeen.the-variants as seen
 use Rattle.reads.specs.declared.seen.Reading.{Reading}
@@ -43,6 +52,10 @@ pub record SeenAs (want : Reply Row) (area : Bytes) (r : RowSeen) : Type 0 where
 pub record ReadAs (want : Examined) (area : Bytes) (r : Reading) : Type 0 where
   pub seen-as : SeenAs (want .reply) area (r .seen)
   pub count-is : r .count ≡ want .count
+
+-- so it is by what the lookup found at the key, whatever the store
+abbrev pub ReadBy : KeyState → ℕ → Reading → Type 0
+ReadBy found m r = (st : Store) (area k : Bytes) → Built st area → keyForm k ≡ true → KeyStateAt st area k 0 m found → ReadAs (examine k m (boxOf st area)) area r
 
 -- a refusal before the first record: "Other refusals still count 0"
 abbrev pub unread : Answer → Reading
@@ -79,3 +92,8 @@ pub record PointedAs (want : Reply Lock) (area : Bytes) (r : LockSeen) : Type 0 
   pub answer-is : Answered (answerOf want) (answerOf (pointedIn area r))
   pub is : pointedIn area r ≡ want
   pub within : PointedBelow (length area) r
+
+-- so it is by the lock that the lookup found, whatever the store
+abbrev pub PointedBy : Locked → ℕ → LockSeen → Type 0
+PointedBy lock m r =
+    (st : Store) (area k : Bytes) (found : KeyState) → Built st area → keyForm k ≡ true → KeyStateAt st area k 0 m found → found .lock ≡ lock → PointedAs (intentAt k m (boxOf st area)) area r

@@ -3,25 +3,18 @@
 ghost use Rattle.rules.specs.Intent.{intentAt};
 ghost use Rattle.store.specs.View.{boxOf};
 ghost use Rattle.store.specs.Made.{Made};
-ghost use Rattle.reads.specs.Seen.{PointedAs};
+ghost use Rattle.reads.specs.Seen.{PointedAs, PointedBy};
 use crate::seen::LockSeen;
 use crate::seen::ShownLock;
+use lookups::Locked;
 use rules::Answer;
 use store::AREA;
-use store::Locked;
 use store::Store;
 
-pub fn intent_for_read(store: Store, area: &[u8; AREA], key: &[u8], moment: u64) -> LockSeen
-    requires { ⌜ Made store (now area) ⌝ }
-    ensures { λ r. ⌜ PointedAs (intentAt (now (key .entry)) moment (boxOf store (now (area .entry)))) (now (area .entry)) r ⌝ }
+// What is shown, by the lock of the key.
+fn lock_seen(lock: Locked, moment: u64) -> LockSeen
+    ensures { λ r. ⌜ PointedBy lock moment r ⌝ }
 {
-    if !forms::key_in_form(key) {
-        return LockSeen::Refused(Answer::No(1));
-    }
-    let lines = store.lines;
-    let load = store.load;
-    let found = store::look_up(lines, load, store.top, area, key, 0, moment);
-    let lock = found.lock;
     match lock {
         Locked::Nobody => LockSeen::Nothing,
         Locked::By(l) => {
@@ -39,4 +32,18 @@ pub fn intent_for_read(store: Store, area: &[u8; AREA], key: &[u8], moment: u64)
             })
         }
     }
+}
+
+pub fn intent_for_read(store: Store, area: &[u8; AREA], key: &[u8], moment: u64) -> LockSeen
+    requires { ⌜ Made store (now area) ⌝ }
+    ensures { λ r. ⌜ PointedAs (intentAt (now (key .entry)) moment (boxOf store (now (area .entry)))) (now (area .entry)) r ⌝ }
+{
+    if !forms::key_in_form(key) {
+        return LockSeen::Refused(Answer::No(1));
+    }
+    let lines = store.lines;
+    let load = store.load;
+    let found = lookups::look_up(lines, load, store.top, area, key, 0, moment);
+    let lock = found.lock;
+    lock_seen(lock, moment)
 }

@@ -6,15 +6,16 @@ ghost use Rattle.forms.specs.Bytes.{Bytes};
 ghost use Rattle.rules.specs.Read.{lockLets, examine};
 ghost use Rattle.store.specs.View.{boxOf};
 ghost use Rattle.store.specs.Made.{Made};
-ghost use Rattle.store.specs.KeyStates.{lockedBy};
-ghost use Rattle.reads.specs.Seen.{newestSeen, unread, ReadAs};
+ghost use Rattle.lookups.specs.KeyStates.{lockedBy};
+ghost use Rattle.reads.specs.Seen.{newestSeen, unread, ReadAs, ReadBy};
 use crate::seen::Reading;
 use crate::seen::RowSeen;
+use lookups::Found;
+use lookups::KeyState;
+use lookups::Locked;
 use rules::Answer;
 use rules::Kind;
 use store::AREA;
-use store::Found;
-use store::Locked;
 use store::Store;
 
 // "lock with start at or below the moment, 7"
@@ -62,19 +63,12 @@ fn refusal(answer: Answer) -> Reading
     }
 }
 
-pub fn read(store: Store, area: &[u8; AREA], key: &[u8], moment: u64) -> Reading
-    requires { ⌜ Made store (now area) ⌝ }
-    ensures { λ r. ⌜ ReadAs (examine (now (key .entry)) moment (boxOf store (now (area .entry)))) (now (area .entry)) r ⌝ }
+// What a read gives, by what stands at its key.
+fn read_found(found: KeyState, moment: u64) -> Reading
+    ensures { λ r. ⌜ ReadBy found moment r ⌝ }
 {
-    if !forms::key_in_form(key) {
-        return refusal(Answer::No(1));
-    }
-    let lines = store.lines;
-    let load = store.load;
-    let found = store::look_up(lines, load, store.top, area, key, 0, moment);
     let lock = found.lock;
-    let lets = lock_lets(lock, moment);
-    match lets {
+    match lock_lets(lock, moment) {
         Answer::Accepted => {
             let history = found.history;
             let newest = history.visible;
@@ -87,4 +81,17 @@ pub fn read(store: Store, area: &[u8; AREA], key: &[u8], moment: u64) -> Reading
         Answer::No(n) => refusal(Answer::No(n)),
         Answer::Held(h) => refusal(Answer::Held(h)),
     }
+}
+
+pub fn read(store: Store, area: &[u8; AREA], key: &[u8], moment: u64) -> Reading
+    requires { ⌜ Made store (now area) ⌝ }
+    ensures { λ r. ⌜ ReadAs (examine (now (key .entry)) moment (boxOf store (now (area .entry)))) (now (area .entry)) r ⌝ }
+{
+    if !forms::key_in_form(key) {
+        return refusal(Answer::No(1));
+    }
+    let lines = store.lines;
+    let load = store.load;
+    let found = lookups::look_up(lines, load, store.top, area, key, 0, moment);
+    read_found(found, moment)
 }

@@ -32,14 +32,15 @@ use Rattle.laws.proofs.RecordLaws.{stamped-in, rollback-kind}
 use Rattle.laws.proofs.RollbackLaws.{rollback-passed, RollbackLock, lock-free, lock-own, rollback-lock}
 use Rattle.ledger.proofs.Unmet.{own-ready, rollback-again, rollback-free}
 use Rattle.store.specs.declared.table.Store.{Store}
-use Rattle.store.specs.declared.lookup.Found.{Found}
-use Rattle.store.specs.declared.lookup.Found.the-variants.{Nothing, Is}
-use Rattle.store.specs.declared.lookup.Locked.{Locked}
-use Rattle.store.specs.declared.lookup.Locked.the-variants.{Nobody, By}
-use Rattle.store.specs.declared.lookup.KeyState.{KeyState}
+use Rattle.lookups.specs.declared.lookup.Found.{Found}
+use Rattle.lookups.specs.declared.lookup.Found.the-variants.{Nothing, Is}
+use Rattle.lookups.specs.declared.lookup.Locked.{Locked}
+use Rattle.lookups.specs.declared.lookup.Locked.the-variants.{Nobody, By}
+use Rattle.lookups.specs.declared.lookup.KeyState.{KeyState}
 use Rattle.store.specs.View.{boxOf}
 use Rattle.store.specs.Made.{goodLine, Built}
-use Rattle.store.specs.KeyStates.{lockIn, recordIn, said, lockedBy, KeyStateAt}
+use Rattle.store.specs.Views.{lockIn, recordIn}
+use Rattle.lookups.specs.KeyStates.{said, lockedBy, KeyStateAt}
 use Rattle.store.proofs.TidyLaws.{built-tidy}
 use Rattle.changes.specs.Changes.{Owned}
 use Rattle.changes.proofs.KeptLaws.{record-size}

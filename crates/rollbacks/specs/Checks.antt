@@ -17,9 +17,9 @@ use Rattle.rules.specs.Calls.{owns}
 use Rattle.rules.specs.Rollback.{rollbackKey}
 use Rattle.laws.specs.Adds.{rollbackAdds, rollbackFrees}
 use Rattle.store.specs.declared.table.Store.{Store}
-use Rattle.store.specs.declared.lookup.Found.{Found}
-use Rattle.store.specs.declared.lookup.Found.the-variants.{Nothing, Is}
-use Rattle.store.specs.declared.lookup.Locked.{Locked}
+use Rattle.lookups.specs.declared.lookup.Found.{Found}
+use Rattle.lookups.specs.declared.lookup.Found.the-variants.{Nothing, Is}
+use Rattle.lookups.specs.declared.lookup.Locked.{Locked}
 use Rattle.store.specs.Made.{Built}
 use Rattle.changes.specs.Loads.{recordSize, freedBy, FreedAsks}
 use Rattle.calls.specs.Weights.{noWeight, Steps}

@@ -3,19 +3,19 @@
 ghost use mathlib.Core.Path.{_≡_};
 ghost use Rattle.forms.specs.Bytes.{Bytes};
 ghost use Rattle.store.specs.View.{boxOf};
-ghost use Rattle.store.specs.KeyStates.{said, lockedBy};
+ghost use Rattle.lookups.specs.KeyStates.{said, lockedBy};
 ghost use Rattle.calls.specs.Weights.{EntryChecked};
 ghost use Rattle.rollbacks.specs.Checks.{stepsOf, rolledBy, ownStep, stampedStep, keySteps, weightOf, WeightAsks, KeyAsks};
 use calls::Checked;
 use calls::Weight;
 use changes::freed_by;
 use changes::record_load;
+use lookups::Found;
+use lookups::Locked;
+use lookups::look_up;
 use rules::Answer;
 use rules::Kind;
-use store::Found;
-use store::Locked;
 use store::Store;
-use store::look_up;
 
 // The record with this start, if the key has one, is a Rollback.
 fn rolled_by(started: Found) -> bool
@@ -37,7 +37,7 @@ fn own_step(lock: Locked, txn: u64, start: u64) -> Answer
     match lock {
         Locked::Nobody => Answer::Accepted,
         Locked::By(l) => {
-            if !calls::owns(l, txn, start) {
+            if !store::owns(l, txn, start) {
                 return store::held_by(l);
             }
             Answer::Accepted

@@ -1,7 +1,7 @@
 -- The laws of this crate that others cite, and its theorems.
 pub mod SoundLaws
 pub mod RoomLaws
-pub mod WriterLaws
+pub mod EntryWriterLaws
 pub mod Worked
 pub mod ShownRows
 pub mod ExaminedLaws

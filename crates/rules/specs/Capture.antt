@@ -14,18 +14,13 @@ use Rattle.forms.specs.Key.{Key}
 use Rattle.rules.specs.declared.answers.Answer.the-variants.{No}
 use Rattle.rules.specs.declared.records.Record.{Record}
 use Rattle.rules.specs.Box.{Box, Lock, Line, Standing, Finished, KeyLine, Default, kindByte}
-use Rattle.rules.specs.Read.{keepIf}
+use Rattle.rules.specs.Read.{those}
 use Rattle.rules.specs.Page.{KeyLock, locksOf}
 use Rattle.rules.specs.Written.{keyLockBytes, allBytes, Written, writeIf}
 use Rattle.rules.specs.Image.{Image, KeyRecord}
 use Rattle.rules.specs.Restore.{ofTable}
 
 -- ---- "that table's part of the store"
-
--- those of which the test holds, in their order
-unfoldable pub selected : {A : Type 0} → (A → Bool) → List A → List A
-selected p [] = []
-selected p (x ∷ xs) = keepIf (p x) x (selected p xs)
 
 -- the key of a line, and of a default, is of the table
 abbrev pub lineOfTable : ℕ → KeyLine → Bool
@@ -36,7 +31,7 @@ rowOfTable t d = ofTable t (d .key)
 
 -- "that table's part of the store": the entries whose key is of the table. A lock's primary is a field, and may be of another table.
 unfoldable pub partOf : ℕ → Box → Box
-partOf t b = record { lines = selected (lineOfTable t) (b .lines); defaults = selected (rowOfTable t) (b .defaults) }
+partOf t b = record { lines = those (lineOfTable t) (b .lines); defaults = those (rowOfTable t) (b .defaults) }
 
 -- ---- its entries
 

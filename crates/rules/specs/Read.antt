@@ -28,6 +28,11 @@ unfoldable pub keepIf : {A : Type 0} → Bool → A → List A → List A
 keepIf true x xs = x ∷ xs
 keepIf false x xs = xs
 
+-- those of which a test holds, in their order
+unfoldable pub those : {A : Type 0} → (A → Bool) → List A → List A
+those p [] = []
+those p (x ∷ xs) = keepIf (p x) x (those p xs)
+
 unfoldable pub atOrBelow : ℕ → List Record → List Record
 atOrBelow m [] = []
 atOrBelow m (w ∷ ws) = keepIf (leb (w .stamp) m) w (atOrBelow m ws)

@@ -75,6 +75,9 @@ boundsIn s a =
 
 -- ---- a call that shows something
 
+abbrev pub shownIn : Answer → ℕ → ℕ → Shown
+shownIn answer count len = record { answer = answer; count = count; len = len }
+
 -- the answer, the count, and the payload as the front of the buffer that was lent for it
 pub record ShownAs (answer : Answer) (count : ℕ) (payload : Bytes) (r : Shown) (buffer : Bytes) : Type 0 where
   pub answer-is : r .answer ≡ answer

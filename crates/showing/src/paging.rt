@@ -22,66 +22,32 @@ pub enum Which {
     Conflicts,
 }
 
-// The numbers are the moment and both limits, or the one limit of an intent page.
+// The numbers `a`, `b` and `c` are the moment and both limits, or the one limit of an intent page; `f`, `t` and `r` say whether there is a start,
+// an end, a resume key.
 fn scan(
     store: Store,
     area: &[u8; AREA],
     which: Which,
-    first: u64,
-    second: u64,
-    third: u64,
-    starts: bool,
-    start: &[u8],
-    ends: bool,
-    end: &[u8],
-    resumes: bool,
+    a: u64,
+    b: u64,
+    c: u64,
+    f: bool,
+    from: &[u8],
+    t: bool,
+    to: &[u8],
+    r: bool,
     resume: &[u8],
     page: &mut [u8],
 ) -> Wrote
     requires { ⌜ Made store (now area) ⌝ }
-    ensures { λ r. ⌜ WroteAs (scanned which (boundsOf starts (now (start .entry)) ends (now (end .entry)) resumes (now (resume .entry))) first second third (boxOf store (now (area .entry))) (now (page .entry))) r (now (page .exit)) ⌝ }
+    ensures { λ w. ⌜ WroteAs (scanned which (boundsOf f (now (from .entry)) t (now (to .entry)) r (now (resume .entry))) a b c (boxOf store (now (area .entry))) (now (page .entry))) w (now (page .exit)) ⌝ }
 {
     match which {
-        Which::Rows => pages::scan_page(
-            store,
-            area,
-            first,
-            second,
-            third,
-            starts,
-            start,
-            ends,
-            end,
-            resumes,
-            resume,
-            page,
-        ),
-        Which::Intents => pages::scan_intent_page(
-            store,
-            area,
-            first,
-            starts,
-            start,
-            ends,
-            end,
-            resumes,
-            resume,
-            page,
-        ),
-        Which::Conflicts => pages::scan_conflicting_intents(
-            store,
-            area,
-            first,
-            second,
-            third,
-            starts,
-            start,
-            ends,
-            end,
-            resumes,
-            resume,
-            page,
-        ),
+        Which::Rows => pages::scan_page(store, area, a, b, c, f, from, t, to, r, resume, page),
+        Which::Intents => pages::scan_intent_page(store, area, a, f, from, t, to, r, resume, page),
+        Which::Conflicts => {
+            pages::scan_conflicting_intents(store, area, a, b, c, f, from, t, to, r, resume, page)
+        }
     }
 }
 

@@ -9,7 +9,7 @@ use crate::paging::show_page;
 use crate::parts::part;
 use crate::ran::Ran;
 use crate::ran::Shown;
-use crate::replying::show_intent;
+use crate::replying::show_lock;
 use crate::replying::show_marks;
 use crate::replying::show_read;
 use crate::replying::show_stats;
@@ -37,7 +37,7 @@ fn show(
         ShowOp::Page => show_page(store, area, call, args, Which::Rows, payload),
         ShowOp::IntentPage => show_page(store, area, call, args, Which::Intents, payload),
         ShowOp::ConflictingIntents => show_page(store, area, call, args, Which::Conflicts, payload),
-        ShowOp::OneIntent => show_intent(store, area, key, args.first, payload),
+        ShowOp::OneIntent => show_lock(store, area, key, args.first, payload),
         ShowOp::Statistics => show_stats(store, area, payload),
         ShowOp::Marks => show_marks(store, area, payload),
     }

@@ -3,8 +3,9 @@ pub mod MemberLaws
 pub mod StoredLaws
 pub mod FreshLaws
 pub mod ViewLaws
-pub mod HistoryLaws
-pub mod LookUpLaws
+pub mod StretchLaws
+pub mod HolderLaws
+pub mod BuiltLaws
 pub mod KeySoundLaws
 pub mod NeedLaws
 pub mod TidyLaws

@@ -1,4 +1,5 @@
 -- The definitions of `store`, in the order in which they build on each other.
 pub mod View
 pub mod Made
-pub mod KeyStates
+pub mod Views
+pub mod Stretches

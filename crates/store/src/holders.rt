@@ -1,8 +1,9 @@
-// Answer 7 of a lock: who holds the key, since when, for how long and for what.
+// Who holds a lock: whether it is the call's own, and answer 7: who holds the key, since when, for how long and for what.
 ghost use mathlib.Core.Path.{_≡_};
 ghost use Rattle.forms.specs.Bytes.{Bytes};
 ghost use Rattle.rules.specs.Box.{holderOf};
-ghost use Rattle.store.specs.KeyStates.{lockIn};
+ghost use Rattle.rules.specs.Calls.{owns};
+ghost use Rattle.store.specs.Views.{lockIn};
 use crate::views::LockView;
 use rules::Answer;
 use rules::Holder;
@@ -20,4 +21,14 @@ pub fn held_by(l: LockView) -> Answer
         ttl: l.ttl,
         kind: byte,
     })
+}
+
+// Own means that both transaction and start are the call's.
+pub fn owns(l: LockView, txn: u64, start: u64) -> bool
+    ensures { λ r. ⌜ ((area : Bytes) → r ≡ owns txn start (lockIn area l)) ⌝ }
+{
+    if l.txn != txn {
+        return false;
+    }
+    l.start == start
 }

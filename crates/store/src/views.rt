@@ -4,8 +4,10 @@ ghost use Prim.Native.Nat.{_+_, _≤_};
 ghost use lib.ListN.{length};
 ghost use Rattle.forms.specs.Bytes.{cmp};
 ghost use Rattle.store.specs.View.{eightAt, past, placeOf, keyOf};
-ghost use Rattle.store.specs.KeyStates.{viewOf};
+ghost use Rattle.store.specs.Views.{lockView, recordView, viewOf};
 use crate::table::Line;
+use crate::table::LockSlot;
+use crate::table::RecordSlot;
 use crate::table::Slot;
 use crate::table::place_of;
 use forms::Order;
@@ -46,43 +48,51 @@ pub fn eight_at(area: &[u8], at: usize) -> u64
     n.value
 }
 
+fn lock_view(l: LockSlot, area: &[u8], at: usize) -> LockView
+    requires { ⌜ at + 8 + 8 + l .rowlen + 8 ≤ length (now area) ⌝ }
+    ensures { λ r. ⌜ r ≡ lockView (now (area .entry)) at l ⌝ }
+{
+    let next = at + 8;
+    let row = next + 8;
+    let size = l.rowlen as usize;
+    let mid = row + size;
+    let kind = l.kind;
+    LockView {
+        txn: eight_at(area, at),
+        start: eight_at(area, next),
+        ttl: eight_at(area, mid),
+        at: mid + 8,
+        len: l.plen as usize,
+        kind: kind,
+        rowat: row,
+        rowlen: size,
+    }
+}
+
+fn record_view(w: RecordSlot, area: &[u8], at: usize) -> RecordView
+    requires { ⌜ at + 8 + 8 ≤ length (now area) ⌝ }
+    ensures { λ r. ⌜ r ≡ recordView (now (area .entry)) at w ⌝ }
+{
+    let next = at + 8;
+    let kind = w.kind;
+    RecordView {
+        stamp: eight_at(area, at),
+        start: eight_at(area, next),
+        kind: kind,
+        rowat: next + 8,
+        rowlen: w.rowlen as usize,
+    }
+}
+
 pub fn view_of(s: Slot, area: &[u8]) -> LineView
     requires { ⌜ placeOf s + s .len + past (s .line) ≤ length (now area) ⌝ }
     ensures { λ r. ⌜ r ≡ viewOf (now (area .entry)) s ⌝ }
 {
     let at = place_of(s) + s.len as usize;
-    let first = eight_at(area, at);
-    let next = at + 8;
-    let start = eight_at(area, next);
-    let row = next + 8;
     let line = s.line;
     match line {
-        Line::Standing(l) => {
-            let kind = l.kind;
-            let size = l.rowlen as usize;
-            let mid = row + size;
-            let ttl = eight_at(area, mid);
-            LineView::Standing(LockView {
-                txn: first,
-                start: start,
-                ttl: ttl,
-                at: mid + 8,
-                len: l.plen as usize,
-                kind: kind,
-                rowat: row,
-                rowlen: size,
-            })
-        }
-        Line::Finished(w) => {
-            let kind = w.kind;
-            LineView::Finished(RecordView {
-                stamp: first,
-                start: start,
-                kind: kind,
-                rowat: row,
-                rowlen: w.rowlen as usize,
-            })
-        }
+        Line::Standing(l) => LineView::Standing(lock_view(l, area, at)),
+        Line::Finished(w) => LineView::Finished(record_view(w, area, at)),
     }
 }
 
@@ -94,4 +104,14 @@ pub fn slot_order(s: Slot, area: &[u8], key: &[u8]) -> Order
     let at = place_of(s);
     let e = at + s.len as usize;
     forms::compare(&area[at..e], key)
+}
+
+// How many bytes a line has past its key.
+pub fn past_key(line: Line) -> usize
+    ensures { λ r. ⌜ r ≡ past line ⌝ }
+{
+    match line {
+        Line::Standing(l) => 8 + 8 + l.rowlen as usize + 8 + l.plen as usize,
+        Line::Finished(w) => 8 + 8 + w.rowlen as usize,
+    }
 }

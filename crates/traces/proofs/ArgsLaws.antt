@@ -3,15 +3,15 @@
 use Prim.Native.Nat.{ℕ, _-_, _≤_, _<_, _^_}
 use native.Mathlib.Omega.{arith}
 use mathlib.Core.Path.{_≡_, refl, sym, _∙_, ap, subst}
-use mathlib.Core.Bool.{Bool, true, false, not, true≢false}
+use mathlib.Core.Bool.{Bool, true, false, not, _&&_, true≢false}
 use mathlib.Core.List.{[], _∷_}
 use mathlib.Core.Option.{Option, none, some}
 use lib.ListN.{length, getD, drop, length-drop}
 use lib.Seq.{drop-length}
-use lib.Dec.{ltb}
-use borrow.Author.Tests.{not-true, not-false}
+use lib.Dec.{ltb, eqb}
+use borrow.Author.Tests.{not-true, not-false, eqb-true, eqb-false}
 use Rattle.forms.specs.Bytes.{Bytes}
-use Rattle.forms.specs.Readers.{Read, Reader, readOn, _>>=_, just, ended, whole}
+use Rattle.forms.specs.Readers.{Read, Reader, readOn, _>>=_, just, ended, when, whole}
 use Rattle.forms.specs.Numbers.{numberOf}
 use Rattle.forms.specs.Key.{Key}
 use Rattle.forms.proofs.ReaderLaws.{after, byte-none, byte-at}
@@ -22,13 +22,18 @@ use Rattle.traces.specs.declared.op.ChangeOp.{ChangeOp}
 use Rattle.traces.specs.declared.op.Op.{Op}
 use Rattle.traces.specs.declared.shape.Shape.{Shape}
 use Rattle.traces.specs.declared.args.Args.{Args}
+use Rattle.traces.specs.declared.argument.Value.{Value}
+use Rattle.traces.specs.declared.argument.Text.{Text}
+use Rattle.traces.specs.declared.groups.Numbers.{Numbers}
+use Rattle.traces.specs.declared.groups.Texts.{Texts}
+use Rattle.traces.specs.declared.groups.Bounds.{Bounds}
 use Rattle.traces.specs.Ops.{knownOp, opOf, isCapture}
 use Rattle.traces.specs.Arguments.{number, kind, text, bound, remaining}
 use Rattle.traces.specs.Calls as calls
 use Rattle.traces.specs.Calls.{TraceCall, lending, call}
 use Rattle.traces.specs.Shapes.{shapeOf, shapeBy}
-use Rattle.traces.specs.Places.{goOn, given, firstWidth, bufferBy, bufferBelow, Goes}
-use Rattle.traces.specs.Args.{callBy, shaped, ArgsIn, ArgsFor, ArgsOf, noArgs}
+use Rattle.traces.specs.Places.{goOn, given, firstWidth, bufferBy, bufferBelow, BufferAt, Goes, TextAt, NumbersAt, TextsAt, BoundsAt}
+use Rattle.traces.specs.Args.{callBy, shaped, callOf, ArgsIn, ArgsFor, ArgsOf, argsRead, endsCall, noArgs}
 
 -- ---- one argument after another
 
@@ -65,14 +70,54 @@ module _ {s : Bytes} (w : Shape) {capture : Bool} (is-capture : capture ≡ isCa
       let xb : Goes true (bufferBy (isCapture (w .op)) (w .page)) 0 s oka na okb n nb = subst (λ (x : Bool). Goes true (bufferBy x (w .page)) 0 s oka na okb n nb) is-capture vb in
       record { within = vc .within; is = next x1 _ (next v2 _ (next v3 _ (next v4 _ (next v5 _ (next v6 _ (next v7 _ (next v8 _ (next v9 _ (next va _ (next xb _ (next vc _ refl))))))))))) }
 
--- how far the table and the buffer's length go
-pub first-below : (op : Op) {capture : Bool} {n : ℕ} → capture ≡ isCapture op → n < 256 ^ firstWidth capture → n < 256 ^ firstWidth (isCapture op)
-first-below op {n = n} e h = subst (λ (x : Bool). n < 256 ^ firstWidth x) e h
-
-pub buffer-below : (op : Op) {capture : Bool} {n : ℕ} → capture ≡ isCapture op → n < bufferBelow capture → n < bufferBelow (isCapture op)
-buffer-below op {n = n} e h = subst (λ (x : Bool). n < bufferBelow x) e h
-
 -- ---- to the end of the call
+
+ended-left : {A : Type 0} (x : A) (t : Bytes) → 0 < length t → ended (some (record { got = x; rest = t })) ≡ none
+unfolding ended
+ended-left x [] h = absurd (omega arith)
+ended-left x (y ∷ t) h = refl
+
+sub-pos : {a b : ℕ} → a ≤ b → (a ≡ b → ⊥) → 0 < b - a
+sub-pos {a} {b} l n = omega (arith, n)
+
+pub ends-ok : {ok b : Bool} → ok ≡ true → b ≡ ok && b
+ends-ok {b = b} e = sym (ap (λ (x : Bool). x && b) e)
+
+-- what is left after the last argument decides
+ended-at : {A : Type 0} (x : A) (s : Bytes) (end : ℕ) → end ≤ length s → ended (some (record { got = x; rest = drop end s })) ≡ when (eqb end (length s)) x
+unfolding ended
+ended-at x s end l = by-end (eqb end (length s)) refl
+  where
+    by-end : (b : Bool) → eqb end (length s) ≡ b → ended (some (record { got = x; rest = drop end s })) ≡ when b x
+    by-end true e = ap (λ (t : Bytes). ended (some (record { got = x; rest = t }))) (ap (λ (n : ℕ). drop n s) (eqb-true end (length s) e) ∙ drop-length s)
+    by-end false e = ended-left x (drop end s) (let z : 0 < length s - end = sub-pos l (eqb-false end (length s) e) in rw length-drop z)
+
+args-end : {s : Bytes} {w : Shape} {ok : Bool} {x : TraceCall} {end : ℕ} → Walked s w ok x end → whole (shaped w) (drop 1 s) ≡ when (ok && eqb end (length s)) x
+unfolding whole ended just
+args-end {s} {ok = true} {x = x} {end = end} v = ap ended (v .is) ∙ ended-at x s end (v .within)
+args-end {ok = false} v = ap ended (v .is)
+
+module _ {s : Bytes} (w : Shape) {capture : Bool} (is-capture : capture ≡ isCapture (w .op))
+    {n : Numbers} (vn : NumbersAt capture (w .numbers) s n)
+    {t : Texts} (vt : TextsAt (w .kind) (w .primary) (w .key) (w .row) s (n .third .ok) (n .third .next) t)
+    {b : Bounds} (vb : BoundsAt (w .page) s (t .row .ok) (t .row .next) b)
+    {buffer : Value} (vl : BufferAt capture (w .page) s (b .resume .ok) (b .resume .next) buffer)
+    {rest : Text} (vr : TextAt (w .rest) remaining s (buffer .ok) (buffer .next) rest) where
+  pub args-all : {ok : Bool} → ok ≡ endsCall s rest → ArgsFor s w (argsRead ok (w .op) n t b (buffer .value) rest)
+  args-all {ok} e = record {
+    is = args-end (walked w is-capture (vn .first .goes) (vn .second .goes) (vn .third .goes) (vt .kind) (vt .primary .goes) (vt .key .goes) (vt .row .goes) (vb .from .goes) (vb .to .goes) (vb .resume .goes) (vl .goes) (vr .goes)) ∙ ap (λ (f : Bool). when f (callOf s (argsRead ok (w .op) n t b (buffer .value) rest))) (sym e);
+    places = record {
+      primary = vt .primary .within;
+      key = vt .key .within;
+      row = vt .row .within;
+      from = vb .from .within;
+      to = vb .to .within;
+      resume = vb .resume .within;
+      rest = vr .within;
+      first = subst (λ (x : Bool). n .first .value < 256 ^ firstWidth x) is-capture (vn .first .small);
+      buffer = subst (λ (x : Bool). buffer .value < bufferBelow x) is-capture (vl .small);
+    };
+  }
 
 no-places : (s : Bytes) → ArgsIn s noArgs
 no-places s = record {
@@ -86,31 +131,6 @@ no-places s = record {
   first = omega arith;
   buffer = omega arith;
 }
-
-ended-left : {A : Type 0} (x : A) (t : Bytes) → 0 < length t → ended (some (record { got = x; rest = t })) ≡ none
-unfolding ended
-ended-left x [] h = absurd (omega arith)
-ended-left x (y ∷ t) h = refl
-
-sub-pos : {a b : ℕ} → a ≤ b → (a ≡ b → ⊥) → 0 < b - a
-sub-pos {a} {b} l n = omega (arith, n)
-
-read-on : {s : Bytes} {w : Shape} {ok : Bool} {x : TraceCall} {end : ℕ} → Walked s w ok x end → not ok ≡ false → shaped w (drop 1 s) ≡ some (record { got = x; rest = drop end s })
-unfolding just
-read-on {s} {w} {ok} {x} {end} v h = v .is ∙ ap (λ (b : Bool). goOn (just x) s b end) (not-false ok h)
-
-module _ {s : Bytes} {w : Shape} {ok : Bool} {x : TraceCall} {end : ℕ} (v : Walked s w ok x end) where
-  pub args-bad : not ok ≡ true → ArgsFor s w noArgs
-  unfolding whole ended
-  args-bad h = record { is = ap ended (v .is ∙ ap (λ (b : Bool). goOn (just x) s b end) (not-true ok h)); places = no-places s }
-
-  pub args-left : not ok ≡ false → (end ≡ length s → ⊥) → ArgsFor s w noArgs
-  unfolding whole
-  args-left h n = record { is = ap ended (read-on v h) ∙ ended-left x (drop end s) (let z : 0 < length s - end = sub-pos (v .within) n in rw length-drop z); places = no-places s }
-
-  pub args-whole : not ok ≡ false → end ≡ length s → whole (shaped w) (drop 1 s) ≡ some x
-  unfolding whole ended
-  args-whole h q = ap ended (read-on v h ∙ ap (λ (t : Bytes). some (record { got = x; rest = t })) (ap (λ (n : ℕ). drop n s) q ∙ drop-length s))
 
 -- ---- the op byte
 

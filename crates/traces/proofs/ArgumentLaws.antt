@@ -4,6 +4,7 @@ use Prim.Native.Nat.{ℕ, _+_, _-_, _≤_, _<_}
 use native.Mathlib.Omega.{arith}
 use mathlib.Core.Path.{_≡_, refl, sym, _∙_, ap, subst}
 use mathlib.Core.Bool.{Bool, true, false, not}
+use mathlib.Core.List.{[]}
 use mathlib.Core.Option.{some}
 use lib.ListN.{length, getD, drop}
 use lib.Seq.{drop-length}
@@ -20,7 +21,7 @@ use Rattle.forms.proofs.ReaderLaws.{after, byte-none, byte-at, stretch-good, st
 use Rattle.forms.proofs.NumberLaws.{power-pos, number-bad, number-good, number-long, width-some}
 use Rattle.rules.specs.declared.records.Kind.the-variants.{Put, Delete}
 use Rattle.traces.specs.Arguments.{longIf, longBuffer, kindIf, kind, text, boundIf, bound, remaining}
-use Rattle.traces.specs.Places.{goOn, given, Goes, ValueAt, firstWidth, BufferAt, TextAt, noText, BoundAt, noBound}
+use Rattle.traces.specs.Places.{goOn, given, Goes, ValueAt, noValue, firstWidth, BufferAt, TextAt, noText, BoundAt, noBound}
 use Rattle.traces.specs.declared.argument.Value.{Value}
 use Rattle.traces.specs.declared.argument.Text.{Text}
 
@@ -48,14 +49,14 @@ module _ {A : Type 0} {wanted : Bool} {r : Reader A} {y : A} {s : Bytes} {before
 
 -- ---- `number_from`
 
-pub value-stopped : {wanted : Bool} {w : ℕ} {s : Bytes} {before : Bool} {at : ℕ} → not before ≡ true → ValueAt wanted w s before at (record { ok = false; value = 0; next = 0 })
+pub value-stopped : {wanted : Bool} {w : ℕ} {s : Bytes} {before : Bool} {at : ℕ} → not before ≡ true → ValueAt wanted w s before at (noValue false 0)
 value-stopped {w = w} h = record { goes = goes-stopped h; small = power-pos w }
 
 module _ {wanted : Bool} {w : ℕ} {s : Bytes} {before : Bool} {at : ℕ} (go : not before ≡ false) where
-  pub value-past : not wanted ≡ true → at ≤ length s → ValueAt wanted w s before at (record { ok = true; value = 0; next = at })
+  pub value-past : not wanted ≡ true → at ≤ length s → ValueAt wanted w s before at (noValue true at)
   value-past h l = record { goes = goes-past go h l; small = power-pos w }
 
-  pub value-none : {n : Number} → not wanted ≡ false → NumberAt w s at n → not (n .ok) ≡ true → ValueAt wanted w s before at (record { ok = false; value = 0; next = 0 })
+  pub value-none : {n : Number} → not wanted ≡ false → NumberAt w s at n → not (n .ok) ≡ true → ValueAt wanted w s before at (noValue false 0)
   value-none h v bad = record { goes = goes-read go h (number-bad v bad) (omega arith); small = power-pos w }
 
   pub value-good : {n : Number} → not wanted ≡ false → NumberAt w s at n → not (n .ok) ≡ false → at + w ≤ length s → ValueAt wanted w s before at (record { ok = true; value = n .value; next = at + w })
@@ -88,8 +89,8 @@ module _ {capture page : Bool} {s : Bytes} {before : Bool} {at : ℕ} {r : Value
   buffer-short e v = subst (λ (b : Bool). BufferAt b page s before at r) (sym e) (record { goes = record { is = v .goes .is; within = v .goes .within }; small = v .small })
 
   module _ (e : capture ≡ true) (v : ValueAt true 4 s before at r) where
-    pub buffer-over : 262144 < r .value → BufferAt capture page s before at (record { ok = false; value = 0; next = 0 })
-    buffer-over h = subst (λ (b : Bool). BufferAt b page s before at (record { ok = false; value = 0; next = 0 })) (sym e) (record { goes = long-over (v .goes) h; small = omega arith })
+    pub buffer-over : 262144 < r .value → BufferAt capture page s before at (noValue false 0)
+    buffer-over h = subst (λ (b : Bool). BufferAt b page s before at (noValue false 0)) (sym e) (record { goes = long-over (v .goes) h; small = omega arith })
 
     pub buffer-long : r .value ≤ 262144 → BufferAt capture page s before at r
     buffer-long h = subst (λ (b : Bool). BufferAt b page s before at r) (sym e) (record { goes = long-fits (v .goes) h; small = omega arith })
@@ -118,39 +119,48 @@ module _ {wanted : Bool} {s : Bytes} {before : Bool} {at : ℕ} (go : not before
     unfolding kindIf
     kind-other n m = goes-read go has (kind-at s at l ∙ rw (ne-eqb _ _ n, ne-eqb _ _ m)) (omega arith)
 
--- ---- `text_from` and `rest_from`
+-- ---- `text_at`, `text_from` and `rest_from`
 
-text-at : {s : Bytes} {at : ℕ} {n : Number} → NumberAt 2 s at n → not (n .ok) ≡ false → text (drop at s) ≡ stretch (n .value) (drop (at + 2) s)
+text-here : {s : Bytes} {at : ℕ} {n : Number} → NumberAt 2 s at n → not (n .ok) ≡ false → text (drop at s) ≡ stretch (n .value) (drop (at + 2) s)
 unfolding text _>>=_ readOn
-text-at v good = after (λ n. stretch n) (number-good v good)
+text-here v good = after (λ n. stretch n) (number-good v good)
 
-pub text-stopped : {wanted : Bool} {t : Reader Bytes} {s : Bytes} {before : Bool} {at : ℕ} → not before ≡ true → TextAt wanted t s before at noText
+pub text-stopped : {s : Bytes} {before : Bool} {at : ℕ} → not before ≡ true → TextAt true text s before at (noText false 0)
 text-stopped h = record { goes = goes-stopped h; within = omega arith }
 
-module _ {wanted : Bool} {s : Bytes} {before : Bool} {at : ℕ} (go : not before ≡ false) where
-  pub text-past : {t : Reader Bytes} → not wanted ≡ true → at ≤ length s → TextAt wanted t s before at (record { ok = true; at = 0; len = 0; next = at })
-  text-past h l = record { goes = goes-past go h l; within = omega arith }
+module _ {s : Bytes} {before : Bool} {at : ℕ} (go : not before ≡ false) {n : Number} (v : NumberAt 2 s at n) where
+  pub text-none : not (n .ok) ≡ true → TextAt true text s before at (noText false 0)
+  unfolding text _>>=_ readOn
+  text-none bad = record { goes = goes-read go refl (after (λ n. stretch n) (number-bad v bad)) (omega arith); within = omega arith }
 
-  pub rest-good : not wanted ≡ false → at ≤ length s → TextAt wanted remaining s before at (record { ok = true; at = at; len = length s - at; next = length s })
+  module _ (good : not (n .ok) ≡ false) where
+    pub text-short : length s - (at + 2) < n .value → TextAt true text s before at (noText false 0)
+    text-short l = record { goes = goes-read go refl (text-here v good ∙ stretch-short s (at + 2) (n .value) l) (omega arith); within = omega arith }
+
+    pub text-good : n .value ≤ length s - (at + 2) → TextAt true text s before at (record { ok = true; at = at + 2; len = n .value; next = at + 2 + n .value })
+    text-good l =
+        let m : at + 2 + n .value ≤ length s = omega (arith, number-long v good) in
+        record { goes = goes-read go refl (text-here v good ∙ stretch-good s (at + 2) (n .value) l) m; within = m }
+
+module _ {wanted : Bool} {s : Bytes} {before : Bool} {at : ℕ} where
+  pub text-past : {t : Reader Bytes} → not wanted ≡ true → at ≤ length s → TextAt wanted t s before at (noText before at)
+  unfolding just
+  text-past {t} h l = subst (λ (w : Bool). TextAt w t s before at (noText before at)) (sym (not-true wanted h)) (record { goes = record { is = by-before before; within = l }; within = omega arith })
+    where
+      by-before : (b : Bool) → goOn (given false t []) s b at ≡ found s b (bytesAt s 0 0) at
+      by-before true = refl
+      by-before false = refl
+
+  pub text-given : {r : Text} → not wanted ≡ false → TextAt true text s before at r → TextAt wanted text s before at r
+  text-given {r} h v = subst (λ (w : Bool). TextAt w text s before at r) (sym (not-false wanted h)) v
+
+  pub rest-good : not wanted ≡ false → at ≤ length s → TextAt wanted remaining s before at (record { ok = before; at = at; len = length s - at; next = length s })
   unfolding remaining
-  rest-good h l = record {
-    goes = goes-read go h (ap (λ (b : Bytes). some (record { got = drop at s; rest = b })) (sym (drop-length s)) ∙ ap (λ (b : Bytes). found s true b (length s)) (sym (part-end at s))) (omega arith);
-    within = omega arith;
-  }
-
-  module _ (has : not wanted ≡ false) {n : Number} (v : NumberAt 2 s at n) where
-    pub text-none : not (n .ok) ≡ true → TextAt wanted text s before at noText
-    unfolding text _>>=_ readOn
-    text-none bad = record { goes = goes-read go has (after (λ n. stretch n) (number-bad v bad)) (omega arith); within = omega arith }
-
-    module _ (good : not (n .ok) ≡ false) where
-      pub text-short : length s - (at + 2) < n .value → TextAt wanted text s before at noText
-      text-short l = record { goes = goes-read go has (text-at v good ∙ stretch-short s (at + 2) (n .value) l) (omega arith); within = omega arith }
-
-      pub text-good : n .value ≤ length s - (at + 2) → TextAt wanted text s before at (record { ok = true; at = at + 2; len = n .value; next = at + 2 + n .value })
-      text-good l =
-          let m : at + 2 + n .value ≤ length s = omega (arith, number-long v good) in
-          record { goes = goes-read go has (text-at v good ∙ stretch-good s (at + 2) (n .value) l) m; within = m }
+  rest-good h l = subst (λ (w : Bool). TextAt w remaining s before at (record { ok = before; at = at; len = length s - at; next = length s })) (sym (not-false wanted h)) (record { goes = record { is = by-before before; within = omega arith }; within = omega arith })
+    where
+      by-before : (b : Bool) → goOn (given true remaining []) s b at ≡ found s b (bytesAt s at (length s - at)) (length s)
+      by-before true = ap (λ (b : Bytes). some (record { got = drop at s; rest = b })) (sym (drop-length s)) ∙ ap (λ (b : Bytes). found s true b (length s)) (sym (part-end at s))
+      by-before false = refl
 
 -- ---- `bound_from`
 
@@ -158,24 +168,24 @@ bound-at : (s : Bytes) (at : ℕ) → at < length s → bound (drop at s) ≡ bo
 unfolding bound _>>=_ readOn
 bound-at s at l = after (λ b. boundIf (eqb b 0) (eqb b 1)) (byte-at s at l)
 
-pub bound-stopped : {wanted : Bool} {s : Bytes} {before : Bool} {at : ℕ} → not before ≡ true → BoundAt wanted s before at noBound
+pub bound-stopped : {wanted : Bool} {s : Bytes} {before : Bool} {at : ℕ} → not before ≡ true → BoundAt wanted s before at (noBound false 0)
 bound-stopped h = record { goes = goes-stopped h; within = omega arith }
 
 module _ {wanted : Bool} {s : Bytes} {before : Bool} {at : ℕ} (go : not before ≡ false) where
-  pub bound-past : not wanted ≡ true → at ≤ length s → BoundAt wanted s before at (record { ok = true; present = false; at = 0; len = 0; next = at })
+  pub bound-past : not wanted ≡ true → at ≤ length s → BoundAt wanted s before at (noBound true at)
   bound-past h l = record { goes = goes-past go h l; within = omega arith }
 
   module _ (has : not wanted ≡ false) where
-    pub bound-none : length s ≤ at → BoundAt wanted s before at noBound
+    pub bound-none : length s ≤ at → BoundAt wanted s before at (noBound false 0)
     unfolding bound _>>=_ readOn
     bound-none h = record { goes = goes-read go has (after (λ b. boundIf (eqb b 0) (eqb b 1)) (byte-none s at h)) (omega arith); within = omega arith }
 
     module _ (l : at < length s) where
-      pub bound-absent : getD s at 0 ≡ 0 → BoundAt wanted s before at (record { ok = true; present = false; at = 0; len = 0; next = at + 1 })
+      pub bound-absent : getD s at 0 ≡ 0 → BoundAt wanted s before at (noBound true (at + 1))
       unfolding boundIf just
       bound-absent e = record { goes = goes-read go has (bound-at s at l ∙ rw (eq-eqb _ _ e)) (omega arith); within = omega arith }
 
-      pub bound-other : (getD s at 0 ≡ 0 → ⊥) → (getD s at 0 ≡ 1 → ⊥) → BoundAt wanted s before at noBound
+      pub bound-other : (getD s at 0 ≡ 0 → ⊥) → (getD s at 0 ≡ 1 → ⊥) → BoundAt wanted s before at (noBound false 0)
       unfolding boundIf
       bound-other n m = record { goes = goes-read go has (bound-at s at l ∙ rw (ne-eqb _ _ n, ne-eqb _ _ m)) (omega arith); within = omega arith }
 

@@ -17,7 +17,7 @@ use Rattle.forms.proofs.WriterLaws.{laid-then}
 use Rattle.rules.specs.declared.records.Kind.{Kind}
 use Rattle.rules.specs.declared.answers.Holder.{Holder}
 use Rattle.rules.specs.Written.{lockBytes}
-use Rattle.rules.proofs.WriterLaws.{lock-long}
+use Rattle.rules.proofs.EntryWriterLaws.{lock-long}
 use Rattle.traces.specs.Put.{room, lengthIf, putIf, Put}
 use Rattle.traces.specs.Payloads.{rowPayload, lockPayload}
 use Rattle.traces.specs.Answers.{answerFields}

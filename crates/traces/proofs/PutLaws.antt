@@ -12,7 +12,7 @@ use Rattle.forms.specs.Numbers.{digits}
 use Rattle.forms.specs.Writers.{Laid}
 use Rattle.forms.proofs.NumberLaws.{length-digits}
 use Rattle.rules.specs.Written.{allBytes}
-use Rattle.rules.proofs.WriterLaws.{Listing, listing-room}
+use Rattle.rules.proofs.EntryWriterLaws.{Listing, listing-room}
 use Rattle.traces.specs.Put.{room, lengthIf, putIf, Put}
 use Rattle.traces.specs.Payloads.{numbersBytes}
 

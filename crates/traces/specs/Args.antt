@@ -2,11 +2,11 @@
 -- Assumes nothing.
 use Prim.Native.Nat.{ℕ, _+_, _≤_, _<_, _^_}
 use mathlib.Core.Path.{_≡_}
-use mathlib.Core.Bool.{Bool, false}
+use mathlib.Core.Bool.{Bool, false, _&&_}
 use mathlib.Core.Option.{Option, none}
 use mathlib.Core.List.{[]}
 use lib.ListN.{length, drop}
-use lib.Dec.{ltb}
+use lib.Dec.{ltb, eqb}
 use Rattle.forms.specs.Bytes.{Bytes, bytesAt}
 use Rattle.forms.specs.Readers.{Reader, _>>=_, just, when, whole}
 use Rattle.forms.specs.Numbers.{numberOf}
@@ -20,10 +20,14 @@ use Rattle.traces.specs.declared.op.ChangeOp.{ChangeOp}
 use Rattle.traces.specs.declared.op.Op.{Op}
 use Rattle.traces.specs.declared.shape.Shape.{Shape}
 use Rattle.traces.specs.declared.args.Args.{Args}
+use Rattle.traces.specs.declared.argument.Text.{Text}
+use Rattle.traces.specs.declared.groups.Numbers.{Numbers}
+use Rattle.traces.specs.declared.groups.Texts.{Texts}
+use Rattle.traces.specs.declared.groups.Bounds.{Bounds}
 use Rattle.traces.specs.Ops.{isCapture}
 use Rattle.traces.specs.Arguments.{number, kind, text, bound, remaining}
 use Rattle.traces.specs.Calls.{TraceCall, lending, oneEntry, call}
-use Rattle.traces.specs.Places.{given, firstWidth, bufferBy, bufferBelow, kindOf}
+use Rattle.traces.specs.Places.{given, firstWidth, bufferBy, bufferBelow, kindOf, noValue, noFlag, noText, noBound}
 
 -- a call from its arguments, of which each takes its own
 abbrev pub callBy : Op → (first second third : ℕ) → Kind → (primary key row : Bytes) → (from to resume : Option Key) → (rest : Bytes) → Call
@@ -102,30 +106,43 @@ pub record ArgsOf (s : Bytes) (r : Args) : Type 0 where
   pub is : call s ≡ when (r .ok) (callOf s r)
   pub places : ArgsIn s r
 
-abbrev pub noArgs : Args
-noArgs = record {
-  ok = false;
-  op = Op.Shows ShowOp.Read;
-  first = 0;
-  second = 0;
-  third = 0;
-  put = false;
-  primaryat = 0;
-  primarylen = 0;
-  keyat = 0;
-  keylen = 0;
-  rowat = 0;
-  rowlen = 0;
-  from = false;
-  fromat = 0;
-  fromlen = 0;
-  to = false;
-  toat = 0;
-  tolen = 0;
-  resume = false;
-  resumeat = 0;
-  resumelen = 0;
-  buffer = 0;
-  restat = 0;
-  restlen = 0;
+-- ---- as they were read
+
+abbrev pub argsRead : Bool → Op → Numbers → Texts → Bounds → ℕ → Text → Args
+argsRead ok op n t b buffer rest = record {
+  ok = ok;
+  op = op;
+  first = n .first .value;
+  second = n .second .value;
+  third = n .third .value;
+  put = t .kind .put;
+  primaryat = t .primary .at;
+  primarylen = t .primary .len;
+  keyat = t .key .at;
+  keylen = t .key .len;
+  rowat = t .row .at;
+  rowlen = t .row .len;
+  from = b .from .present;
+  fromat = b .from .at;
+  fromlen = b .from .len;
+  to = b .to .present;
+  toat = b .to .at;
+  tolen = b .to .len;
+  resume = b .resume .present;
+  resumeat = b .resume .at;
+  resumelen = b .resume .len;
+  buffer = buffer;
+  restat = rest .at;
+  restlen = rest .len;
 }
+
+-- the last argument was read, and the call ends with it
+abbrev pub endsCall : Bytes → Text → Bool
+endsCall s rest = rest .ok && eqb (rest .next) (length s)
+
+abbrev pub noArgs : Args
+noArgs =
+    let v = noValue false 0 in
+    let t = noText false 0 in
+    let b = noBound false 0 in
+    argsRead false (Op.Shows ShowOp.Read) (record { first = v; second = v; third = v }) (record { kind = noFlag; primary = t; key = t; row = t }) (record { from = b; to = b; resume = b }) 0 t

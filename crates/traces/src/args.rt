@@ -2,21 +2,22 @@
 ghost use mathlib.Core.Path.{_≡_};
 ghost use Prim.Native.Nat.{_≤_};
 ghost use lib.ListN.{length};
-ghost use Rattle.traces.specs.Args.{noArgs, ArgsFor, ArgsOf};
-use crate::argument::bound_from;
+ghost use Rattle.traces.specs.Args.{noArgs, argsRead, endsCall, ArgsFor, ArgsOf};
+use crate::argument::Text;
 use crate::argument::buffer_from;
-use crate::argument::first_from;
-use crate::argument::kind_from;
-use crate::argument::number_from;
 use crate::argument::rest_from;
-use crate::argument::text_from;
+use crate::groups::Bounds;
+use crate::groups::Numbers;
+use crate::groups::Texts;
+use crate::groups::bounds_from;
+use crate::groups::numbers_from;
+use crate::groups::texts_from;
 use crate::op::Op;
 use crate::op::ShowOp;
 use crate::op::is_capture;
 use crate::op::known_op;
 use crate::shape::Shape;
 use crate::shape::shape_of;
-use forms::Width;
 
 // Not ok where the bytes are no call in form. An argument that the call has not is 0, or absent, or no bytes; the table is the first number.
 pub struct Args {
@@ -77,6 +78,48 @@ fn no_args() -> Args
     }
 }
 
+// The arguments of an op, as they were read.
+fn args_read(ok: bool, op: Op, n: Numbers, t: Texts, b: Bounds, buffer: usize, rest: Text) -> Args
+    ensures { λ r. ⌜ r ≡ argsRead ok op n t b buffer rest ⌝ }
+{
+    Args {
+        ok,
+        op,
+        first: n.first.value,
+        second: n.second.value,
+        third: n.third.value,
+        put: t.kind.put,
+        primaryat: t.primary.at,
+        primarylen: t.primary.len,
+        keyat: t.key.at,
+        keylen: t.key.len,
+        rowat: t.row.at,
+        rowlen: t.row.len,
+        from: b.from.present,
+        fromat: b.from.at,
+        fromlen: b.from.len,
+        to: b.to.present,
+        toat: b.to.at,
+        tolen: b.to.len,
+        resume: b.resume.present,
+        resumeat: b.resume.at,
+        resumelen: b.resume.len,
+        buffer,
+        restat: rest.at,
+        restlen: rest.len,
+    }
+}
+
+// "bytes missing or left over in a call": neither is so.
+fn ends_call(call: &[u8], rest: Text) -> bool
+    ensures { λ r. ⌜ r ≡ endsCall (now (call .entry)) rest ⌝ }
+{
+    if rest.ok {
+        return rest.next == call.len();
+    }
+    false
+}
+
 // The arguments that a shape names, after the op byte, to the end of the call.
 fn args_for(call: &[u8], shape: Shape) -> Args
     requires { ⌜ 1 ≤ length (now call) ⌝ }
@@ -84,56 +127,21 @@ fn args_for(call: &[u8], shape: Shape) -> Args
 {
     let op = shape.op;
     let capture = is_capture(op);
-    let first = first_from(call, capture, 0 < shape.numbers);
-    let second = number_from(call, first.ok, first.next, Width::Eight, 1 < shape.numbers);
-    let third = number_from(
+    let n = numbers_from(call, capture, shape.numbers);
+    let t = texts_from(
         call,
-        second.ok,
-        second.next,
-        Width::Eight,
-        2 < shape.numbers,
+        n.third.ok,
+        n.third.next,
+        shape.kind,
+        shape.primary,
+        shape.key,
+        shape.row,
     );
-    let kind = kind_from(call, third.ok, third.next, shape.kind);
-    let primary = text_from(call, kind.ok, kind.next, shape.primary);
-    let key = text_from(call, primary.ok, primary.next, shape.key);
-    let row = text_from(call, key.ok, key.next, shape.row);
-    let from = bound_from(call, row.ok, row.next, shape.page);
-    let to = bound_from(call, from.ok, from.next, shape.page);
-    let resume = bound_from(call, to.ok, to.next, shape.page);
-    let buffer = buffer_from(call, resume.ok, resume.next, capture, shape.page);
+    let b = bounds_from(call, t.row.ok, t.row.next, shape.page);
+    let buffer = buffer_from(call, b.resume.ok, b.resume.next, capture, shape.page);
     let rest = rest_from(call, buffer.ok, buffer.next, shape.rest);
-    if !rest.ok {
-        return no_args();
-    }
-    if rest.next != call.len() {
-        return no_args();
-    }
-    Args {
-        ok: true,
-        op,
-        first: first.value,
-        second: second.value,
-        third: third.value,
-        put: kind.put,
-        primaryat: primary.at,
-        primarylen: primary.len,
-        keyat: key.at,
-        keylen: key.len,
-        rowat: row.at,
-        rowlen: row.len,
-        from: from.present,
-        fromat: from.at,
-        fromlen: from.len,
-        to: to.present,
-        toat: to.at,
-        tolen: to.len,
-        resume: resume.present,
-        resumeat: resume.at,
-        resumelen: resume.len,
-        buffer: buffer.value as usize,
-        restat: rest.at,
-        restlen: rest.len,
-    }
+    let ok = ends_call(call, rest);
+    args_read(ok, op, n, t, b, buffer.value as usize, rest)
 }
 
 // "A call is an op byte and its arguments"

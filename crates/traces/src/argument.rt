@@ -1,5 +1,6 @@
 // The arguments of a call, one after the other. Each function goes on at the place where the one before it ended, and refuses where that
-// refused; an argument that the call has not is passed over.
+// refused; an argument that the call has not is passed over. What stands for one that is refused or passed over is `no_value` and its like: not
+// ok, or ok with the place where the next begins.
 ghost use mathlib.Core.Path.{_≡_};
 ghost use mathlib.Core.Bool.{true};
 ghost use Prim.Native.Nat.{_≤_};
@@ -7,7 +8,7 @@ ghost use lib.ListN.{length};
 ghost use Rattle.forms.specs.Numbers.{widthOf};
 ghost use Rattle.rules.specs.declared.records.Kind.the-variants.{Delete};
 ghost use Rattle.traces.specs.Arguments.{kind, text, remaining};
-ghost use Rattle.traces.specs.Places.{Goes, ValueAt, firstWidth, BufferAt, TextAt, BoundAt, kindOf, noFlag, noText, noBound};
+ghost use Rattle.traces.specs.Places.{Goes, ValueAt, firstWidth, BufferAt, TextAt, BoundAt, kindOf, noValue, noFlag, noText, noBound};
 use forms::Width;
 use forms::bytes_in;
 use forms::number_at;
@@ -18,31 +19,25 @@ pub struct Value {
     pub next: usize,
 }
 
+fn no_value(ok: bool, next: usize) -> Value
+    ensures { λ r. ⌜ r ≡ noValue ok next ⌝ }
+{
+    Value { ok, value: 0, next }
+}
+
 pub(crate) fn number_from(s: &[u8], before: bool, at: usize, width: Width, wanted: bool) -> Value
     requires { ⌜ at ≤ length (now s) ⌝ }
     ensures { λ r. ⌜ ValueAt wanted (widthOf width) (now (s .entry)) before at r ⌝ }
 {
     if !before {
-        return Value {
-            ok: false,
-            value: 0,
-            next: 0,
-        };
+        return no_value(false, 0);
     }
     if !wanted {
-        return Value {
-            ok: true,
-            value: 0,
-            next: at,
-        };
+        return no_value(true, at);
     }
     let n = number_at(s, at, width);
     if !n.ok {
-        return Value {
-            ok: false,
-            value: 0,
-            next: 0,
-        };
+        return no_value(false, 0);
     }
     let w = bytes_in(width);
     Value {
@@ -74,11 +69,7 @@ pub(crate) fn buffer_from(s: &[u8], before: bool, at: usize, capture: bool, page
     if capture {
         let n = number_from(s, before, at, Width::Four, true);
         if LONG < n.value {
-            return Value {
-                ok: false,
-                value: 0,
-                next: 0,
-            };
+            return no_value(false, 0);
         }
         return n;
     }
@@ -144,41 +135,33 @@ pub struct Text {
     pub next: usize,
 }
 
-fn no_text() -> Text
-    ensures { λ r. ⌜ r ≡ noText ⌝ }
+fn no_text(ok: bool, next: usize) -> Text
+    ensures { λ r. ⌜ r ≡ noText ok next ⌝ }
 {
     Text {
-        ok: false,
+        ok,
         at: 0,
         len: 0,
-        next: 0,
+        next,
     }
 }
 
 // "a 2-byte length, then that many bytes of any value"
-pub(crate) fn text_from(s: &[u8], before: bool, at: usize, wanted: bool) -> Text
+fn text_at(s: &[u8], before: bool, at: usize) -> Text
     requires { ⌜ at ≤ length (now s) ⌝ }
-    ensures { λ r. ⌜ TextAt wanted text (now (s .entry)) before at r ⌝ }
+    ensures { λ r. ⌜ TextAt true text (now (s .entry)) before at r ⌝ }
 {
     if !before {
-        return no_text();
-    }
-    if !wanted {
-        return Text {
-            ok: true,
-            at: 0,
-            len: 0,
-            next: at,
-        };
+        return no_text(false, 0);
     }
     let n = number_at(s, at, Width::Two);
     if !n.ok {
-        return no_text();
+        return no_text(false, 0);
     }
     let a = at + 2;
     let len = n.value as usize;
     if s.len() - a < len {
-        return no_text();
+        return no_text(false, 0);
     }
     Text {
         ok: true,
@@ -188,24 +171,27 @@ pub(crate) fn text_from(s: &[u8], before: bool, at: usize, wanted: bool) -> Text
     }
 }
 
+// A key, a primary or a row.
+pub(crate) fn text_from(s: &[u8], before: bool, at: usize, wanted: bool) -> Text
+    requires { ⌜ at ≤ length (now s) ⌝ }
+    ensures { λ r. ⌜ TextAt wanted text (now (s .entry)) before at r ⌝ }
+{
+    if !wanted {
+        return no_text(before, at);
+    }
+    text_at(s, before, at)
+}
+
 // "the rest of the call, any bytes"
 pub(crate) fn rest_from(s: &[u8], before: bool, at: usize, wanted: bool) -> Text
     requires { ⌜ at ≤ length (now s) ⌝ }
     ensures { λ r. ⌜ TextAt wanted remaining (now (s .entry)) before at r ⌝ }
 {
-    if !before {
-        return no_text();
-    }
     if !wanted {
-        return Text {
-            ok: true,
-            at: 0,
-            len: 0,
-            next: at,
-        };
+        return no_text(before, at);
     }
     Text {
-        ok: true,
+        ok: before,
         at,
         len: s.len() - at,
         next: s.len(),
@@ -220,15 +206,15 @@ pub struct Bound {
     pub next: usize,
 }
 
-fn no_bound() -> Bound
-    ensures { λ r. ⌜ r ≡ noBound ⌝ }
+fn no_bound(ok: bool, next: usize) -> Bound
+    ensures { λ r. ⌜ r ≡ noBound ok next ⌝ }
 {
     Bound {
-        ok: false,
+        ok,
         present: false,
         at: 0,
         len: 0,
-        next: 0,
+        next,
     }
 }
 
@@ -238,33 +224,21 @@ pub(crate) fn bound_from(s: &[u8], before: bool, at: usize, wanted: bool) -> Bou
     ensures { λ r. ⌜ BoundAt wanted (now (s .entry)) before at r ⌝ }
 {
     if !before {
-        return no_bound();
+        return no_bound(false, 0);
     }
     if !wanted {
-        return Bound {
-            ok: true,
-            present: false,
-            at: 0,
-            len: 0,
-            next: at,
-        };
+        return no_bound(true, at);
     }
     if s.len() <= at {
-        return no_bound();
+        return no_bound(false, 0);
     }
     let b = s[at];
     let f = at + 1;
     if b == 0 {
-        return Bound {
-            ok: true,
-            present: false,
-            at: 0,
-            len: 0,
-            next: f,
-        };
+        return no_bound(true, f);
     }
     if b == 1 {
-        let t = text_from(s, true, f, true);
+        let t = text_at(s, true, f);
         return Bound {
             ok: t.ok,
             present: true,
@@ -273,5 +247,5 @@ pub(crate) fn bound_from(s: &[u8], before: bool, at: usize, wanted: bool) -> Bou
             next: t.next,
         };
     }
-    no_bound()
+    no_bound(false, 0)
 }

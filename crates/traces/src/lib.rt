@@ -4,6 +4,7 @@
 pub mod answer;
 pub mod args;
 pub mod argument;
+pub mod groups;
 pub mod op;
 pub mod payload;
 pub mod shape;

@@ -2,7 +2,7 @@
 // the three bounds and the buffer's length, the rest. The call that writes the image has its table as its one number, and a long buffer.
 ghost use mathlib.Core.Path.{_≡_};
 ghost use Rattle.traces.specs.Ops.{opOf};
-ghost use Rattle.traces.specs.Shapes.{shapeBy, noShape, withKey, withPage, withRest};
+ghost use Rattle.traces.specs.Shapes.{shapeBy, noShape, withKey, withNumbers, withPage, withRest};
 use crate::op::ChangeOp;
 use crate::op::Op;
 use crate::op::ShowOp;
@@ -20,13 +20,14 @@ pub struct Shape {
     pub rest: bool,
 }
 
-fn no_shape() -> Shape
-    ensures { λ r. ⌜ r ≡ noShape ⌝ }
+// Numbers alone.
+fn with_numbers(op: Op, numbers: u8) -> Shape
+    ensures { λ r. ⌜ r ≡ withNumbers op numbers ⌝ }
 {
     Shape {
-        ok: false,
-        op: Op::Shows(ShowOp::Read),
-        numbers: 0,
+        ok: true,
+        op,
+        numbers,
         kind: false,
         primary: false,
         key: false,
@@ -34,6 +35,15 @@ fn no_shape() -> Shape
         page: false,
         rest: false,
     }
+}
+
+// No call.
+fn no_shape() -> Shape
+    ensures { λ r. ⌜ r ≡ noShape ⌝ }
+{
+    let mut shape = with_numbers(Op::Shows(ShowOp::Read), 0);
+    shape.ok = false;
+    shape
 }
 
 // Numbers, then a key; a prewrite has its kind and primary before it and its row after it.
@@ -57,34 +67,19 @@ fn with_key(op: Op, numbers: u8, prewrite: bool) -> Shape
 fn with_page(op: Op, numbers: u8) -> Shape
     ensures { λ r. ⌜ r ≡ withPage op numbers ⌝ }
 {
-    Shape {
-        ok: true,
-        op,
-        numbers,
-        kind: false,
-        primary: false,
-        key: false,
-        row: false,
-        page: true,
-        rest: false,
-    }
+    let mut shape = with_numbers(op, numbers);
+    shape.page = true;
+    shape
 }
 
-// Numbers, and the primary if there is one, then the rest of the call if it is an argument.
-fn with_rest(op: Op, numbers: u8, primary: bool, rest: bool) -> Shape
-    ensures { λ r. ⌜ r ≡ withRest op numbers primary rest ⌝ }
+// Numbers, and the primary if there is one, then the rest of the call.
+fn with_rest(op: Op, numbers: u8, primary: bool) -> Shape
+    ensures { λ r. ⌜ r ≡ withRest op numbers primary ⌝ }
 {
-    Shape {
-        ok: true,
-        op,
-        numbers,
-        kind: false,
-        primary,
-        key: false,
-        row: false,
-        page: false,
-        rest,
-    }
+    let mut shape = with_numbers(op, numbers);
+    shape.primary = primary;
+    shape.rest = true;
+    shape
 }
 
 // The table of calls: the op byte, and the arguments.
@@ -98,16 +93,16 @@ pub(crate) fn shape_of(byte: u8) -> Shape
         4 => with_page(Op::Shows(ShowOp::ConflictingIntents), 3),
         5 => with_key(Op::Shows(ShowOp::OneIntent), 1, false),
         6 => with_key(Op::Changes(ChangeOp::Prewrite), 3, true),
-        7 => with_rest(Op::Changes(ChangeOp::PrewriteBatch), 3, true, true),
+        7 => with_rest(Op::Changes(ChangeOp::PrewriteBatch), 3, true),
         8 => with_key(Op::Changes(ChangeOp::Commit), 3, false),
-        9 => with_rest(Op::Changes(ChangeOp::CommitBatch), 3, false, true),
+        9 => with_rest(Op::Changes(ChangeOp::CommitBatch), 3, false),
         10 => with_key(Op::Changes(ChangeOp::Rollback), 2, false),
-        11 => with_rest(Op::Changes(ChangeOp::RollbackBatch), 2, false, true),
-        12 => with_rest(Op::OneStep, 3, false, true),
-        32 => with_rest(Op::Changes(ChangeOp::Restore), 0, false, true),
-        33 => with_rest(Op::Shows(ShowOp::Statistics), 0, false, false),
-        34 => with_rest(Op::Shows(ShowOp::Marks), 0, false, false),
-        35 => with_rest(Op::Capture, 1, false, false),
+        11 => with_rest(Op::Changes(ChangeOp::RollbackBatch), 2, false),
+        12 => with_rest(Op::OneStep, 3, false),
+        32 => with_rest(Op::Changes(ChangeOp::Restore), 0, false),
+        33 => with_numbers(Op::Shows(ShowOp::Statistics), 0),
+        34 => with_numbers(Op::Shows(ShowOp::Marks), 0),
+        35 => with_numbers(Op::Capture, 1),
         _ => no_shape(),
     }
 }

@@ -20,7 +20,7 @@ use Rattle.rules.specs.Box.{Lock, eqKind}
 use Rattle.rules.specs.Sound.{soundLock}
 use Rattle.rules.specs.Page.{Page, Limits, KeyRow, KeyLock, onPage, tooLarge, costStep, limitStep, onJudged, rowCost, lockCost, Bounds, inBounds, locksOf, locksWithin, pageWalk, soundStep, intentWalk, unlessAbove, conflicting}
 use Rattle.rules.specs.Written.{pieceBytes, lockBytes, keyRowBytes, keyLockBytes}
-use Rattle.rules.proofs.WriterLaws.{lock-long}
+use Rattle.rules.proofs.EntryWriterLaws.{lock-long}
 use Rattle.laws.proofs.StepLaws.{and-right}
 use Rattle.store.specs.declared.table.Slot.{Slot}
 use Rattle.store.specs.declared.table.LockSlot.{LockSlot}
@@ -30,7 +30,7 @@ use Rattle.store.specs.declared.table.Line.the-variants.{Standing, Finished}
 use Rattle.store.specs.declared.views.LockView.{LockView}
 use Rattle.store.specs.declared.views.RecordView.{RecordView}
 use Rattle.store.specs.View.{placeOf, eightAt, past, rowLen, keyOf, rowIn, lineIn}
-use Rattle.store.specs.KeyStates.{viewIn, lockIn}
+use Rattle.store.specs.Views.{viewIn, lockIn}
 use Rattle.walks.specs.Walked.{pageOn, lineBytes, entryBytes, partLen}
 use Rattle.walks.specs.Turns.{costIn, costOf, stopIf, largeIf, add, roomTurn, turnTo, turnDue}
 use Rattle.walks.proofs.WalkLaws.{AddFits, TurnGood, Stepped}

@@ -28,9 +28,9 @@ use Rattle.store.specs.declared.views.LockView.{LockView}
 use Rattle.store.specs.declared.views.RecordView.{RecordView}
 use Rattle.store.specs.declared.views.LineView.the-variants as view
 use Rattle.store.specs.View.{keyOf, rowIn}
-use Rattle.store.specs.KeyStates.{lockIn, recordIn}
+use Rattle.store.specs.Views.{lockIn, recordIn}
 use Rattle.store.proofs.MemberLaws.{lock-shown}
-use Rattle.store.proofs.HistoryLaws.{first-more, records-append, orLock, lock-append}
+use Rattle.lookups.proofs.HistoryLaws.{first-more, records-append, orLock, lock-append}
 use Rattle.walks.specs.declared.dues.Listed.{Listed}
 use Rattle.walks.specs.declared.dues.Listed.the-variants.{Nothing, Line}
 use Rattle.walks.specs.declared.dues.Due.{Due}

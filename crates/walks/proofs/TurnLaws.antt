@@ -16,8 +16,8 @@ use Rattle.store.specs.declared.views.LockView.{LockView}
 use Rattle.store.specs.declared.views.RecordView.{RecordView}
 use Rattle.store.specs.declared.views.LineView.{LineView}
 use Rattle.store.specs.declared.views.LineView.the-variants as view
-use Rattle.store.specs.declared.lookup.Locked.the-variants.{By}
-use Rattle.store.specs.KeyStates.{lockedBy}
+use Rattle.lookups.specs.declared.lookup.Locked.the-variants.{By}
+use Rattle.lookups.specs.KeyStates.{lockedBy}
 use Rattle.walks.specs.declared.walked.Scan.{Scan}
 use Rattle.walks.specs.declared.walked.Scan.the-variants.{Rows, Intents, Conflicts}
 use Rattle.walks.specs.declared.dues.Due.{Due}

@@ -19,7 +19,7 @@ use Rattle.rules.specs.declared.answers.Answer.the-variants.{Accepted, No, Held
 use Rattle.rules.specs.Answers.{Reply, shown, refused, ifPassed, need, _▸_}
 use Rattle.rules.specs.Page.{Page, emptyPage, onPage, Bounds, pageArguments, intentArguments, pastEnd, unlessPast, page, intentPage, conflictPage}
 use Rattle.rules.specs.Written.{allBytes, moreByte, pageBytes}
-use Rattle.rules.proofs.WriterLaws.{bytes-snoc}
+use Rattle.rules.proofs.EntryWriterLaws.{bytes-snoc}
 use Rattle.store.specs.declared.table.Slot.{Slot}
 use Rattle.store.specs.View.{noSlot}
 use Rattle.walks.specs.declared.turns.Turn.{Turn}

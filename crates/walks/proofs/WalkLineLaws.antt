@@ -32,9 +32,9 @@ use Rattle.store.specs.declared.table.Line.{Line}
 use Rattle.store.specs.declared.table.Line.the-variants.{Standing, Finished}
 use Rattle.store.specs.View.{placeOf, rowIf, lineIn, keyOf, lineOf, rowIn, boxOf, noSlot, defaultIn, stored}
 use Rattle.store.specs.Made.{Built, goodLine, soundLine}
-use Rattle.store.specs.KeyStates.{viewIn, viewOf}
+use Rattle.store.specs.Views.{viewIn, viewOf}
 use Rattle.store.proofs.MemberLaws.{fewer-take}
-use Rattle.store.proofs.LookUpLaws.{lines-order, slot-in, row-there}
+use Rattle.store.proofs.BuiltLaws.{lines-order, slot-in, row-there}
 use Rattle.store.proofs.KeySoundLaws.{good-in, row-form, row-shown}
 use Rattle.walks.specs.declared.walked.Scan.{Scan}
 use Rattle.walks.specs.declared.walked.Scan.the-variants.{Rows, Intents, Conflicts}

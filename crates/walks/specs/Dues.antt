@@ -13,7 +13,7 @@ use Rattle.rules.specs.Box.{holderOf}
 use Rattle.store.specs.declared.table.Slot.{Slot}
 use Rattle.store.specs.declared.views.LineView.{LineView}
 use Rattle.store.specs.declared.views.LineView.the-variants as view
-use Rattle.store.specs.KeyStates.{lockIn}
+use Rattle.store.specs.Views.{lockIn}
 use Rattle.walks.specs.declared.walked.Scan.{Scan}
 use Rattle.walks.specs.declared.walked.Scan.the-variants.{Rows, Intents, Conflicts}
 use Rattle.walks.specs.declared.dues.Listed.{Listed}

@@ -22,7 +22,7 @@ use Rattle.store.specs.declared.views.LineView.{LineView}
 use Rattle.store.specs.declared.views.LineView.the-variants as view
 use Rattle.store.specs.View.{placeOf, keyOf, past, noSlot}
 use Rattle.store.specs.Made.{Built}
-use Rattle.store.specs.KeyStates.{lockIn, viewOf}
+use Rattle.store.specs.Views.{lockIn, viewOf}
 use Rattle.walks.specs.declared.walked.PageQuery.{PageQuery}
 use Rattle.walks.specs.declared.walked.Scan.{Scan}
 use Rattle.walks.specs.declared.walked.Scan.the-variants.{Rows, Intents, Conflicts}

@@ -2,10 +2,10 @@
 ghost use mathlib.Core.Path.{_≡_};
 ghost use Rattle.walks.specs.Dues.{noDue, seeRow, seeLock, dueAfter, byKey};
 use crate::walked::Scan;
+use lookups::Locked;
 use rules::Answer;
 use rules::Kind;
 use store::LineView;
-use store::Locked;
 use store::Slot;
 
 // The line that the page would list for the key, if any.

@@ -2,6 +2,7 @@
 -- Assumes nothing.
 use Rattle.captures.proofs.SizeLaws.{Counting, counting-start, counting-asks, counting-more, counting-end}
 use borrow.Author.Needs.{needs}
+use native.Mathlib.Omega.{arith}
 use Prim.Native.Nat.{_-_}
 use Rattle.captures.proofs.sizes.sizes_of.Statement.{statement}
 use Rattle.captures.proofs.sizes.sizes_of.Tie as tie
@@ -22,7 +23,7 @@ loop-again : tie.Need-loop-again Inv-loop μ-loop
 loop-again c = counting-more (c .before .before .before .before .before .pre) _ ((c .before .before .before .loop) .inv) ((c .before .before .loop-test) .taken) ((c .count-line) .ensures)
 
 returns : tie.Need-returns Inv-loop μ-loop
-returns c = counting-end (c .before .before .before .pre) _ ((c .before .loop) .inv) ((c .loop-test) .left)
+returns c = counting-end (c .before .before .before .pre) _ ((c .before .loop) .inv) ((c .loop-test) .left) (λ i. omega (arith, c .before .before .shared-slice-known .given i))
 
 pub sizes-of-spec : {M : Type 1} → statement M
 sizes-of-spec =

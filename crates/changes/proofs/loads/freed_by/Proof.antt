@@ -1,7 +1,7 @@
 -- `changes::loads::freed_by` meets its contract.
 -- Assumes nothing.
 use mathlib.Core.Path.{ap, sym, _∙_}
-use Rattle.store.specs.declared.lookup.Locked.{Locked}
+use Rattle.lookups.specs.declared.lookup.Locked.{Locked}
 use Rattle.changes.specs.Loads.{freedBy}
 use Rattle.changes.proofs.LineLoadLaws.{freed-asks}
 use borrow.Author.Needs.{needs}

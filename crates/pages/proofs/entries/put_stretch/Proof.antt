@@ -1,7 +1,7 @@
 -- `pages::entries::put_stretch` meets its contract: the piece of what was cut out of the area.
 -- Assumes nothing.
 use Rattle.forms.specs.Bytes.{pieceBytes}
-use Rattle.pages.proofs.PutEntryLaws.{stretch-laid}
+use Rattle.store.proofs.StretchLaws.{stretch-laid}
 use borrow.Author.Needs.{needs}
 use Rattle.pages.proofs.entries.put_stretch.Statement.{statement}
 use Rattle.pages.proofs.entries.put_stretch.Tie as tie

@@ -1,6 +1,6 @@
 -- `pages::sections::put_entries` meets its contract: the loop's invariant is `Listing` of rules' `WriterLaws`: the first `i` entries stand over the front.
 -- Assumes nothing.
-use Rattle.rules.proofs.WriterLaws.{Listing}
+use Rattle.rules.proofs.EntryWriterLaws.{Listing}
 use Rattle.walks.specs.Walked.{same, pageOf}
 use Rattle.pages.proofs.PageLaws.{entries-start, entries-ask, entries-more, entries-end}
 use borrow.Author.Needs.{needs}

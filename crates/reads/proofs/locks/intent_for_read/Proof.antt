@@ -1,8 +1,9 @@
 -- `reads::locks::intent_for_read` meets its contract.
 -- Assumes nothing.
 use Rattle.laws.proofs.ChainLaws.{denied, granted}
-use Rattle.reads.proofs.IntentLaws.{point-invalid, point-nobody, point-above, point-lock}
+use Rattle.reads.proofs.IntentLaws.{point-invalid}
 use borrow.Author.Needs.{needs}
+use mathlib.Core.Path.{refl}
 use Rattle.reads.proofs.locks.intent_for_read.Statement.{statement}
 use Rattle.reads.proofs.locks.intent_for_read.Tie as tie
 
@@ -13,23 +14,7 @@ look-up-requires : tie.Need-look-up-requires
 look-up-requires c κs = (c .before .before .before .before .before .before .pre) .built
 
 returns-2 : tie.Need-returns-2
-returns-2 c = point-above ((c .before .before .before .before .before .before .before .before .before .before .before .before .pre) .built) (granted _ _ ((c .before .before .before .before .before .before .before .before .before .before .key-in-form) .ensures) ((c .before .before .before .before .before .before .before .before .before .if1) .left)) ((c .before .before .before .before .before .look-up) .ensures) ((c .before .before .before .lock) .given .1) ((c .if2) .taken)
-
-returns-3 : tie.Need-returns-3
-returns-3 c = point-nobody ((c .before .before .before .before .before .before .before .before .before .pre) .built) (granted _ _ ((c .before .before .before .before .before .before .before .key-in-form) .ensures) ((c .before .before .before .before .before .before .if1) .left)) ((c .before .before .look-up) .ensures) ((c .enum-told) .given .1)
-
-returns-4 : tie.Need-returns-4
-returns-4 c = point-lock ((c .before .before .before .before .before .before .before .before .before .before .before .before .pre) .built) (granted _ _ ((c .before .before .before .before .before .before .before .before .before .before .key-in-form) .ensures) ((c .before .before .before .before .before .before .before .before .before .if1) .left)) ((c .before .before .before .before .before .look-up) .ensures) ((c .before .before .before .lock) .given .1) ((c .if2) .left)
+returns-2 c = (c .lock-seen) .ensures _ _ _ _ ((c .before .before .before .before .before .before .before .before .pre) .built) (granted _ _ ((c .before .before .before .before .before .before .key-in-form) .ensures) ((c .before .before .before .before .before .if1) .left)) ((c .before .look-up) .ensures) refl
 
 pub intent-for-read-spec : {M : Type 1} → statement M
-intent-for-read-spec =
-    tie.close
-    (tie.spec
-    (λ c κs. search needs)
-    returns
-    look-up-requires
-    (λ c. search needs)
-    (λ c. search needs)
-    returns-2
-    returns-3
-    returns-4)
+intent-for-read-spec = tie.close (tie.spec (λ c κs. search needs) returns look-up-requires (λ c κs. search needs) returns-2)

@@ -1,7 +1,7 @@
 -- `reads::rows::read` meets its contract.
 -- Assumes nothing.
 use Rattle.laws.proofs.ChainLaws.{denied, granted}
-use Rattle.reads.proofs.ReadLaws.{read-invalid, read-no, read-held, read-newest}
+use Rattle.reads.proofs.ReadLaws.{read-invalid}
 use borrow.Author.Needs.{needs}
 use Rattle.reads.proofs.rows.read.Statement.{statement}
 use Rattle.reads.proofs.rows.read.Tie as tie
@@ -13,13 +13,7 @@ look-up-requires : tie.Need-look-up-requires
 look-up-requires c κs = (c .before .before .before .before .before .before .pre) .built
 
 returns-2 : tie.Need-returns-2
-returns-2 c = read-newest ((c .before .before .before .before .before .before .before .before .before .before .before .before .pre) .built) (granted _ _ ((c .before .before .before .before .before .before .before .before .before .before .key-in-form) .ensures) ((c .before .before .before .before .before .before .before .before .before .if1) .left)) ((c .before .before .before .before .before .look-up) .ensures) ((c .before .before .before .before .lock-lets) .ensures) ((c .before .before .enum-told) .given .1) ((c .newest-row) .ensures)
-
-returns-3 : tie.Need-returns-3
-returns-3 c = read-no ((c .before .before .before .before .before .before .before .before .before .before .before .before .pre) .built) (granted _ _ ((c .before .before .before .before .before .before .before .before .before .before .key-in-form) .ensures) ((c .before .before .before .before .before .before .before .before .before .if1) .left)) ((c .before .before .before .before .before .look-up) .ensures) ((c .before .before .before .before .lock-lets) .ensures) ((c .before .before .lets) .given .1) ((c .refusal2) .ensures)
-
-returns-4 : tie.Need-returns-4
-returns-4 c = read-held ((c .before .before .before .before .before .before .before .before .before .before .before .before .pre) .built) (granted _ _ ((c .before .before .before .before .before .before .before .before .before .before .key-in-form) .ensures) ((c .before .before .before .before .before .before .before .before .before .if1) .left)) ((c .before .before .before .before .before .look-up) .ensures) ((c .before .before .before .before .lock-lets) .ensures) ((c .before .before .lets2) .given .1) ((c .refusal3) .ensures)
+returns-2 c = (c .read-found) .ensures _ _ _ ((c .before .before .before .before .before .before .before .before .pre) .built) (granted _ _ ((c .before .before .before .before .before .before .key-in-form) .ensures) ((c .before .before .before .before .before .if1) .left)) ((c .before .look-up) .ensures)
 
 pub read-spec : {M : Type 1} → statement M
 read-spec =
@@ -30,12 +24,4 @@ read-spec =
     returns
     look-up-requires
     (λ c κs. search needs)
-    (λ c. search needs)
-    (λ c κs. search needs)
-    (λ c. search needs)
-    (λ c κs. search needs)
-    (λ c. search needs)
-    (λ c κs. search needs)
-    returns-2
-    returns-3
-    returns-4)
+    returns-2)

@@ -1,6 +1,6 @@
 -- `rules::writers::put_default` meets its contract: three writers, each where the one before ended.
 -- Assumes nothing.
-use Rattle.rules.proofs.WriterLaws.{default-laid}
+use Rattle.rules.proofs.EntryWriterLaws.{default-laid}
 use borrow.Author.Needs.{needs}
 use Rattle.rules.proofs.writers.put_default.Statement.{statement}
 use Rattle.rules.proofs.writers.put_default.Tie as tie

@@ -1,6 +1,6 @@
 -- `rules::writers::put_lock` meets its contract: five writers, each where the one before ended.
 -- Assumes nothing.
-use Rattle.rules.proofs.WriterLaws.{lock-laid}
+use Rattle.rules.proofs.EntryWriterLaws.{lock-laid}
 use borrow.Author.Needs.{needs}
 use Rattle.rules.proofs.writers.put_lock.Statement.{statement}
 use Rattle.rules.proofs.writers.put_lock.Tie as tie

@@ -1,6 +1,6 @@
 -- `rules::writers::put_record` meets its contract: four writers, each where the one before ended.
 -- Assumes nothing.
-use Rattle.rules.proofs.WriterLaws.{record-laid}
+use Rattle.rules.proofs.EntryWriterLaws.{record-laid}
 use borrow.Author.Needs.{needs}
 use Rattle.rules.proofs.writers.put_record.Statement.{statement}
 use Rattle.rules.proofs.writers.put_record.Tie as tie

@@ -8,8 +8,7 @@ use Rattle.showing.proofs.replying.show_marks.Statement.{statement}
 use Rattle.showing.proofs.replying.show_marks.Tie as tie
 
 returns : tie.Need-returns
-returns c = shown-as refl refl (ap marksPayload ((c .before .before .before .before .allocator-high-water-marks) .ensures)) (put-shown _ _ (marks-fits _ ((c .before .before .before .before .before .before .pre) .1)) ((c .before .before .put-marks) .ensures))
+returns c = rw ((c .shown) .ensures) (shown-as refl refl (ap marksPayload ((c .before .before .before .before .before .allocator-high-water-marks) .ensures)) (put-shown _ _ (marks-fits _ ((c .before .before .before .before .before .before .before .pre) .1)) ((c .before .before .before .put-marks) .ensures)))
 
 pub show-marks-spec : {M : Type 1} → statement M
-show-marks-spec =
-    tie.close (tie.spec (λ c κs. search needs) (λ c κs. search needs) (λ c. search needs) returns)
+show-marks-spec = tie.close (tie.spec (λ c κs. search needs) (λ c κs. search needs) (λ c κs. search needs) (λ c. search needs) returns)

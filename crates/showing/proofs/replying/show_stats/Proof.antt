@@ -8,7 +8,7 @@ use Rattle.showing.proofs.replying.show_stats.Statement.{statement}
 use Rattle.showing.proofs.replying.show_stats.Tie as tie
 
 returns : tie.Need-returns
-returns c = shown-as refl refl (ap statsPayload ((c .before .before .before .before .stats) .ensures)) (put-shown _ _ (stats-fits _ ((c .before .before .before .before .before .before .pre) .1)) ((c .before .before .put-stats) .ensures))
+returns c = rw ((c .shown) .ensures) (shown-as refl refl (ap statsPayload ((c .before .before .before .before .before .stats) .ensures)) (put-shown _ _ (stats-fits _ ((c .before .before .before .before .before .before .before .pre) .1)) ((c .before .before .before .put-stats) .ensures)))
 
 pub show-stats-spec : {M : Type 1} → statement M
-show-stats-spec = tie.close (tie.spec (λ c κs. search needs) (λ c κs. search needs) (λ c. search needs) returns)
+show-stats-spec = tie.close (tie.spec (λ c κs. search needs) (λ c κs. search needs) (λ c κs. search needs) (λ c. search needs) returns)

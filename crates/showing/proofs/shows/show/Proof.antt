@@ -13,8 +13,8 @@ use Rattle.showing.proofs.shows.show.Tie as tie
 show-read-requires : tie.Need-show-read-requires
 show-read-requires c κs = ((c .before .before .before .before .before .before .pre) .made, fits-lent _ ((c .before .before .before .before .before .before .pre) .lent-is) (omega arith))
 
-show-intent-requires : tie.Need-show-intent-requires
-show-intent-requires c κs = ((c .before .before .before .before .before .before .pre) .made, fits-lent _ ((c .before .before .before .before .before .before .pre) .lent-is) (omega arith))
+show-lock-requires : tie.Need-show-lock-requires
+show-lock-requires c κs = ((c .before .before .before .before .before .before .pre) .made, fits-lent _ ((c .before .before .before .before .before .before .pre) .lent-is) (omega arith))
 
 show-stats-requires : tie.Need-show-stats-requires
 show-stats-requires c κs = ((c .before .before .before .before .before .before .pre) .made, fits-lent _ ((c .before .before .before .before .before .before .pre) .lent-is) (omega arith))
@@ -40,7 +40,7 @@ returns-4 c = by-show ((c .before .before .before .before .before .before .befor
 
 returns-5 : tie.Need-returns-5
 unfolding told
-returns-5 c = by-show ((c .before .before .before .before .before .before .before .before .before .args) .call .now) ((c .before .before .before .before .before .before .before .before .before .args) .args) _ ((c .before .before .before .before .before .before .before .before .before .args) .op) ShowOp.OneIntent ((c .before .before .before .before .enum-told5) .given .1) (record { told = intent-of _ _ ((c .before .before .before .before .before .before .part) .ensures) ((c .before .before .show-intent) .ensures); box-is = refl })
+returns-5 c = by-show ((c .before .before .before .before .before .before .before .before .before .args) .call .now) ((c .before .before .before .before .before .before .before .before .before .args) .args) _ ((c .before .before .before .before .before .before .before .before .before .args) .op) ShowOp.OneIntent ((c .before .before .before .before .enum-told5) .given .1) (record { told = intent-of _ _ ((c .before .before .before .before .before .before .part) .ensures) ((c .before .before .show-lock) .ensures); box-is = refl })
 
 returns-6 : tie.Need-returns-6
 unfolding told
@@ -64,7 +64,7 @@ show-spec =
     (λ c. search needs)
     (λ c κs. search needs)
     (λ c. search needs)
-    show-intent-requires
+    show-lock-requires
     (λ c. search needs)
     show-stats-requires
     (λ c. search needs)

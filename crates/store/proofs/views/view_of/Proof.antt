@@ -1,28 +1,24 @@
 -- `store::views::view_of` meets its contract.
 -- Assumes nothing.
-use Rattle.store.specs.KeyStates.{viewIn}
-use Rattle.store.proofs.ViewLaws.{past-numbers, past-standing, told-standing, told-finished}
+use Rattle.store.specs.View.{past}
+use Rattle.store.proofs.ViewLaws.{view-standing, view-finished}
 use borrow.Author.Needs.{needs}
 use native.Mathlib.Omega.{arith}
-use Prim.Native.Nat.{ℕ, _+_, _-_}
-use mathlib.Core.Path.{ap, _∙_}
+use mathlib.Core.Path.{ap}
 use Rattle.store.proofs.views.view_of.Statement.{statement}
 use Rattle.store.proofs.views.view_of.Tie as tie
 
-eight-at-requires : tie.Need-eight-at-requires
-eight-at-requires c κs = omega (arith, (c .before .before .before .pre), (c .before .place-of) .ensures, past-numbers ((c .before .before .before .args) .s .line))
+lock-view-requires : tie.Need-lock-view-requires
+lock-view-requires c κs = omega (arith, (c .before .before .before .before .before .before .pre), (c .before .before .before .before .place-of) .ensures, ap past ((c .before .line) .given .1))
 
-eight-at-requires-2 : tie.Need-eight-at-requires-2
-eight-at-requires-2 c κs = omega (arith, (c .before .before .before .before .pre), (c .before .before .place-of) .ensures, past-numbers ((c .before .before .before .before .args) .s .line))
-
-eight-at-requires-3 : tie.Need-eight-at-requires-3
-eight-at-requires-3 c κs = omega (arith, (c .before .before .before .before .before .before .before .before .before .pre), (c .before .before .before .before .before .before .before .place-of) .ensures, past-standing _ ((c .before .before .line) .given .1))
+record-view-requires : tie.Need-record-view-requires
+record-view-requires c κs = omega (arith, (c .before .before .before .before .before .before .pre), (c .before .before .before .before .place-of) .ensures, ap past ((c .before .line2) .given .1))
 
 returns : tie.Need-returns
-returns c = told-standing _ _ _ ((c .before .before .before .before .line) .given .1) ((c .before .before .before .before .before .before .before .eight-at) .ensures) ((c .before .before .before .before .before .before .eight-at2) .ensures) ((c .before .eight-at3) .ensures) ∙ ap (λ (p : ℕ). viewIn ((c .before .before .before .before .before .before .before .before .before .before .before .args) .area .now) (p + (c .before .before .before .before .before .before .before .before .before .before .before .args) .s .len) ((c .before .before .before .before .before .before .before .before .before .before .before .args) .s .line)) ((c .before .before .before .before .before .before .before .before .before .place-of) .ensures)
+returns c = view-standing _ ((c .before .before .before .before .before .before .before .args) .s) ((c .before .before .before .before .before .place-of) .ensures) _ ((c .before .before .line) .given .1) ((c .lock-view) .ensures)
 
 returns-2 : tie.Need-returns-2
-returns-2 c = told-finished _ _ _ ((c .before .before .line2) .given .1) ((c .before .before .before .before .before .eight-at) .ensures) ((c .before .before .before .before .eight-at2) .ensures) ∙ ap (λ (p : ℕ). viewIn ((c .before .before .before .before .before .before .before .before .before .args) .area .now) (p + (c .before .before .before .before .before .before .before .before .before .args) .s .len) ((c .before .before .before .before .before .before .before .before .before .args) .s .line)) ((c .before .before .before .before .before .before .before .place-of) .ensures)
+returns-2 c = view-finished _ ((c .before .before .before .before .before .before .before .args) .s) ((c .before .before .before .before .before .place-of) .ensures) _ ((c .before .before .line2) .given .1) ((c .record-view) .ensures)
 
 pub view-of-spec : {M : Type 1} → statement M
 view-of-spec =
@@ -31,17 +27,9 @@ view-of-spec =
     (λ c κs. search needs)
     (λ c. search needs)
     (λ c. search needs)
-    eight-at-requires
     (λ c. search needs)
-    eight-at-requires-2
+    lock-view-requires
     (λ c. search needs)
-    (λ c. search needs)
-    (λ c. search needs)
-    (λ c. search needs)
-    eight-at-requires-3
-    (λ c. search needs)
-    (λ c. search needs)
-    (λ c. search needs)
-    (λ c. search needs)
+    record-view-requires
     returns
     returns-2)

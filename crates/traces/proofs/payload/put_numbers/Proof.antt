@@ -2,7 +2,7 @@
 -- rules' `WriterLaws`). The measure is how many are left.
 -- Assumes nothing.
 use Rattle.forms.specs.Numbers.{digits}
-use Rattle.rules.proofs.WriterLaws.{Listing, listing-start, listing-more, listing-end}
+use Rattle.rules.proofs.EntryWriterLaws.{Listing, listing-start, listing-more, listing-end}
 use Rattle.traces.proofs.PutLaws.{put-all, numbers-none, numbers-room}
 use Prim.Native.Nat.{_-_}
 use lib.ListN.{length}

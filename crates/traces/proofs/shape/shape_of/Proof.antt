@@ -61,15 +61,15 @@ returns-13 c = at-op 32 (c .with-rest5 .ensures) (c .before .match .keys13)
 
 returns-14 : tie.Need-returns-14
 unfolding opOf
-returns-14 c = at-op 33 (c .with-rest6 .ensures) (c .before .match .keys14)
+returns-14 c = at-op 33 (c .with-numbers .ensures) (c .before .match .keys14)
 
 returns-15 : tie.Need-returns-15
 unfolding opOf
-returns-15 c = at-op 34 (c .with-rest7 .ensures) (c .before .match .keys15)
+returns-15 c = at-op 34 (c .with-numbers2 .ensures) (c .before .match .keys15)
 
 returns-16 : tie.Need-returns-16
 unfolding opOf
-returns-16 c = at-op 35 (c .with-rest8 .ensures) (c .before .match .keys16)
+returns-16 c = at-op 35 (c .with-numbers3 .ensures) (c .before .match .keys16)
 
 returns-17 : tie.Need-returns-17
 returns-17 c = c .no-shape .ensures ∙ no-op _ (c .before .match .rest)

@@ -1,7 +1,7 @@
 -- `walks::walk::walk_lines` meets its contract.
 -- Assumes nothing.
 use Rattle.bounds.specs.Bounds.{boundsOf}
-use Rattle.store.proofs.LookUpLaws.{slot-in}
+use Rattle.store.proofs.BuiltLaws.{slot-in}
 use Rattle.walks.proofs.WalkLineLaws.{key-in, Pass, pass-start, pass-end, pass-small, pass-waits, pass-on, pass-stop, pass-refuse, pass-cheap, pass-add}
 use borrow.Author.Needs.{needs}
 use native.Mathlib.Omega.{arith}
