@@ -58,12 +58,13 @@ pub fn missing(place: usize) -> Bytes {
     numbered(2 * place + 1)
 }
 
-/// A row of one integer and one text, 30 bytes.
+/// A row of one integer, one text and no bones, 30 bytes.
 pub fn row(number: usize) -> Bytes {
     let mut row = vec![1];
     row.extend_from_slice(&(number as u64).to_be_bytes());
-    row.extend_from_slice(&[1, 19]);
-    row.resize(30, number as u8);
+    row.extend_from_slice(&[1, 18]);
+    row.resize(29, number as u8);
+    row.push(0);
     row
 }
 

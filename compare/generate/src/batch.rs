@@ -30,7 +30,7 @@ pub fn key_bytes(keys: &[Bytes]) -> Bytes {
 
 /// The mutation batch with one fault of form.
 pub fn broken_mutations(random: &mut Random, mut entries: Vec<Entry>) -> Bytes {
-    match random.below(4) {
+    match random.below(6) {
         0 if !entries.is_empty() => {
             let again = entries[random.below(entries.len())].clone();
             let at = random.below(entries.len() + 1);
@@ -41,12 +41,17 @@ pub fn broken_mutations(random: &mut Random, mut entries: Vec<Entry>) -> Bytes {
             entries.reverse();
             mutation_bytes(&entries)
         }
-        2 if !entries.is_empty() => {
+        4 if !entries.is_empty() => {
+            // A key out of form that is less than the one before.
+            entries.push(Entry { key: vec![0, 0, 0], kind: Kind::Delete, row: Bytes::new() });
+            mutation_bytes(&entries)
+        }
+        2 | 5 if !entries.is_empty() => {
             // The last entry as a Delete, whose kind byte is the last: any other kind there is no kind.
             let last = entries.len() - 1;
             entries[last] = Entry { key: entries[last].key.clone(), kind: Kind::Delete, row: Bytes::new() };
             let mut bytes = mutation_bytes(&entries);
-            *bytes.last_mut().expect("a kind byte") = *random.pick(&[0, 3, 4, 255]);
+            *bytes.last_mut().expect("a kind byte") = *random.pick(&[0, 3, 3, 4, 255]);
             bytes
         }
         _ => broken_bytes(random, mutation_bytes(&entries)),

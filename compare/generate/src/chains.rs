@@ -8,12 +8,13 @@ use paper::trace::Call;
 use crate::image::few_chains;
 use crate::maker::Maker;
 use crate::random::Random;
+use crate::rows::SMALLEST;
 use crate::stock::stamp;
 
 impl Maker {
     /// Chains by an image or by calls, and reads at their stamps and beside them, with other calls between.
     pub fn chains(&mut self) {
-        let image = if self.random.percent(4) { long_chain(&mut self.random) } else { self.chained_image() };
+        let image = if self.random.percent(16) { long_chain(&mut self.random) } else { self.chained_image() };
         if self.random.percent(75) {
             self.push(Call::Restore { image: image.write() });
         }
@@ -107,7 +108,7 @@ fn chain_of(lowest: u8, rollbacks: u64) -> Image {
         image.writes.push(record(&a(), 1, 2, lowest));
     }
     if lowest == 1 {
-        image.defaults.push((a(), 1, vec![0, 0]));
+        image.defaults.push((a(), 1, SMALLEST.to_vec()));
     }
     image.writes.extend((3..3 + rollbacks).map(|at| record(&a(), at, at, 3)));
     image
@@ -132,7 +133,7 @@ fn every_moment() -> Vec<Call> {
     let lock = |time_to_live| RawLock { transaction: 7, primary: a.clone(), start: 14, time_to_live, kind: 2 };
     let image = Image {
         table: 1,
-        defaults: vec![(a.clone(), 1, vec![0, 0])],
+        defaults: vec![(a.clone(), 1, SMALLEST.to_vec())],
         locks: vec![(a.clone(), lock(3)), (c.clone(), lock(4))],
         writes: vec![
             record(&a, 1, 2, 1),

@@ -8,21 +8,31 @@ use crate::random::Random;
 
 /// Lengths of a long buffer at and past the most.
 const LONG_BUFFERS: [u32; 5] = [LONG_BUFFER, LONG_BUFFER, LONG_BUFFER + 1, LONG_BUFFER + 1, u32::MAX];
+/// An image without entries, which is one of the old form too.
+const NO_ENTRIES: [u8; 10] = [0, 0, 0, 1, 0, 0, 0, 0, 0, 0];
 
 /// A trace that is empty, has no calls, stands at or one past the most bytes, or has a buffer at or past the longest.
 pub fn edge(random: &mut Random, ops: Ops) -> Bytes {
-    if ops.has(35) && random.percent(20) {
-        return write_trace(&[Call::WriteImage { table: 1, buffer: *random.pick(&LONG_BUFFERS) }]);
+    if (ops.has(35) || ops.has(36)) && random.percent(40) {
+        let (buffer, image) = (*random.pick(&LONG_BUFFERS), NO_ENTRIES.to_vec());
+        let written = ops.has(35) && (!ops.has(36) || random.percent(50));
+        let call = if written { Call::WriteImage { table: 1, buffer } } else { Call::Convert { buffer, image } };
+        return write_trace(&[call]);
     }
-    let fill = |length: usize| write_trace(&[Call::Restore { image: vec![0; length - 9] }]);
-    match random.below(8) {
-        0 | 1 => Bytes::new(),
-        2 => vec![0],
-        3 => vec![0, 0],
-        4 => vec![0, 0, 0],
-        5 => vec![0, 1],
-        6 if ops.has(32) => fill(MOST_BYTES),
-        7 if ops.has(32) => fill(MOST_BYTES + 1),
+    let convert = ops.has(36) && (!ops.has(32) || random.percent(30));
+    let fill = |length: usize| {
+        let restore = Call::Restore { image: vec![0; length - 9] };
+        let convert = if convert { Some(Call::Convert { buffer: 0, image: vec![0; length - 13] }) } else { None };
+        write_trace(&[convert.unwrap_or(restore)])
+    };
+    match random.below(15) {
+        0..4 => Bytes::new(),
+        4 => vec![0],
+        5 => vec![0, 0],
+        6 => vec![0, 0, 0],
+        7 => vec![0, 1],
+        8 | 9 if ops.has(32) || convert => fill(MOST_BYTES),
+        10..14 if ops.has(32) || convert => fill(MOST_BYTES + 1),
         _ => vec![0, 1, 0, 0],
     }
 }
@@ -43,14 +53,16 @@ pub fn damaged(random: &mut Random, calls: &[Call], ops: Ops) -> Bytes {
 
 fn one_fault(random: &mut Random, calls: &[Call], sound: &[u8]) -> Bytes {
     let mut bytes = sound.to_vec();
-    let lends = |call: &Call| matches!(call, Call::WriteImage { .. });
+    let lends = |call: &Call| matches!(call, Call::WriteImage { .. } | Call::Convert { .. });
     if let Some(at) = calls.iter().position(lends)
-        && random.percent(30)
+        && random.percent(40)
     {
         let length = random.pick(&LONG_BUFFERS).to_be_bytes();
-        return with_call(calls, at, |call| [&call[..5], &length].concat());
+        // Behind the op, and a table where one is written.
+        let place = if calls[at].op() == 35 { 5 } else { 1 };
+        return with_call(calls, at, |call| [&call[..place], &length, &call[place + 4..]].concat());
     }
-    match random.below(10) {
+    match random.below(12) {
         0 => bytes.truncate(random.below(bytes.len())),
         1 => bytes.push(random.number() as u8),
         2 => bytes[1] = bytes[1].wrapping_add(*random.pick(&[1, 255])),
@@ -58,7 +70,7 @@ fn one_fault(random: &mut Random, calls: &[Call], sound: &[u8]) -> Bytes {
             let at = random.below(bytes.len());
             bytes[at] = random.number() as u8;
         }
-        4 | 8 | 9 => return call_fault(random, calls),
+        4 | 8..12 => return call_fault(random, calls),
         5 => return long_length(random, calls),
         6 => {
             // Cut within the last call, lengths kept: bytes are missing in it.
@@ -95,6 +107,16 @@ fn call_fault(random: &mut Random, calls: &[Call]) -> Bytes {
     let with_mark: Vec<usize> = (0..calls.len()).filter(|place| mark_of(&calls[*place]).is_some()).collect();
     if !with_mark.is_empty() && random.percent(80) {
         at = *random.pick(&with_mark);
+        // Mostly a kind, if there is one.
+        let kinds = with_mark.into_iter().find(|place| matches!(calls[*place], Call::Prewrite { .. }));
+        at = kinds.filter(|_| random.percent(60)).unwrap_or(at);
+    }
+    // A flag that says present: another byte in its place reads on as it did.
+    let present = |call: &Call| mark_of(call).is_some_and(|place| place_says_present(call, place));
+    if let Some(flag) = calls.iter().position(present)
+        && random.percent(25)
+    {
+        at = flag;
     }
     let marked = mark_of(&calls[at]);
     let choice = random.below(if marked.is_some() { 8 } else { 2 });
@@ -113,6 +135,11 @@ fn call_fault(random: &mut Random, calls: &[Call]) -> Bytes {
     })
 }
 
+/// Does the call's first flag say present?
+fn place_says_present(call: &Call, place: usize) -> bool {
+    !matches!(call, Call::Prewrite { .. }) && call.write()[place] == 1
+}
+
 /// Where a call has its kind or its first flag.
 fn mark_of(call: &Call) -> Option<usize> {
     match call {
@@ -125,7 +152,7 @@ fn mark_of(call: &Call) -> Option<usize> {
 /// An op that the table does not have, or other arguments than its op has.
 fn op_fault(random: &mut Random, calls: &[Call]) -> Bytes {
     let at = random.below(calls.len());
-    let op = *random.pick(&[0, 13, 31, 35, 64, 128, 255]);
+    let op = *random.pick(&[0, 13, 16, 17, 18, 19, 31, 35, 36, 37, 64, 128, 255]);
     with_call(calls, at, |mut bytes| {
         bytes[0] = op;
         bytes

@@ -5,8 +5,9 @@ use paper::store::Bytes;
 
 use crate::orders::{Mark, default_mark, lock_mark, write_mark};
 use crate::random::Random;
+use crate::rows::{row, row_out_of_form};
 use crate::sick::{delete_lock, delete_write, free_start, make_sick};
-use crate::stock::{Stock, row, row_out_of_form};
+use crate::stock::Stock;
 
 /// What is at fault, and nothing else: where a Put line is given another key, start or kind, its default goes. Only a
 /// default of a key or start that no line can have is an orphan besides.
@@ -125,14 +126,20 @@ pub fn any(random: &mut Random, stock: &Stock, mut image: Image) -> Bytes {
     if random.percent(5) {
         sick(random, &mut image);
     }
-    let fault = match random.below(100) {
-        0..12 => *random.pick(&WHOLE),
-        12..35 => *random.pick(&AGAINST_OTHERS),
-        35..65 => *random.pick(&SICK),
-        _ => *random.pick(&OF_ENTRIES),
-    };
+    let fault = if random.percent(32) { *random.pick(&SICK) } else { of_01(random) };
     let place = *random.pick(&PLACES);
     one(random, stock, image, fault, place)
+}
+
+/// A fault by document 01's own checks, drawn.
+pub fn of_01(random: &mut Random) -> Fault {
+    match random.below(100) {
+        0..14 => *random.pick(&WHOLE),
+        14..36 => *random.pick(&AGAINST_OTHERS),
+        36..50 => Fault::DefaultRow,
+        50..53 => Fault::DefaultStart,
+        _ => *random.pick(&OF_ENTRIES),
+    }
 }
 
 /// Makes the image sick in a way drawn, at a place drawn, if it has an entry for it.
@@ -146,16 +153,22 @@ pub fn one(random: &mut Random, stock: &Stock, mut image: Image, fault: Fault, p
     if WHOLE.contains(&fault) {
         return whole(random, image, fault);
     }
-    let done = in_default(random, stock, &mut image, fault, place)
-        .or_else(|| in_lock(random, stock, &mut image, fault, place))
-        .or_else(|| in_write(random, stock, &mut image, fault, place))
-        .or_else(|| make_sick(random, &mut image, fault, place));
+    let done = in_entries(random, stock, &mut image, fault, place);
     if done.is_some() { image.write() } else { whole(random, image, Fault::Trailing) }
 }
 
-fn whole(random: &mut Random, image: Image, fault: Fault) -> Bytes {
+/// Gives the image this fault of an entry at this place; none if it has no entry for it.
+pub fn in_entries(random: &mut Random, stock: &Stock, image: &mut Image, fault: Fault, place: Place) -> Option<()> {
+    in_default(random, stock, image, fault, place)
+        .or_else(|| in_lock(random, stock, image, fault, place))
+        .or_else(|| in_write(random, stock, image, fault, place))
+        .or_else(|| make_sick(random, image, fault, place))
+}
+
+/// The bytes of an image with this fault of the whole; of any other, with a byte that follows.
+pub fn whole(random: &mut Random, image: Image, fault: Fault) -> Bytes {
     if fault == Fault::Table {
-        return Image { table: 0, ..if random.percent(50) { Image::default() } else { image } }.write();
+        return Image { table: 0, ..if random.percent(75) { Image::default() } else { image } }.write();
     }
     let mut bytes = image.write();
     match fault {
@@ -178,6 +191,13 @@ fn counts(image: Image) -> [usize; 3] {
     let defaults = bytes_of(Image { defaults: image.defaults, ..Image::default() });
     let locks = bytes_of(Image { locks: image.locks, ..Image::default() });
     [5, 7 + defaults, 9 + defaults + locks]
+}
+
+/// A key out of form: this one, of its table, cut to 4 bytes or made as long as 49, or any.
+fn key_out_of_form(random: &mut Random, stock: &Stock, key: &[u8]) -> Bytes {
+    let mut near = key.to_vec();
+    near.resize(*random.pick(&[4, 49]), b'f');
+    if random.percent(50) { near } else { stock.key_out_of_form(random, false) }
 }
 
 /// The same key in another table.
@@ -216,7 +236,7 @@ fn in_default(random: &mut Random, stock: &Stock, image: &mut Image, fault: Faul
     let (key, start, _) = defaults[at].clone();
     match fault {
         Fault::DefaultKey => {
-            let entry = (stock.key_out_of_form(random, false), start, row(random));
+            let entry = (key_out_of_form(random, stock, &key), start, row(random));
             add(random, defaults, entry, place);
         }
         Fault::DefaultTable => {
@@ -246,13 +266,13 @@ fn in_lock(random: &mut Random, stock: &Stock, image: &mut Image, fault: Fault, 
     }
     let (key, lock) = &mut image.locks[at];
     match fault {
-        Fault::LockKey => *key = stock.key_out_of_form(random, false),
+        Fault::LockKey => *key = key_out_of_form(random, stock, key),
         Fault::LockTable => *key = foreign(key),
         Fault::LockTransaction => lock.transaction = 0,
         Fault::LockStart => lock.start = 0,
         Fault::LockTimeToLive => lock.time_to_live = 0,
         Fault::LockKind => lock.kind = *random.pick(&[0, 3, 3, 3, 4, 255]),
-        Fault::LockPrimary => lock.primary = stock.key_out_of_form(random, false),
+        Fault::LockPrimary => lock.primary = key_out_of_form(random, stock, key),
         _ => {
             let (key, lock) = image.locks[at].clone();
             let start = free_start(random, image, &key, u64::MAX);
@@ -276,7 +296,7 @@ fn in_write(random: &mut Random, stock: &Stock, image: &mut Image, fault: Fault,
     let free = free_start(random, image, &key, stamp);
     let new = |stamp, start, kind| (key.clone(), stamp, RawRecord { start, commit: stamp, kind });
     image.writes[at] = match fault {
-        Fault::WriteKey => (stock.key_out_of_form(random, false), stamp, record),
+        Fault::WriteKey => (key_out_of_form(random, stock, &key), stamp, record),
         Fault::WriteTable => (foreign(&key), stamp, record),
         Fault::WriteStamp => (key.clone(), stamp.wrapping_add(1), record),
         Fault::WriteStart => new(stamp, 0, 2),

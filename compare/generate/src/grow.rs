@@ -7,12 +7,12 @@ use paper::trace::Call;
 
 use crate::batch::{key_bytes, mutation_bytes};
 use crate::maker::Maker;
-use crate::stock::row_of;
+use crate::rows::row_of;
 
 impl Maker {
     /// Fills a fresh box by calls alone, batch after batch of 32 keys, to one of the rooms or a little short of it.
     pub fn fill(&mut self, which: usize) {
-        let rows = if which == 3 { row_of(255) } else { row_of(2) };
+        let rows = if which == 3 { row_of(255) } else { row_of(3) };
         // So many batches fill the lines, the locks, the defaults or the live bytes.
         let batches = [32, 8, 32, 6][which];
         for number in 0..batches {
@@ -41,7 +41,7 @@ impl Maker {
         let count = self.random.between(1, 4) as u8;
         let mut keys: Vec<Bytes> = (first..first + count).map(|name| vec![0, 0, 0, 1, b'g', name]).collect();
         // A last key out of form: its 1 goes before the 11 of the whole call.
-        if self.random.percent(15) {
+        if self.random.percent(30) {
             keys.push(vec![255; 49]);
         }
         let start = self.random.between(30, 40) as u64;
@@ -75,6 +75,6 @@ impl Maker {
         let free = LIVE_BYTES.saturating_sub(self.store.room_used().live_bytes);
         let lines = if self.random.percent(50) { 2 * key } else { 3 * key };
         let wanted = (free / entries).saturating_sub(lines) + self.random.below(2);
-        if (3..=255).contains(&wanted) && self.random.percent(70) { row_of(wanted) } else { row_of(2) }
+        if (3..=255).contains(&wanted) && self.random.percent(70) { row_of(wanted) } else { row_of(3) }
     }
 }

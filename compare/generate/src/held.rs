@@ -11,7 +11,8 @@ use paper::trace::Call;
 
 use crate::batch::{key_bytes, mutation_bytes};
 use crate::maker::Maker;
-use crate::stock::{row, stamp, time_to_live};
+use crate::rows::{SMALLEST, row};
+use crate::stock::{stamp, time_to_live};
 
 /// The ops that can answer 7, and how often each is drawn.
 const OPS: [(u8, usize); 9] = [(1, 1), (2, 1), (6, 3), (7, 5), (8, 6), (9, 6), (10, 5), (11, 6), (12, 5)];
@@ -112,6 +113,10 @@ impl Maker {
             };
             keys.push(other);
         }
+        // A last key out of form: its 1 comes after the 7.
+        if several && self.random.percent(8) {
+            keys.push(vec![255; 49]);
+        }
         keys.sort();
         keys.dedup();
         let newest = keys.iter().filter_map(|key| self.store.newest_stamp(key)).max().unwrap_or(0);
@@ -167,7 +172,9 @@ pub fn cases() -> Vec<(&'static str, Vec<Call>)> {
     let write = |name: u8, kind: u8| (key(name), 12, RawRecord { start: 10, commit: 12, kind });
     let image = Image {
         table: 1,
-        defaults: [(b'a', 20), (b'c', 20), (b'd', 10)].map(|(name, start)| (key(name), start, vec![0, 0])).to_vec(),
+        defaults: [(b'a', 20), (b'c', 20), (b'd', 10)]
+            .map(|(name, start)| (key(name), start, SMALLEST.to_vec()))
+            .to_vec(),
         locks: vec![lock(b'a', 3, 1), lock(b'b', LONG, 2), lock(b'c', u64::MAX, 1), lock(b'd', 1, 2)],
         writes: vec![write(b'c', 2), write(b'd', 1)],
     };
@@ -183,7 +190,7 @@ fn met_by_all(key: &Bytes) -> Vec<Call> {
     let from = Bounds { start: Some(name()), ..Bounds::default() };
     let mut calls: Vec<Call> = [19, 20, 21, u64::MAX].map(|moment| Call::Read { moment, key: name() }).to_vec();
     calls.push(Call::Page { moment: 25, row_limit: 1, byte_limit: 99, bounds: from, buffer: 9 });
-    for (kind, row) in [(Kind::Put, vec![0, 0]), (Kind::Delete, vec![])] {
+    for (kind, row) in [(Kind::Put, SMALLEST.to_vec()), (Kind::Delete, vec![])] {
         let batch = mutation_bytes(&[Entry { key: name(), kind, row: row.clone() }]);
         let primary = name();
         calls.push(Call::Prewrite { transaction, start, time_to_live, kind, primary: name(), key: name(), row });

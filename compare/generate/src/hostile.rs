@@ -8,7 +8,8 @@ use paper::trace::Call;
 use crate::faults::{self, Fault, Place};
 use crate::orders::{ORDERS, Order, put};
 use crate::random::Random;
-use crate::stock::{Stock, row};
+use crate::rows::{SMALLEST, row};
+use crate::stock::Stock;
 
 /// How the keys of an image differ.
 #[derive(Clone, Copy, Debug, PartialEq, Eq, PartialOrd, Ord)]
@@ -69,7 +70,7 @@ fn one_key(random: &mut Random, image: &mut Image, key: &Bytes) {
         let start = if kind == 3 { stamp } else { *start };
         image.writes.push((key.clone(), stamp, RawRecord { start, commit: stamp, kind }));
         if kind == 1 {
-            let row = if random.percent(90) { vec![0, 0] } else { row(random) };
+            let row = if random.percent(90) { SMALLEST.to_vec() } else { row(random) };
             image.defaults.push((key.clone(), start, row));
         }
     }
@@ -78,7 +79,7 @@ fn one_key(random: &mut Random, image: &mut Image, key: &Bytes) {
         let (transaction, start) = (random.between(1, 3) as u64, *random.pick(&[40, 40, 40, 15]));
         image.locks.push((key.clone(), RawLock { transaction, primary: key.clone(), start, time_to_live: 1, kind }));
         if kind == 1 {
-            image.defaults.push((key.clone(), start, vec![0, 0]));
+            image.defaults.push((key.clone(), start, SMALLEST.to_vec()));
         }
     }
 }

@@ -8,7 +8,8 @@ use paper::store::Bytes;
 
 use crate::orders::{ORDERS, put};
 use crate::random::Random;
-use crate::stock::{EXTREMES, Stock, row, time_to_live};
+use crate::rows::row;
+use crate::stock::{EXTREMES, Stock, time_to_live};
 
 /// How often a record is drawn for each one wanted.
 const TRIES: usize = 20;

@@ -1,9 +1,10 @@
 //! A seeded generator of traces that is hard on the box: few keys with common prefixes in several tables, small and
 //! extreme numbers, replays, batches, rows and images in and out of form, every combination of bounds, buffers and
 //! byte limits at and one short of what is needed, boxes at and one past each of the four rooms, images sound and sick
-//! and longer than 65,535 bytes, images written and restored, damaged traces.
+//! and longer than 65,535 bytes, images written and restored, old images converted, bones asked, damaged traces.
 
 pub mod batch;
+pub mod bones;
 pub mod chains;
 mod damage;
 pub mod faults;
@@ -14,10 +15,12 @@ mod image;
 mod looks;
 mod maker;
 pub mod named;
+pub mod old;
 pub mod orders;
 pub mod random;
 pub mod repacks;
 mod room;
+pub mod rows;
 pub mod sick;
 pub mod singles;
 pub mod stock;
@@ -40,7 +43,7 @@ pub const AWAITED: &[u8] = &[];
 
 impl Ops {
     /// Every op of TRACE.md's table.
-    pub const LIST: [u8; 16] = [1, 2, 3, 4, 5, 6, 7, 8, 9, 10, 11, 12, 32, 33, 34, 35];
+    pub const LIST: [u8; 19] = [1, 2, 3, 4, 5, 6, 7, 8, 9, 10, 11, 12, 17, 18, 32, 33, 34, 35, 36];
 
     pub fn all() -> Self {
         Ops(Self::LIST.iter().fold(0, |ops, op| ops | 1 << op))
@@ -85,6 +88,21 @@ impl Ops {
         self.has(32) && !(1..=12).any(|op| self.has(op))
     }
 
+    /// Are images converted, and nothing else done but restore, figures and questions?
+    pub fn converts_alone(self) -> bool {
+        self.has(36) && !(1..=12).any(|op| self.has(op))
+    }
+
+    /// Does none of them touch the box? Then they ask a row or convert an image.
+    pub fn without_store(self) -> bool {
+        Self::LIST.iter().all(|op| !self.has(*op) || [17, 18, 36].contains(op))
+    }
+
+    /// Are bones asked?
+    pub fn bones_asked(self) -> bool {
+        self.has(17) || self.has(18)
+    }
+
     /// Is there something to read by, and restore the only op that changes the box? Then what is read comes from images.
     pub fn reads_images(self) -> bool {
         self.has(32) && (1..=5).any(|op| self.has(op)) && !(6..=12).any(|op| self.has(op))
@@ -106,6 +124,10 @@ pub enum Kind {
     Singles,
     /// Images written, of stores with several tables, and restored.
     Written,
+    /// Old images converted, and what came of them.
+    Converted,
+    /// The bones of rows, and calls that take these rows.
+    Bones,
     /// Images, sound, sick and faulty, with the store's figures between.
     Images,
     /// The same of few or many keys that are much alike, the entries in any order.
@@ -123,17 +145,17 @@ pub enum Kind {
 }
 
 const KINDS: [(Kind, usize); 11] = [
-    (Kind::Fresh, 215),
-    (Kind::Odd, 275),
+    (Kind::Fresh, 200),
+    (Kind::Odd, 250),
     (Kind::Held, 65),
     (Kind::Chains, 50),
     (Kind::Images, 130),
     (Kind::Hostile, 40),
     (Kind::Room, 70),
-    (Kind::Large, 10),
-    (Kind::Repacks, 10),
-    (Kind::Damaged, 110),
-    (Kind::Edge, 25),
+    (Kind::Large, 24),
+    (Kind::Repacks, 25),
+    (Kind::Damaged, 100),
+    (Kind::Edge, 46),
 ];
 
 /// The kind of trace that a seed gives.
@@ -142,19 +164,36 @@ pub fn kind_of(seed: u64) -> Kind {
     KINDS[random::Random::new(!seed).weighted(&weights)].0
 }
 
-/// The trace of a seed. A full box costs a driver as much time as thousands of reads and shows restore alone, so where
+/// So many traces of one seed are apart from those of the next.
+const TRACES_OF_A_SEED: u64 = 1 << 20;
+
+/// The n-th trace of a run from this seed.
+pub fn nth_trace(seed: u64, number: u64, ops: Ops) -> Bytes {
+    trace(seed.wrapping_mul(TRACES_OF_A_SEED).wrapping_add(number), ops)
+}
+
+/// The trace of a seed of its own. A full box costs a driver as much time as thousands of reads and shows restore alone, so where
 /// images are what is read, most of these give way to small ones. One trace in twelve, and where the changing ops are
-/// single forms alone every second, is about these; one in 24 is about images that are written. Where restore stands
-/// alone, all that would be about calls is about images.
+/// single forms alone every second, is about these; one in 24 is about images that are written, one in twelve about old
+/// images, one in 24 about bones. Where restore stands alone, all that would be about calls is about images; where no op
+/// touches the box, all is about old images and bones.
 pub fn trace(seed: u64, ops: Ops) -> Bytes {
     let kind = match kind_of(seed) {
+        Kind::Damaged => Kind::Damaged,
+        Kind::Edge => Kind::Edge,
+        Kind::Large if ops.without_store() && ops.has(36) => Kind::Large,
+        _ if ops.without_store() && ops.has(36) && !(seed.is_multiple_of(4) && ops.bones_asked()) => Kind::Converted,
+        _ if ops.without_store() => Kind::Bones,
         Kind::Room | Kind::Large if ops.reads_images() && !seed.is_multiple_of(8) => Kind::Odd,
+        Kind::Fresh | Kind::Odd | Kind::Held | Kind::Chains if ops.converts_alone() => Kind::Converted,
         Kind::Chains if !ops.has(1) && !ops.restores_alone() => Kind::Odd,
         Kind::Fresh if ops.restores_alone() => Kind::Images,
         Kind::Odd | Kind::Held | Kind::Chains if ops.restores_alone() => Kind::Hostile,
         Kind::Fresh | Kind::Odd if ops.singles_alone() => Kind::Singles,
         Kind::Fresh | Kind::Odd if ops.complete() && seed.is_multiple_of(6) => Kind::Singles,
         Kind::Fresh | Kind::Odd if ops.has(35) && seed % 12 == 1 => Kind::Written,
+        Kind::Fresh | Kind::Odd if ops.has(36) && matches!(seed % 12, 3 | 9) => Kind::Converted,
+        Kind::Fresh | Kind::Odd if ops.bones_asked() && seed % 12 == 5 => Kind::Bones,
         kind => kind,
     };
     trace_of(kind, seed, ops)
@@ -180,15 +219,17 @@ pub fn trace_of(kind: Kind, seed: u64, ops: Ops) -> Bytes {
         Kind::Chains => maker.chains(),
         Kind::Singles => single_forms(&mut maker),
         Kind::Written => maker.written(),
+        Kind::Converted => maker.converted(),
+        Kind::Bones => maker.asked(),
         Kind::Images => {
-            for _ in 0..maker.random.between(1, 6) {
+            for _ in 0..maker.random.between(3, 10) {
                 let restore = maker.restore();
                 maker.push(restore);
                 maker.look();
             }
         }
         Kind::Hostile => {
-            for _ in 0..maker.random.between(1, 6) {
+            for _ in 0..maker.random.between(2, 8) {
                 let image = hostile::any(&mut maker.random, &maker.stock);
                 maker.push(Call::Restore { image });
                 maker.look();
@@ -206,6 +247,10 @@ pub fn trace_of(kind: Kind, seed: u64, ops: Ops) -> Bytes {
                 maker.push(restore);
             }
             some_calls(&mut maker, 1, 8);
+            if maker.random.percent(40) {
+                let call = maker.prewrite(6, false);
+                maker.push(call);
+            }
             return damage::damaged(&mut maker.random, &maker.calls, ops);
         }
         Kind::Edge => return damage::edge(&mut maker.random, ops),
@@ -235,9 +280,12 @@ fn single_forms(maker: &mut Maker) {
 
 /// A box short of, at or one past a room, by an image or by calls alone, then calls around it.
 fn room(maker: &mut Maker) {
+    if maker.ops.has(36) && maker.random.percent(25) {
+        return maker.converted_room();
+    }
     let which = maker.random.below(4);
     if maker.ops.has(32) && maker.random.percent(80) {
-        let past = *maker.random.pick(&[-40, -3, -2, -1, -1, 0, 0, 1]);
+        let past = *maker.random.pick(&[-40, -3, -2, -1, 0, 0, 1, 1]);
         let image = room::beside_room(&mut maker.random, which, past);
         maker.push(Call::Restore { image: image.write() });
     } else {
@@ -258,8 +306,11 @@ fn room(maker: &mut Maker) {
     }
 }
 
-/// All four rooms full and calls on them, or images beyond.
+/// All four rooms full and calls on them, images beyond, or old ones of that length.
 fn large(maker: &mut Maker) {
+    if maker.ops.has(36) && (maker.ops.without_store() || maker.random.percent(50)) {
+        return maker.converted_large();
+    }
     if maker.random.percent(50) {
         let image = room::all_full(&mut maker.random);
         maker.push(Call::Restore { image: image.write() });

@@ -53,6 +53,12 @@ impl Maker {
         if bounds.start > bounds.end && bounds.end.is_some() && self.random.percent(if faulty { 40 } else { 85 }) {
             std::mem::swap(&mut bounds.start, &mut bounds.end);
         }
+        // Start not below end, and a resume out of form behind it.
+        if faulty && self.random.percent(12) {
+            let key = self.stock.key(&mut self.random, &self.store);
+            let resume = self.stock.key_out_of_form(&mut self.random, true);
+            return Bounds { start: Some(key.clone()), end: Some(key), resume: Some(resume) };
+        }
         if bounds.resume.is_some() && self.random.percent(15) {
             bounds.resume = self.random.pick(&[bounds.start.clone(), bounds.end.clone()]).clone();
         }
@@ -138,16 +144,26 @@ impl Maker {
         Call::IntentPage { lock_limit, bounds, buffer: self.buffer(needed) }
     }
 
+    /// The start of a lock that is below the last key's, if there is one.
+    fn below_last_lock(&mut self) -> Option<u64> {
+        let last = self.store.locks.values().next_back()?.start;
+        let below: Vec<u64> = self.store.locks.values().map(|lock| lock.start).filter(|start| *start < last).collect();
+        if below.is_empty() { None } else { Some(*self.random.pick(&below)) }
+    }
+
     pub fn conflicting(&mut self, faulty: bool) -> Call {
-        let bounds = self.bounds(faulty);
-        let moment = self.moment(faulty);
+        let (mut bounds, mut moment) = (self.bounds(faulty), self.moment(faulty));
+        // Just all that conflict: a lock above the moment that comes after them makes no more.
+        let below_last = if self.random.percent(40) { self.below_last_lock() } else { None };
+        if let Some(start) = below_last {
+            (bounds, moment) = (Bounds::default(), start);
+        }
         let mut buffer = vec![0; ROOMY];
         let whole = self.store.conflicting_intents(moment, u64::MAX, u64::MAX, &bounds, &mut buffer);
         let costs = whole.map(|count| costs(&buffer[..count as usize], true)).unwrap_or_default();
         let mut lock_limit = self.entry_limit(costs.len(), faulty);
         let mut byte_limit = self.byte_limit(&costs, faulty);
-        // Just all that conflict: a lock above the moment that comes after them makes no more.
-        if !costs.is_empty() && self.random.percent(20) {
+        if !costs.is_empty() && (below_last.is_some() || self.random.percent(20)) {
             (lock_limit, byte_limit) = (costs.len() as u64, u64::MAX);
         }
         let needed = self.store.conflicting_intents(moment, lock_limit, byte_limit, &bounds, &mut buffer).ok();

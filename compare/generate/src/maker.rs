@@ -20,7 +20,7 @@ pub struct Maker {
 }
 
 /// The ops and how often each is drawn.
-const OPS: [(u8, usize); 16] = [
+const OPS: [(u8, usize); 19] = [
     (1, 10),
     (2, 16),
     (3, 5),
@@ -33,10 +33,13 @@ const OPS: [(u8, usize); 16] = [
     (10, 8),
     (11, 6),
     (12, 12),
+    (17, 4),
+    (18, 2),
     (32, 4),
     (33, 4),
     (34, 2),
     (35, 4),
+    (36, 2),
 ];
 
 /// How many points stand for a page.
@@ -74,10 +77,13 @@ impl Maker {
             8 | 9 => self.commit(op, faulty),
             10 | 11 => self.rollback(op, faulty),
             12 => self.one_step(faulty),
+            17 => self.bone(faulty),
+            18 => self.how_many(faulty),
             32 => self.restore(),
             33 => Call::Statistics,
             34 => Call::Marks,
-            _ => self.write_image(faulty),
+            35 => self.write_image(faulty),
+            _ => self.convert(),
         };
         let look_after = (6..=12).contains(&op) && self.random.percent(if op == 12 { 60 } else { 25 });
         self.push(call);
@@ -108,8 +114,8 @@ impl Maker {
     pub fn restore(&mut self) -> Call {
         let image = few_keys(&mut self.random, &self.stock);
         let image = match self.random.below(10) {
-            0..5 => image.write(),
-            5 => with_extreme(&mut self.random, image),
+            0..4 => image.write(),
+            4 => with_extreme(&mut self.random, image),
             _ => faults::any(&mut self.random, &self.stock, image),
         };
         Call::Restore { image }

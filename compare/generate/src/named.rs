@@ -9,18 +9,19 @@ use paper::trace::{Call, MOST_BYTES};
 use crate::batch::mutation_bytes;
 use crate::random::Random;
 use crate::room;
+use crate::rows::SMALLEST;
 
 fn key(name: &[u8]) -> Bytes {
     [&[0, 0, 0, 1], name].concat()
 }
 
 fn prewrite(name: &[u8], start: u64) -> Call {
-    let (primary, key, row) = (key(b"a"), key(name), vec![0, 0]);
+    let (primary, key, row) = (key(b"a"), key(name), SMALLEST.to_vec());
     Call::Prewrite { transaction: 7, start, time_to_live: 1, kind: Kind::Put, primary, key, row }
 }
 
 fn puts(names: &[&[u8]]) -> Bytes {
-    let entry = |name: &&[u8]| Entry { key: key(name), kind: Kind::Put, row: vec![0, 0] };
+    let entry = |name: &&[u8]| Entry { key: key(name), kind: Kind::Put, row: SMALLEST.to_vec() };
     mutation_bytes(&names.iter().map(entry).collect::<Vec<Entry>>())
 }
 
@@ -57,9 +58,9 @@ pub fn cases() -> Vec<(&'static str, Vec<Call>)> {
         ("W6", vec![rollback(b"a", 5), Call::Statistics, rollback(b"a", 5), Call::Statistics]),
         ("W7", vec![rollback(b"a", 5), prewrite(b"a", 5)]),
         ("W8", after_w2(vec![one_step(&[b"a"]), one_step(&[b"a", b"b"])])),
-        ("W9", after_w2(vec![page(7, 11), page(7, 12), page(7, 14)])),
-        ("W10", after_w2(vec![page(6, 12)])),
-        ("W11", after_w2(vec![prewrite(b"b", 12), page(7, 12)])),
+        ("W9", after_w2(vec![page(8, 12), page(8, 13), page(8, 15)])),
+        ("W10", after_w2(vec![page(7, 13)])),
+        ("W11", after_w2(vec![prewrite(b"b", 12), page(8, 13)])),
         ("the last start", {
             let last = u64::MAX;
             vec![
@@ -95,7 +96,7 @@ fn all_full() -> Vec<Call> {
     let image = room::all_full(&mut Random::new(1));
     let mut beyond = Image { table: 1, ..Image::default() };
     for number in 0..1025_u16 {
-        beyond.defaults.push((key(&number.to_be_bytes()), 1, vec![0, 0]));
+        beyond.defaults.push((key(&number.to_be_bytes()), 1, SMALLEST.to_vec()));
         beyond.writes.push((key(&number.to_be_bytes()), 2, RawRecord { start: 1, commit: 2, kind: 1 }));
     }
     let mut orphan = beyond.clone();

@@ -10,6 +10,7 @@ use paper::trace::Call;
 
 use crate::batch::{key_bytes, mutation_bytes};
 use crate::random::Random;
+use crate::rows::SMALLEST;
 
 /// The calls that bring bytes, by their ops.
 pub const OPS: [u8; 7] = [6, 7, 8, 9, 10, 11, 12];
@@ -22,7 +23,7 @@ const FILLS: [(usize, usize); MOST] = [(20_000, 12), (34_000, 110), (34_000, 255
 const TRANSACTION: u64 = 7;
 /// The rows that stand have these lengths in turn, where 0 is a Delete, and their keys those, both from a place of the
 /// trace's own on.
-const ROWS: [usize; 9] = [2, 255, 60, 0, 130, 254, 12, 200, 90];
+const ROWS: [usize; 9] = [3, 255, 60, 0, 130, 254, 12, 200, 90];
 const KEYS: [usize; 5] = [6, 48, 7, 20, 33];
 /// The shortest key that is made here; a Rollback of it has so many bytes.
 const SHORT: usize = 6;
@@ -60,7 +61,7 @@ pub fn calls(random: &mut Random) -> Vec<Call> {
     }
     let mut ops = OPS;
     random.shuffle(&mut ops);
-    let ops = &ops[..*random.pick(&[1, 2, MOST, MOST])];
+    let ops = &ops[..*random.pick(&[1, MOST, MOST, MOST, MOST, MOST])];
     let turn = random.below(KEYS.len() * ROWS.len());
     packed(turn, ops, random.percent(50))
 }
@@ -115,11 +116,11 @@ fn full_and_packed(op: u8) -> Vec<Call> {
 
 /// A Put with a row of this length that tells its key; of length 0, a Delete.
 fn entry(key: &Bytes, length: usize) -> Entry {
-    let text = (0..length.saturating_sub(3)).map(|at| key[4].wrapping_mul(7) ^ key[5] ^ at as u8);
+    let text = (0..length.saturating_sub(4)).map(|at| key[4].wrapping_mul(7) ^ key[5] ^ at as u8);
     let (kind, row) = match length {
         0 => (Kind::Delete, Bytes::new()),
-        2 => (Kind::Put, vec![0, 0]),
-        _ => (Kind::Put, [0, 1, (length - 3) as u8].into_iter().chain(text).collect()),
+        3 => (Kind::Put, SMALLEST.to_vec()),
+        _ => (Kind::Put, [0, 1, (length - 4) as u8].into_iter().chain(text).chain([0]).collect()),
     };
     Entry { key: key.clone(), kind, row }
 }

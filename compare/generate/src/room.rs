@@ -5,7 +5,7 @@ use paper::room::{DEFAULTS, LINES, LIVE_BYTES, LOCKS};
 use paper::store::Bytes;
 
 use crate::random::Random;
-use crate::stock::row_of;
+use crate::rows::{SMALLEST, row_of};
 
 /// The table of full boxes.
 const TABLE: u32 = 1;
@@ -50,7 +50,7 @@ fn lines(random: &mut Random, image: &mut Image, lines: usize) {
         let chain = (*random.pick(&[1, 1, 2, 4, 5, 16, 17])).min(left);
         for start in 1..=chain as u64 {
             if number % 9 == 0 {
-                add_put(image, key(number), start, vec![0, 0]);
+                add_put(image, key(number), start, SMALLEST.to_vec());
             } else {
                 image.writes.push((key(number), start, RawRecord { start, commit: start, kind: 3 }));
             }
@@ -79,7 +79,7 @@ fn add_locks(random: &mut Random, image: &mut Image, locks: usize) {
     for number in 60_000..60_000 + locks {
         let lock = lock(random, key(60_000));
         if lock.kind == 1 {
-            image.defaults.push((key(number), lock.start, vec![0, 0]));
+            image.defaults.push((key(number), lock.start, SMALLEST.to_vec()));
         }
         image.locks.push((key(number), lock));
     }
@@ -90,14 +90,14 @@ fn add_locks(random: &mut Random, image: &mut Image, locks: usize) {
 fn defaults(random: &mut Random, image: &mut Image, defaults: usize) {
     for number in 60_000..60_000 + *random.pick(&[0, 1, 30]) {
         image.locks.push((key(number), RawLock { kind: 1, ..lock(random, key(60_000)) }));
-        image.defaults.push((key(number), 9, vec![0, 0]));
+        image.defaults.push((key(number), 9, SMALLEST.to_vec()));
     }
     let mut left = defaults - image.defaults.len();
     let mut number = 0;
     while left > 0 {
         let chain = (*random.pick(&[1, 2, 4, 5, 16, 17])).min(left);
         for start in 1..=chain as u64 {
-            add_put(image, key(number), start, vec![0, 0]);
+            add_put(image, key(number), start, SMALLEST.to_vec());
         }
         left -= chain;
         number += 1;
@@ -123,11 +123,11 @@ fn live_bytes(random: &mut Random, image: &mut Image, live_bytes: usize) {
     fill_with_rows(image, left, 1000);
 }
 
-/// Put records of just these live bytes, of which there are at least 14: a 6-byte key, that of the default, and a row of
-/// 2 to 255 bytes each.
+/// Put records of just these live bytes, of which there are at least 15: a 6-byte key, that of the default, and a row of
+/// 3 to 255 bytes each.
 fn fill_with_rows(image: &mut Image, mut left: usize, mut number: usize) {
     while left > 0 {
-        let row = if left <= 267 { left - 12 } else { (left - 12 - 14).min(250) };
+        let row = if left <= 267 { left - 12 } else { (left - 12 - 15).min(250) };
         add_put(image, key(number), 1, row_of(row));
         left -= 12 + row;
         number += 1;
@@ -157,7 +157,7 @@ pub fn far_beyond(random: &mut Random, entries: usize) -> Image {
     let section = random.below(3);
     for number in 0..entries {
         match section {
-            0 => add_put(&mut image, key(number), 1, vec![0, 0]),
+            0 => add_put(&mut image, key(number), 1, SMALLEST.to_vec()),
             1 => image.locks.push((key(number), RawLock { kind: 2, ..lock(random, key(0)) })),
             _ => image.writes.push((key(number), 1, RawRecord { start: 1, commit: 1, kind: 3 })),
         }

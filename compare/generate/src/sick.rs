@@ -10,7 +10,7 @@ use crate::batch::mutation_bytes;
 use crate::faults::{Fault, Place, add};
 use crate::orders::{Order, ascends, default_mark, lock_mark, put, write_mark};
 use crate::random::Random;
-use crate::stock::row;
+use crate::rows::{SMALLEST, row};
 
 /// The longest key.
 const LONGEST: usize = 48;
@@ -175,7 +175,7 @@ type Writes<'a> = &'a [(Bytes, u64, RawRecord)];
 
 /// A restore of lines of key a, with defaults of these starts.
 fn restore(defaults: &[u64], locks: Locks, writes: Writes) -> Call {
-    let defaults = defaults.iter().map(|start| (a(), *start, vec![0, 0])).collect();
+    let defaults = defaults.iter().map(|start| (a(), *start, SMALLEST.to_vec())).collect();
     Call::Restore { image: Image { table: 1, defaults, locks: locks.to_vec(), writes: writes.to_vec() }.write() }
 }
 
@@ -254,7 +254,7 @@ fn many(orphans: usize) -> Call {
     let mut image = Image { table: 1, ..Image::default() };
     for number in 0..1025 {
         let key = [&a()[..], &(number as u16).to_be_bytes()].concat();
-        image.defaults.push((key.clone(), 1, vec![0, 0]));
+        image.defaults.push((key.clone(), 1, SMALLEST.to_vec()));
         if number >= orphans {
             image.writes.push((key, 2, RawRecord { start: 1, commit: 2, kind: 1 }));
         }

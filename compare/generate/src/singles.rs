@@ -5,7 +5,7 @@ use paper::trace::Call;
 
 use crate::maker::Maker;
 use crate::random::Random;
-use crate::stock::row_of;
+use crate::rows::{SMALLEST, row_of};
 
 /// Lengths of keys and rows: none, the most that a length byte can say, and beyond.
 pub const LENGTHS: [usize; 5] = [0, 255, 256, 300, 600];
@@ -72,17 +72,18 @@ fn followed(length: usize) -> Bytes {
     row
 }
 
-/// No integers and as many texts as fill the length, each of its own length byte and at most 255 more.
+/// No integers, as many texts as fill the length, each of its own length byte and at most 255 more, and no bones.
 fn sections(length: usize) -> Bytes {
-    if length < 2 {
+    if length < 3 {
         return Bytes::new();
     }
-    let texts: Vec<usize> = (0..length - 2).step_by(256).map(|at| (length - 2 - at).min(256)).collect();
+    let texts: Vec<usize> = (0..length - 3).step_by(256).map(|at| (length - 3 - at).min(256)).collect();
     let mut row = vec![0, texts.len() as u8];
     for text in texts {
         row.push((text - 1) as u8);
         row.resize(row.len() + text - 1, b's');
     }
+    row.push(0);
     row
 }
 
@@ -102,14 +103,14 @@ fn prewrite((transaction, start): (u64, u64), primary: Bytes, key: Bytes, kind: 
 /// Beside a lock of the key that a wrapped length would name.
 fn odd_keys() -> Vec<Call> {
     let (start, commit) = (10, 12);
-    let mut calls = vec![prewrite((7, start), a(), a(), Kind::Put, &[0, 0])];
+    let mut calls = vec![prewrite((7, start), a(), a(), Kind::Put, &SMALLEST)];
     for key in LENGTHS.into_iter().map(key_of).chain([longer(&a())]) {
         for transaction in [7, 0] {
-            calls.push(prewrite((transaction, start), a(), key.clone(), Kind::Put, &[0, 0]));
+            calls.push(prewrite((transaction, start), a(), key.clone(), Kind::Put, &SMALLEST));
             calls.push(Call::Commit { transaction, start, commit, key: key.clone() });
             calls.push(Call::Rollback { transaction, start, key: key.clone() });
         }
-        calls.push(prewrite((7, start), key, a(), Kind::Put, &[0, 0]));
+        calls.push(prewrite((7, start), key, a(), Kind::Put, &SMALLEST));
     }
     calls.push(Call::Statistics);
     calls
@@ -118,7 +119,7 @@ fn odd_keys() -> Vec<Call> {
 /// Behind a zero transaction, behind a primary and behind a key out of form, and then alone; what was taken is rolled back.
 fn odd_rows() -> Vec<Call> {
     let read_well = LENGTHS.into_iter().map(sections);
-    let others = [followed(256), followed(300), followed(600), longer(&[0, 0]), longer(&row_of(100))];
+    let others = [followed(256), followed(300), followed(600), longer(&SMALLEST), longer(&row_of(100))];
     let mut calls = Vec::new();
     let rows = read_well.chain(others).flat_map(|row| [(Kind::Put, row.clone()), (Kind::Delete, row)]);
     for (start, (kind, row)) in (10..).zip(rows) {

@@ -1,4 +1,4 @@
-//! What calls are made of: few keys with common prefixes in several tables, rows, and small or extreme numbers, drawn
+//! What calls are made of: few keys with common prefixes in several tables, and small or extreme numbers, drawn
 //! from the store as it stands where that is sharper.
 
 use paper::store::{Bytes, Store};
@@ -154,49 +154,4 @@ pub fn stamps_of(store: &Store, key: &[u8]) -> Vec<u64> {
     known.extend(store.lock_of(key).map(|lock| lock.start));
     known.extend(store.defaults.get(key).into_iter().flat_map(|chain| chain.keys().copied()));
     known
-}
-
-/// A row in form; most are short.
-pub fn row(random: &mut Random) -> Bytes {
-    match random.below(20) {
-        0..6 => vec![0, 0],
-        6..9 => vec![0, 1, 1, *random.pick(b"xyz")],
-        9..12 => [&[1][..], &(random.number() as i64).to_be_bytes(), &[0]].concat(),
-        12 => [&[8][..], &random.bytes(64), &[0]].concat(),
-        13 => [&[0, 8][..], &[0; 8]].concat(),
-        14 => vec![0, 1, 2, 0xC3, 0x28],
-        15 => row_of(255),
-        16 => row_of(254),
-        17 => [&[8][..], &random.bytes(64), &[8], &[1, 7].repeat(8)].concat(),
-        18 => vec![0, 2, 0, 3, 0, 0, 255],
-        _ => {
-            let length = random.between(4, 60);
-            row_of(length)
-        }
-    }
-}
-
-/// A row in form of just this length, which is 2 or at least 3.
-pub fn row_of(length: usize) -> Bytes {
-    match length {
-        2 => vec![0, 0],
-        _ => [&[0, 1, (length - 3) as u8][..], &vec![b't'; length - 3]].concat(),
-    }
-}
-
-/// A row out of form; alone also one above 255 bytes whose sections read well.
-pub fn row_out_of_form(random: &mut Random, alone: bool) -> Bytes {
-    match random.below(if alone { 11 } else { 9 }) {
-        0 => Bytes::new(),
-        1 => vec![0],
-        2 => vec![0, 0, 0],
-        3 => [&[9][..], &[0; 72], &[0]].concat(),
-        4 => [&[0, 9][..], &[0; 9]].concat(),
-        5 => vec![0, 1, 2, b'x'],
-        6 => vec![1, 0, 0, 0, 0],
-        7 => [&[1][..], &[0; 8]].concat(),
-        8 => vec![0, 1],
-        9 => [&[0, 2, 250][..], &[b'x'; 250], &[2, b'y', b'z']].concat(),
-        _ => [&[0, 2, 200][..], &[b'x'; 200], &[97], &[b'y'; 97]].concat(),
-    }
 }

@@ -8,7 +8,8 @@ use paper::trace::Call;
 
 use crate::batch::{broken_keys, broken_mutations, key_bytes, mutation_bytes};
 use crate::maker::Maker;
-use crate::stock::{row, row_out_of_form, stamp, time_to_live, transaction};
+use crate::rows::{row, row_out_of_form};
+use crate::stock::{stamp, time_to_live, transaction};
 
 /// What a changing call is aimed at; the keys ascend.
 pub struct Aim {
@@ -77,8 +78,19 @@ impl Maker {
     }
 
     pub fn one_step(&mut self, faulty: bool) -> Call {
-        let aim = self.aim([30, 30, 15, 25], faulty);
-        let entries = self.entries(&aim, faulty, false);
+        let mut aim = self.aim([30, 30, 15, 25], faulty);
+        // A key more, of which the batch may not be applied although others are.
+        if self.random.percent(12) {
+            aim.keys.push(self.stock.key(&mut self.random, &self.store));
+            aim.keys.sort();
+            aim.keys.dedup();
+        }
+        let mut entries = self.entries(&aim, faulty, false);
+        // A Put that may be applied as a Delete.
+        if self.random.percent(10) {
+            let at = self.random.below(entries.len());
+            entries[at] = Entry { key: entries[at].key.clone(), kind: Kind::Delete, row: Bytes::new() };
+        }
         let batch = self.mutation_batch(entries, faulty);
         let Aim { transaction, start, commit, .. } = aim;
         Call::OneStep { transaction, start, commit, batch }
@@ -196,17 +208,25 @@ impl Maker {
 
     /// An entry a key: of the kind and row that stand there if it is a replay, mostly.
     fn entries(&mut self, aim: &Aim, faulty: bool, alone: bool) -> Vec<Entry> {
+        let bad_row = self.random.percent(if faulty { 50 } else { 15 }).then(|| self.random.below(aim.keys.len()));
         aim.keys
             .iter()
-            .map(|key| {
+            .enumerate()
+            .map(|(at, key)| {
                 // Where the key is out of form the row often is too, so that the order of 1 and 2 shows.
-                let bad_rows = if faulty || !key_in_form(key) { 30 } else { 3 };
+                let bad_rows = if bad_row == Some(at) {
+                    90
+                } else if key_in_form(key) {
+                    1
+                } else {
+                    30
+                };
                 let lock = self.store.lock_of(key).filter(|lock| lock.start == aim.start).map(|lock| lock.kind);
                 let record = self.store.record_at(key, aim.commit).map(|record| record.kind);
                 let stored = self.store.default_at(key, aim.start);
                 let kind = match lock.or(record) {
                     None if stored.is_some() && self.random.percent(40) => Kind::Delete,
-                    Some(kind) if kind != Kind::Rollback && self.random.percent(85) => kind,
+                    Some(kind) if kind != Kind::Rollback && self.random.percent(75) => kind,
                     _ => *self.random.pick(&[Kind::Put, Kind::Put, Kind::Delete]),
                 };
                 let row = match stored {

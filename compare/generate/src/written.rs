@@ -17,6 +17,7 @@ use crate::orders::{Order, put};
 use crate::random::Random;
 use crate::repacks;
 use crate::room;
+use crate::rows::SMALLEST;
 
 /// Tables that are alike in some of their bytes, or beside each other.
 const TABLES: [u32; 12] =
@@ -173,7 +174,7 @@ const DRAWN: u64 = 12;
 /// One key with so many Puts, whose starts are in no order by their stamps, and a Put lock whose start is among them; each
 /// row says its start. The entries of the image stand in no order.
 fn crossed_chain(random: &mut Random, key: &Bytes, many: usize) -> Image {
-    let row = |start: u64| [&[1][..], &start.to_be_bytes(), &[0]].concat();
+    let row = |start: u64| [&[1][..], &start.to_be_bytes(), &[0, 0]].concat();
     let mut starts: Vec<u64> = (1..=many as u64 + 1).collect();
     random.shuffle(&mut starts);
     let mut image = Image { table: table_of(key), ..Image::default() };
@@ -226,10 +227,10 @@ fn odd_image() -> Image {
     Image {
         table: 1,
         defaults: vec![
-            (b.clone(), 30, vec![0, 1, 1, b'b']),
-            (a.clone(), 6, vec![0, 1, 1, b'6']),
-            (a.clone(), 3, vec![0, 1, 1, b'3']),
-            (a.clone(), 5, vec![0, 1, 1, b'5']),
+            (b.clone(), 30, vec![0, 1, 1, b'b', 0]),
+            (a.clone(), 6, vec![0, 1, 1, b'6', 1, 1]),
+            (a.clone(), 3, vec![0, 1, 1, b'3', 9, 0, 1]),
+            (a.clone(), 5, vec![0, 1, 1, b'5', 0]),
         ],
         locks: vec![(b.clone(), lock(b.clone(), 30, 1)), (a.clone(), lock(key(2, b"a"), 3, 1))],
         writes: vec![
@@ -252,7 +253,7 @@ fn several_tables() -> Vec<Call> {
     around(maker, 1);
     for table in [256, 2, 0x100_0000, 0x101] {
         let keys = [key(table, b"a"), key(table, b"aa"), key(table, b"b")];
-        let entry = |key: &Bytes| Entry { key: key.clone(), kind: Kind::Put, row: vec![0, 0] };
+        let entry = |key: &Bytes| Entry { key: key.clone(), kind: Kind::Put, row: SMALLEST.to_vec() };
         let batch = mutation_bytes(&keys[..2].iter().map(entry).collect::<Vec<Entry>>());
         let (transaction, start, primary) = (8, 40, key(1, b"a"));
         maker.push(Call::OneStep { transaction, start, commit: 41, batch: batch.clone() });

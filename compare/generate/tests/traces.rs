@@ -21,7 +21,21 @@ fn a_seed_gives_one_trace() {
 
 #[test]
 fn only_the_ops_asked_for() {
-    for list in ["32,33,34", "1,5,32,33,34", "12, 2", "33", "35", "6,8,35", "32,33,34,35"] {
+    for list in [
+        "32,33,34",
+        "1,5,32,33,34",
+        "12, 2",
+        "33",
+        "35",
+        "6,8,35",
+        "32,33,34,35",
+        "17,18",
+        "18",
+        "36",
+        "17,36",
+        "6,7,12,17,18,32,36",
+        "1,6,7,12,17,18,32,36",
+    ] {
         let ops = Ops::read(list).expect("a list of ops");
         let mut seen = BTreeSet::new();
         for seed in 0..300 {
@@ -93,7 +107,7 @@ fn single_forms_come_with_every_length() {
             }
         }
     }
-    assert!(singles * 10 >= all * 6, "{singles} of {all}");
+    assert!(singles * 10 >= all * 5, "{singles} of {all}");
     for length in singles::LENGTHS {
         for place in [(6, "key"), (8, "key"), (10, "key"), (6, "Put row"), (6, "Delete row")] {
             let seen = lengths.get(&(place.0, place.1, length)).copied().unwrap_or(0);
@@ -123,7 +137,7 @@ fn every_call_meets_locks_of_every_sort() {
     assert!(lives.len() >= 300 && lives.last() == Some(&u64::MAX), "{} times to live", lives.len());
 }
 
-/// Of the reads, a third meet several records of their key by the moment, a Rollback among them, and some
+/// Of the reads, a quarter meet several records of their key by the moment, a Rollback among them, and some
 /// more than one byte can count.
 #[test]
 fn reads_meet_chains() {
@@ -141,7 +155,7 @@ fn reads_meet_chains() {
             }
         }
     }
-    assert!(several * 3 >= all, "{several} of {all}");
+    assert!(several * 4 >= all, "{several} of {all}");
     assert!(most > 255, "{most} at most");
 }
 
@@ -226,10 +240,13 @@ fn every_op_gets_every_answer_it_can_give() {
         (10, &[0, 1, 3, 7, 8, 9, 11]),
         (11, &[0, 1, 3, 5, 6, 7, 8, 9, 11]),
         (12, &[0, 1, 2, 3, 6, 7, 8, 9, 11]),
+        (17, &[0, 2, 3]),
+        (18, &[0, 2]),
         (32, &[0, 11, 13]),
         (33, &[0]),
         (34, &[0]),
         (35, &[0, 3, 12]),
+        (36, &[0, 12, 13]),
     ];
     for (op, numbers) in expected {
         let given: Vec<u8> = seen.iter().filter(|(other, _)| other == op).map(|(_, number)| *number).collect();

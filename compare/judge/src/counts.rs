@@ -1,7 +1,7 @@
 //! What was compared: the calls by op; those on a box that is just full, those that meet a lock, the reads by the records
 //! that they examine, and the calls that pack the area anew; the single forms by the lengths that a batch's length byte
-//! sets apart; the restores by the order of their entries, by the answer and by what makes the image sick; and the images
-//! that were written.
+//! sets apart; the restores by the order of their entries, by the answer and by what makes the image sick; the images that
+//! were written; the rows by their form, the bones that were asked, and the old images that were converted.
 
 use std::collections::BTreeMap;
 
@@ -16,8 +16,10 @@ use paper::sick::Sickness;
 use paper::store::Store;
 use paper::trace::{Call, read_trace};
 
+use crate::converted::Converted;
 use crate::held::Held;
 use crate::reads::Reads;
+use crate::rows::Rows;
 use crate::written::Written;
 
 #[derive(Default)]
@@ -33,6 +35,8 @@ pub struct Counts {
     restores: BTreeMap<&'static str, BTreeMap<u8, u64>>,
     sick: BTreeMap<&'static str, u64>,
     written: Written,
+    rows: Rows,
+    converted: Converted,
 }
 
 impl Counts {
@@ -44,6 +48,7 @@ impl Counts {
         self.answers += calls.len() as u64;
         let (mut store, mut area) = (Store::default(), Area::default());
         self.written.begin();
+        self.converted.begin();
         for call in &calls {
             self.take_full(&store);
             let (answer, packed) = area.run(&mut store, call);
@@ -53,6 +58,8 @@ impl Counts {
             self.held.take(&mut store, call, &answer);
             self.reads.take(&store, call, &answer);
             self.written.take(&store, call, &answer);
+            self.rows.take(call, &answer);
+            self.converted.take(call, &answer);
             match call {
                 Call::Prewrite { key, row, .. } => self.take_lengths(&[key.len(), row.len()]),
                 Call::Commit { key, .. } | Call::Rollback { key, .. } => self.take_lengths(&[key.len()]),
@@ -134,5 +141,7 @@ impl Counts {
         let sick: Vec<String> = self.sick.iter().map(|(kind, count)| format!("{kind} x{count}")).collect();
         println!("restores of sick images without other fault: {}", sick.join(", "));
         self.written.print();
+        self.rows.print();
+        self.converted.print();
     }
 }

@@ -3,11 +3,13 @@
 
 pub mod bends;
 pub mod classes;
+mod converted;
 mod counts;
 mod held;
 pub mod length;
 pub mod one;
 mod reads;
+mod rows;
 pub mod rust_side;
 pub mod sample;
 pub mod shrink;

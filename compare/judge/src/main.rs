@@ -103,7 +103,7 @@ fn read(mut words: impl Iterator<Item = String>) -> Option<Words> {
     let now = SystemTime::now().duration_since(UNIX_EPOCH).map_or(0, |since| since.as_secs());
     let mut read = Words {
         seconds: 10,
-        seed: now << 20,
+        seed: now,
         traces: None,
         per_start: 200,
         patience: 20,

@@ -31,8 +31,11 @@ pub struct Difference {
 /// names the holder exactly for 7, of which it has transaction and start alone. Of ours, a row out of form (2) is
 /// InvalidArgument, a batch not in form (6) makes no call, a short buffer (12) has the Rust give a page longer than the
 /// buffer; where there is no room (11) the Rust says Ok, which is a difference of the class `room`. To write an image the
-/// Rust is told no table number, so table 0 (3) makes no call.
+/// Rust is told no table number, so table 0 (3) makes no call. It is asked for no bones and converts no image.
 pub fn agrees(call: &Call, paper: &Answer, said: &Outcome) -> bool {
+    if matches!(call, Call::Bone { .. } | Call::Bones { .. } | Call::Convert { .. }) {
+        return *said == Outcome::NoCall;
+    }
     let buffer = match call {
         Call::Page { buffer, .. } | Call::IntentPage { buffer, .. } | Call::Conflicting { buffer, .. } => {
             Some(u64::from(*buffer))
@@ -104,7 +107,7 @@ pub fn run(length: &Length, seed: u64, ops: Ops, show_smallest: bool) -> bool {
     let (mut traces, mut calls_run) = (0_u64, 0_u64);
     let mut counts = Counts::default();
     while length.more(traces) {
-        let trace = generate::trace(seed.wrapping_add(traces), ops);
+        let trace = generate::nth_trace(seed, traces, ops);
         traces += 1;
         let Some(calls) = read_trace(&trace) else {
             continue;

@@ -34,7 +34,8 @@ pub enum Outcome {
     CorruptData,
     InvalidArgument,
     NotImplemented,
-    /// The batch or image is not in form, or the table number is 0, so there is nothing to hand over.
+    /// The batch or image is not in form, or the table number is 0, so there is nothing to hand over; or the Rust has no such
+    /// call.
     NoCall,
 }
 
@@ -134,6 +135,7 @@ pub fn run_rust<E: Engine>(engine: &mut E, call: &Call) -> Outcome {
             Some(image) => outcome(engine.restore(entries(image)), |()| (0, Bytes::new())),
             None => Outcome::NoCall,
         },
+        Call::Bone { .. } | Call::Bones { .. } | Call::Convert { .. } => Outcome::NoCall,
         Call::Statistics => Outcome::Accepted { count: 0, payload: numbers(&engine.statistics()) },
         Call::Marks => Outcome::Accepted { count: 0, payload: numbers(&engine.marks()) },
         Call::WriteImage { table: 0, .. } => Outcome::NoCall,

@@ -4,14 +4,14 @@
 use std::collections::BTreeMap;
 use std::path::Path;
 
-use generate::{Ops, chains, held, hostile, named, repacks, sick, singles, written};
+use generate::{Ops, bones, chains, held, hostile, named, old, repacks, sick, singles, written};
 use paper::area;
 use paper::bend::Bend;
 use paper::run::run_trace;
 use paper::store::Bytes;
 use paper::trace::{read_trace, write_trace};
 
-use crate::bends::{answers_of, notices, shown};
+use crate::bends::{answers_of, may_show, notices, ops_of, shown};
 use crate::two::{Driver, many_form};
 
 /// Traces are tried from this seed on, so many of each size.
@@ -50,11 +50,13 @@ impl Sample {
         }
         let pairs = pairs(&trace);
         let wanted = |have: Option<&u64>| have.is_none_or(|have| *have < WANTED);
+        let calls = ops_of(&trace);
         let new_answer = pairs.iter().any(|pair| wanted(self.answers.get(pair)));
         let noticed: Vec<usize> = Bend::ALL
             .iter()
             .enumerate()
             .filter(|(at, bend)| shown(**bend, self.ops) && wanted(self.bends.get(at)))
+            .filter(|(_, bend)| may_show(**bend, calls.as_deref()))
             .filter(|(_, bend)| notices(**bend, &trace, &straight))
             .map(|(at, _)| at)
             .collect();
@@ -84,8 +86,9 @@ pub fn write(folder: &str, ops: Ops) -> bool {
             sample.offer(write_trace(&calls), None);
         }
     }
-    // Images are written in cases of their own: those of full boxes are long, and would keep out what else a trace shows.
-    let drawn = ops.without(35);
+    // Images are written and converted in cases of their own: those of full boxes are long, and would keep out what else a
+    // trace shows.
+    let drawn = ops.without(35).without(36);
     for longest in SIZES {
         for number in 0..TRIED {
             // With every full box: a sample may take its time.
@@ -94,8 +97,17 @@ pub fn write(folder: &str, ops: Ops) -> bool {
         }
     }
     // Last, so that what the drawn traces are taken for does not hang on them.
-    let last =
-        [repacks::cases, singles::cases, hostile::cases, sick::cases, held::cases, chains::cases, written::cases];
+    let last = [
+        repacks::cases,
+        singles::cases,
+        hostile::cases,
+        sick::cases,
+        held::cases,
+        chains::cases,
+        written::cases,
+        bones::cases,
+        old::cases,
+    ];
     for (_, calls) in last.into_iter().flat_map(|cases| cases()) {
         if calls.iter().all(|call| ops.has(call.op())) {
             sample.offer(write_trace(&calls), None);

@@ -68,7 +68,14 @@ fn smaller_calls(mut calls: Vec<Call>, left: &mut usize, shows: &mut dyn FnMut(&
             shows(&write_trace(&other))
         };
         let smaller = match calls[at].clone() {
-            Call::Restore { image } => Image::read(&image).map(|image| smaller_image(image, left, &mut with)),
+            Call::Restore { image } => {
+                let restore = |image: &Image| Call::Restore { image: image.write() };
+                Image::read(&image).map(|image| smaller_image(image, restore, left, &mut with))
+            }
+            Call::Convert { buffer, image } => {
+                let convert = |image: &Image| Call::Convert { buffer, image: image.write() };
+                Image::read(&image).map(|image| smaller_image(image, convert, left, &mut with))
+            }
             call => smaller_batch(call, left, &mut with),
         };
         if let Some(call) = smaller {
@@ -78,17 +85,21 @@ fn smaller_calls(mut calls: Vec<Call>, left: &mut usize, shows: &mut dyn FnMut(&
     calls
 }
 
-fn smaller_image(mut image: Image, left: &mut usize, shows: &mut dyn FnMut(Call) -> bool) -> Call {
-    let restore = |image: &Image| Call::Restore { image: image.write() };
+/// The call with fewer entries in its image.
+fn smaller_image(
+    mut image: Image,
+    call: impl Fn(&Image) -> Call,
+    left: &mut usize,
+    shows: &mut dyn FnMut(Call) -> bool,
+) -> Call {
     let (defaults, locks, writes) = (image.defaults.clone(), image.locks.clone(), image.writes.clone());
-    image.locks = fewer(locks, left, &mut |locks| shows(restore(&Image { locks: locks.to_vec(), ..image.clone() })));
+    image.locks = fewer(locks, left, &mut |locks| shows(call(&Image { locks: locks.to_vec(), ..image.clone() })));
     let keep = image.clone();
-    image.writes =
-        fewer(writes, left, &mut |writes| shows(restore(&Image { writes: writes.to_vec(), ..keep.clone() })));
+    image.writes = fewer(writes, left, &mut |writes| shows(call(&Image { writes: writes.to_vec(), ..keep.clone() })));
     let keep = image.clone();
     image.defaults =
-        fewer(defaults, left, &mut |defaults| shows(restore(&Image { defaults: defaults.to_vec(), ..keep.clone() })));
-    restore(&image)
+        fewer(defaults, left, &mut |defaults| shows(call(&Image { defaults: defaults.to_vec(), ..keep.clone() })));
+    call(&image)
 }
 
 /// The call with fewer entries in its batch, if it has one in form.

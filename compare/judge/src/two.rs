@@ -171,8 +171,7 @@ pub fn run(driver: &Driver, length: &Length, choice: &Choice) -> bool {
     let (mut traces, mut starts) = (0_u64, 0_u64);
     let mut counts = Counts::default();
     while length.more(traces) {
-        let batch: Vec<Bytes> =
-            (0..per_start).map(|number| generate::trace(seed.wrapping_add(traces + number), ops)).collect();
+        let batch: Vec<Bytes> = (0..per_start).map(|number| generate::nth_trace(seed, traces + number, ops)).collect();
         let expected: Vec<Bytes> = batch.iter().map(|trace| answers_of(trace)).collect();
         match driver.run(&many_form(&batch), true) {
             Ok(output) if output == expected.concat() => {}

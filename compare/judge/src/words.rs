@@ -58,10 +58,13 @@ pub fn call(call: &Call) -> String {
         Call::OneStep { transaction, start, commit, batch } => {
             format!("one-step by {transaction}, start {start}, at {commit} of a batch: {}", mutations(batch))
         }
+        Call::Bone { number, row } => format!("is bone {number} shown in {}", hex(row)),
+        Call::Bones { row } => format!("how many bones are shown in {}", hex(row)),
         Call::Restore { image } => format!("restore: {}", image_words(image)),
         Call::Statistics => "statistics".to_string(),
         Call::Marks => "high-water marks".to_string(),
         Call::WriteImage { table, buffer } => format!("write the image of table {table}, buffer {buffer}"),
+        Call::Convert { buffer, image } => format!("convert, buffer {buffer}: {}", image_words(image)),
     }
 }
 

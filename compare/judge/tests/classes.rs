@@ -115,6 +115,9 @@ const UNSEEN: &[(&str, &[Bend])] = &[
     ),
 ];
 
+/// The Rust is asked for no bones and converts no image: bends that only these calls show.
+const NOT_OF_THE_RUST: [u8; 3] = [17, 18, 36];
+
 /// The calls of traces of every kind but those about the area, and of many that come to a room.
 fn traces() -> Vec<Vec<Call>> {
     let seeds = (0..1500).filter(|seed| kind_of(*seed) != Kind::Repacks);
@@ -151,7 +154,9 @@ fn eleven_too_early_or_too_late_and_8_for_7_have_no_name() {
 fn every_bend_that_the_rust_can_show_has_no_name() {
     let traces = traces();
     let unseen: Vec<Bend> = UNSEEN.iter().flat_map(|(_, bends)| bends.iter().copied()).collect();
+    let of_the_rust = |bend: &Bend| bend.op().is_none_or(|op| !NOT_OF_THE_RUST.contains(&op));
     let shown = Bend::ALL.iter().copied().filter(|bend| bend.reach() == Reach::Shown && !unseen.contains(bend));
+    let shown = shown.filter(of_the_rust);
     let hidden: Vec<Bend> = shown.filter(|bend| !fails(*bend, &traces)).collect();
     assert!(hidden.is_empty(), "comparison 1 does not notice {hidden:?}");
 }

@@ -1,5 +1,5 @@
 //! The inputs of each class in docs/DIFFERENCES.md: exactly one call differs, in that class, and each side says what the
-//! document says. Table 1, key a, row 00 00, transaction 7, primary a, time to live 1 where unsaid.
+//! document says. Table 1, key a, row 00 00 00, transaction 7, primary a, time to live 1 where unsaid.
 
 use generate::batch::mutation_bytes;
 use judge::classes::{Class, Rust};
@@ -42,7 +42,7 @@ fn write(stamp: u64, start: u64, kind: u8) -> (Vec<u8>, u64, RawRecord) {
 }
 
 fn default(start: u64) -> (Vec<u8>, u64, Vec<u8>) {
-    (a(), start, vec![0, 0])
+    (a(), start, vec![0, 0, 0])
 }
 
 type Write = (Vec<u8>, u64, RawRecord);
@@ -130,8 +130,8 @@ fn stamp_at_start_goes_on_to_another_refusal() {
 #[test]
 fn default_judged_first() {
     let corrupt = Some("CorruptData");
-    let held = || prewrite(7, 10, Kind::Put, &[0, 0]);
-    let other_row = &[0, 1, 0];
+    let held = || prewrite(7, 10, Kind::Put, &[0, 0, 0]);
+    let other_row = &[0, 0, 1, 0];
     differs(&[held(), prewrite(8, 10, Kind::Put, other_row)], Class::DefaultFirst, 7, corrupt, None);
     differs(&[held(), prewrite(8, 10, Kind::Delete, &[])], Class::DefaultFirst, 7, corrupt, None);
     differs(&[held(), one_step(10, 12, Kind::Put, other_row)], Class::DefaultFirst, 0, corrupt, None);
@@ -226,7 +226,7 @@ fn sick_image() {
 #[test]
 fn all_tables_are_captured_into_one() {
     let other = [&[0, 0, 0, 2][..], b"a"].concat();
-    let batch = mutation_bytes(&[Entry { key: other.clone(), kind: Kind::Put, row: vec![0, 0] }]);
+    let batch = mutation_bytes(&[Entry { key: other.clone(), kind: Kind::Put, row: vec![0, 0, 0] }]);
     let calls = [
         restore(&[5, 6], vec![lock(30, 2)], vec![write(20, 5, 1), write(10, 6, 1)]),
         Call::OneStep { transaction: 7, start: 10, commit: 12, batch },

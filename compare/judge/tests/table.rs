@@ -84,11 +84,11 @@ fn w6_and_w7() {
 #[test]
 fn w9_to_w11() {
     let w2 = vec![prewrite(a(), 10), commit(a(), 10, 12)];
-    let bytes = vec![0x00, 0x01, 0x05, 0x00, 0x00, 0x00, 0x01, 0x61, 0x02, 0x00, 0x00, 0x00];
-    same("W9", &then(&w2, page(12, 7, 12)), 0, Outcome::Accepted { count: 12, payload: bytes });
-    same("W10", &then(&w2, page(12, 6, 12)), 10, Outcome::InvalidArgument);
+    let bytes = vec![0x00, 0x01, 0x05, 0x00, 0x00, 0x00, 0x01, 0x61, 0x03, 0x00, 0x00, 0x00, 0x00];
+    same("W9", &then(&w2, page(12, 8, 13)), 0, Outcome::Accepted { count: 13, payload: bytes });
+    same("W10", &then(&w2, page(12, 7, 13)), 10, Outcome::InvalidArgument);
     let held = Outcome::Held { transaction: 7, start: 12 };
-    same("W11", &then(&then(&w2, prewrite(b(), 12)), page(12, 7, 12)), 7, held);
+    same("W11", &then(&then(&w2, prewrite(b(), 12)), page(12, 8, 13)), 7, held);
 }
 
 /// "1,023 lines, at most 200 locks, bytes far from full, prewrite of two keys 11, of one 0, and its commit 0".

@@ -57,7 +57,7 @@ pub enum Reach {
 /// Makes the list of bends: each a name, what it does, the op that alone can show it if only one can, and why no reachable
 /// store can show it if none can.
 macro_rules! bends {
-    ($($name:ident $text:literal $(of $op:literal)? $(never $reason:expr)?;)*) => {
+    ([$($name:ident $text:literal $(of $op:literal)? $(never $reason:expr)?;)*]) => {
         /// One rule of the paper, bent.
         #[derive(Clone, Copy, Debug, PartialEq, Eq)]
         pub enum Bend { $($name,)* }

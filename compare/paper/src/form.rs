@@ -1,4 +1,4 @@
-//! "Key, row, batch, image": the forms, read from bytes. "Numbers are big-endian. Every form is sections in a fixed
+//! "Key, row, batch, image": the forms, read from bytes; rows are in row.rs. "Numbers are big-endian. Every form is sections in a fixed
 //! order, each after its count; nothing may follow."
 
 use crate::bend::{Bend, bent};
@@ -80,39 +80,6 @@ pub fn key_in_form(key: &[u8]) -> bool {
 /// The table number of a key in form.
 pub fn table_of(key: &[u8]) -> u32 {
     u32::from_be_bytes([key[0], key[1], key[2], key[3]])
-}
-
-/// "Row: count byte 0 to 8, that many 8-byte signed integers; count byte 0 to 8, that many texts, each a length byte
-/// and its bytes. Length 2 to 255." The texts hold any bytes; the length is part of the form.
-pub fn row_in_form(row: &[u8]) -> bool {
-    let most = if bent(Bend::RowOfAnyLength) {
-        usize::MAX
-    } else if bent(Bend::RowTo254) {
-        254
-    } else {
-        255
-    };
-    row.len() <= most && row_sections(row).is_some()
-}
-
-fn row_sections(row: &[u8]) -> Option<()> {
-    let mut reader = Reader::new(row);
-    let integers = reader.byte()? as usize;
-    if integers > if bent(Bend::RowNineIntegers) { 9 } else { 8 } {
-        return None;
-    }
-    reader.take(integers * if bent(Bend::RowIntegersOfFour) { 4 } else { 8 })?;
-    let texts = reader.byte()? as usize;
-    if texts > if bent(Bend::RowNineTexts) { 9 } else { 8 } {
-        return None;
-    }
-    for _ in 0..texts {
-        let text = reader.short()?;
-        if bent(Bend::RowTextsUtf8) && std::str::from_utf8(&text).is_err() {
-            return None;
-        }
-    }
-    if bent(Bend::RowTrailing) { Some(()) } else { reader.ended() }
 }
 
 /// One entry of a mutation batch: a Put with its row, or a Delete.

@@ -3,7 +3,8 @@
 use crate::answer::{BATCH, CONTRADICTION, EMPTY, HISTORY, KEY, NO_ROOM, ROW, Refusal, ZERO, refuse, refuse_held};
 use crate::as_rust::no_conflict;
 use crate::bend::{Bend, bent};
-use crate::form::{Entry, key_in_form, mutation_batch, row_in_form, table_of};
+use crate::form::{Entry, key_in_form, mutation_batch, table_of};
+use crate::row::row_in_form;
 use crate::single::{single_key, single_row};
 use crate::store::{Kind, Lock, Store};
 

@@ -2,7 +2,8 @@
 
 use crate::answer::{CONTRADICTION, KEY, Refusal, ZERO, refuse, refuse_held};
 use crate::bend::{Bend, any_bent, bent};
-use crate::form::{key_in_form, row_in_form};
+use crate::form::key_in_form;
+use crate::row::row_in_form;
 use crate::store::{Bytes, Kind, Lock, Record, Store};
 
 /// What a read comes to: the row that it shows, nothing or a refusal, and "the number of write records it examined".

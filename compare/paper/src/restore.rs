@@ -2,9 +2,11 @@
 
 use crate::answer::{IMAGE, NO_ROOM, Refusal, refuse};
 use crate::bend::{Bend, bent};
-use crate::form::{Reader, key_in_form, row_in_form, table_of};
+use crate::convert::{old_image, with_counts};
+use crate::form::{Reader, key_in_form, table_of};
 use crate::misread;
 use crate::room::{DEFAULTS, LINES, LOCKS};
+use crate::row::{old_row_in_form, row_in_form};
 use crate::store::{Bytes, Kind, Lock, Record, Store};
 
 /// An image read by its form alone: entries as they stand, in their order.
@@ -100,14 +102,25 @@ impl Image {
         self.locks.len() > LOCKS || self.defaults.len() > DEFAULTS || self.locks.len() + self.writes.len() > LINES
     }
 
-    /// The store of an image, sick or not; none is a fault by document 01's own checks.
+    /// The store of an image, sick or not; none is a fault by document 01's own checks, of which "row decodes" means the row
+    /// that stands: "an image with an unconverted row is refused".
     pub fn store(&self) -> Option<Store> {
-        self.judged().filter(|_| !misread::refused(self)).or_else(|| misread::seen(self)?.judged())
+        self.judged_by(row_in_form)
+    }
+
+    /// The same of an old image, whose rows are document 01's.
+    pub fn old_store(&self) -> Option<Store> {
+        let new = bent(Bend::NewRowKept) || bent(Bend::NewRowConverted);
+        self.judged_by(if new { |row| old_row_in_form(row) || row_in_form(row) } else { old_row_in_form })
+    }
+
+    fn judged_by(&self, row: fn(&[u8]) -> bool) -> Option<Store> {
+        self.judged(row).filter(|_| !misread::refused(self)).or_else(|| misread::seen(self)?.judged(row))
     }
 
     /// "then each entry, in any order": entries need not be sorted, and since every fault is 13 the order of the
     /// checks can't be seen.
-    fn judged(&self) -> Option<Store> {
+    fn judged(&self, row_decodes: fn(&[u8]) -> bool) -> Option<Store> {
         let mut store = Store::default();
         // "table number not zero"
         fine(self.table != 0 || bent(Bend::ImageTableZero))?;
@@ -119,7 +132,7 @@ impl Image {
             before = key;
             // "default start not 0, row decodes"
             fine(*start != 0 || bent(Bend::DefaultStartZero))?;
-            fine(row_in_form(row) || bent(Bend::ImageRowUnjudged))?;
+            fine(row_decodes(row) || bent(Bend::ImageRowUnjudged))?;
             // "no second default [..] for one key and stamp"
             let second = store.defaults.entry(key.clone()).or_default().insert(*start, row.clone());
             fine(second.is_none() || bent(Bend::SecondDefaultTaken))?;
@@ -197,7 +210,12 @@ impl Store {
 
 /// The store that an image brings: document 01's checks, then those of sick images, then the room.
 fn restored(image: &[u8]) -> Result<Store, Refusal> {
-    let read = Image::read(image);
+    let mut read = Image::read(image);
+    if bent(Bend::RestoreConverts)
+        && let Some(old) = old_image(image)
+    {
+        read = Some(with_counts(old));
+    }
     if bent(Bend::ImageRoomFirst) && read.as_ref().is_some_and(Image::counts_beyond_room) {
         return refuse(NO_ROOM);
     }

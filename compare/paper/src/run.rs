@@ -2,9 +2,12 @@
 
 use crate::answer::{Answer, Refusal};
 use crate::area::{self, Area};
-use crate::bend::{Bend, any_bent, bent, with_bend};
+use crate::bend::{Bend, any_bent, bent, with_bend, with_bends};
+use crate::bones::{bone_shown, bones_shown};
 use crate::commit::Commit;
+use crate::convert::convert;
 use crate::form::Reader;
+use crate::in_one_call;
 use crate::misnamed::{beside, misnamed};
 use crate::prewrite::Prewrite;
 use crate::read::Looked;
@@ -20,7 +23,7 @@ pub fn run_call(store: &mut Store, call: &Call) -> Answer {
         return answer_of(store, call);
     }
     let beside = beside(store, call);
-    let answer = answer_of(store, call);
+    let answer = with_bends(in_one_call::rules(call.op()), || answer_of(store, call));
     misnamed(store, call, beside, answer)
 }
 
@@ -75,12 +78,22 @@ fn answer_of(store: &mut Store, call: &Call) -> Answer {
             let call = Commit { transaction: *transaction, start: *start, commit: *commit };
             counted(store.one_step(call, batch))
         }
+        Call::Bone { number, row } => {
+            // "one byte, 1 if shown, else 0; 0 on a refusal"
+            asked(bone_shown(*number, row).map(u8::from))
+        }
+        // "one byte, how many; 0 on a refusal"
+        Call::Bones { row } => asked(bones_shown(row)),
         Call::Restore { image } => plain(store.restore(image)),
         Call::Statistics => Answer::accepted(0, numbers(&store.statistics())),
         Call::Marks => Answer::accepted(0, numbers(&store.marks())),
         Call::WriteImage { table, buffer } => {
             let answer = lent(*buffer, |buffer| store.write_image(*table, buffer));
             if any_bent() { store.after_writing(*table, answer) } else { answer }
+        }
+        Call::Convert { buffer, image } => {
+            let answer = lent(*buffer, |buffer| convert(image, buffer));
+            if any_bent() { store.after_converting(image, answer) } else { answer }
         }
     }
 }
@@ -145,6 +158,15 @@ fn lent(length: impl Into<u32>, call: impl FnOnce(&mut [u8]) -> Result<u64, Refu
     match call(&mut buffer) {
         Ok(count) => Answer::accepted(count, buffer),
         Err(refusal) => Answer::refused(refusal, buffer),
+    }
+}
+
+/// A question's answer: its byte, and the count 0.
+fn asked(result: Result<u8, Refusal>) -> Answer {
+    match result {
+        Ok(said) => Answer::accepted(u64::from(said) * u64::from(bent(Bend::QuestionsCount)), vec![said]),
+        Err(refusal) if bent(Bend::RefusedQuestionEmpty) => Answer::refused(refusal, Bytes::new()),
+        Err(refusal) => Answer::refused(refusal, vec![0]),
     }
 }
 

@@ -26,10 +26,13 @@ pub enum Call {
     Rollback { transaction: u64, start: u64, key: Bytes },
     RollbackBatch { transaction: u64, start: u64, batch: Bytes },
     OneStep { transaction: u64, start: u64, commit: u64, batch: Bytes },
+    Bone { number: u64, row: Bytes },
+    Bones { row: Bytes },
     Restore { image: Bytes },
     Statistics,
     Marks,
     WriteImage { table: u32, buffer: u32 },
+    Convert { buffer: u32, image: Bytes },
 }
 
 impl Call {
@@ -47,10 +50,13 @@ impl Call {
             Call::Rollback { .. } => 10,
             Call::RollbackBatch { .. } => 11,
             Call::OneStep { .. } => 12,
+            Call::Bone { .. } => 17,
+            Call::Bones { .. } => 18,
             Call::Restore { .. } => 32,
             Call::Statistics => 33,
             Call::Marks => 34,
             Call::WriteImage { .. } => 35,
+            Call::Convert { .. } => 36,
         }
     }
 
@@ -106,10 +112,13 @@ impl Call {
                 commit: r.eight()?,
                 batch: r.rest().to_vec(),
             },
+            17 => Call::Bone { number: r.eight()?, row: r.long()? },
+            18 => Call::Bones { row: r.long()? },
             32 => Call::Restore { image: r.rest().to_vec() },
             33 => Call::Statistics,
             34 => Call::Marks,
-            35 => Call::WriteImage { table: r.four()?, buffer: long_buffer(&mut r)? },
+            35 => Call::WriteImage { table: r.four()?, buffer: long_buffer(&mut r, WRITTEN)? },
+            36 => Call::Convert { buffer: long_buffer(&mut r, CONVERTED)?, image: r.rest().to_vec() },
             _ => return None,
         };
         if !bent(Bend::CallTrailing) {
@@ -163,11 +172,20 @@ impl Call {
                 numbers(&mut out, &[*transaction, *start]);
                 out.extend_from_slice(batch);
             }
+            Call::Bone { number, row } => {
+                numbers(&mut out, &[*number]);
+                long(&mut out, row);
+            }
+            Call::Bones { row } => long(&mut out, row),
             Call::Restore { image } => out.extend_from_slice(image),
             Call::Statistics | Call::Marks => {}
             Call::WriteImage { table, buffer } => {
                 out.extend_from_slice(&table.to_be_bytes());
                 out.extend_from_slice(&buffer.to_be_bytes());
+            }
+            Call::Convert { buffer, image } => {
+                out.extend_from_slice(&buffer.to_be_bytes());
+                out.extend_from_slice(image);
             }
         }
         out
@@ -247,10 +265,13 @@ fn bound(reader: &mut Reader) -> Option<Option<Bytes>> {
     }
 }
 
+/// The bends of a long buffer's most, in each call that is lent one: one less, and one more.
+const WRITTEN: [Bend; 2] = [Bend::LongBufferOneLess, Bend::LongBufferOneMore];
+const CONVERTED: [Bend; 2] = [Bend::ConvertBufferMostLess, Bend::ConvertBufferMostMore];
+
 /// "A long buffer above 262,144 is not in form."
-fn long_buffer(reader: &mut Reader) -> Option<u32> {
-    let less = u32::from(bent(Bend::LongBufferOneLess));
-    let more = u32::from(bent(Bend::LongBufferOneMore));
+fn long_buffer(reader: &mut Reader, bends: [Bend; 2]) -> Option<u32> {
+    let [less, more] = bends.map(|bend| u32::from(bent(bend)));
     reader.four().filter(|length| *length <= LONG_BUFFER - less + more)
 }
 

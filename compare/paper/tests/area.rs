@@ -25,24 +25,28 @@ impl Filled {
         (!packed).then(|| gap - self.area.gap())
     }
 
-    /// Rolls back a new key of this length, 7 to 48; it is locked with the longest row before, if asked. The top is even
-    /// before, and stays so if the length is.
+    /// Rolls back a new key of this length, 7 to 48; it is locked with the longest row before, if asked, where the top is even.
+    /// It is so after if the length is.
     fn rollback(&mut self, length: usize, locked: bool) {
         self.keys += 1;
         let mut new = key(&self.keys.to_be_bytes());
         new.resize(length, b'n');
         if locked {
-            let (start, kind, primary, row) = (1, Kind::Put, a(), [vec![0, 1, 252], vec![0; 252]].concat());
+            let (start, kind, primary, row) = (1, Kind::Put, a(), [vec![0, 1, 251], vec![0; 252]].concat());
             let key = new.clone();
             let call = Call::Prewrite { transaction: TRANSACTION, start, time_to_live: 1, kind, primary, key, row };
             assert_eq!(self.run(&call), Some(length + 16 + 255 + 8 + 5), "an even stretch");
         }
-        assert_eq!(self.run(&rollback(new, 1)), Some(length + 16));
+        let odd = self.area.gap() % 2;
+        assert_eq!(self.run(&rollback(new, 1)), Some(odd + length + 16));
         self.rolled_back += length + 16;
     }
 
     /// Uses the area up to just so many bytes before its end, 63 or more. Only the last stretch may be odd.
     fn close(&mut self, left: usize) {
+        if self.area.gap() % 2 == 1 {
+            self.rollback(8, false);
+        }
         while self.area.gap() > left {
             match self.area.gap() - left {
                 over @ ..=64 => self.rollback(over - 16, false),
@@ -67,9 +71,9 @@ fn rollback_batch(keys: [Vec<u8>; 2], start: u64) -> Call {
     Call::RollbackBatch { transaction: TRANSACTION, start, batch: key_batch(keys) }
 }
 
-/// The stretches of keys of 5 bytes, rows of 2 and a primary of 5.
-const LOCK: usize = 5 + 16 + 2 + 8 + 5;
-const PUT: usize = 5 + 16 + 2;
+/// The stretches of keys of 5 bytes, rows of 3 and a primary of 5. Those of a lock and of a Rollback are odd.
+const LOCK: usize = 5 + 16 + 3 + 8 + 5;
+const PUT: usize = 5 + 16 + 3;
 const ROLLBACK: usize = 5 + 16;
 
 #[test]
@@ -77,14 +81,14 @@ fn each_call_brings_its_stretches() {
     let mut all = Filled::default();
     assert_eq!(all.run(&prewrite(a(), 10)), Some(LOCK));
     assert_eq!(all.run(&prewrite(a(), 10)), Some(0), "a replay");
-    assert_eq!(all.run(&prewrite_batch(&[a(), b()], 10)), Some(LOCK), "one of two is new");
-    assert_eq!(all.run(&commit(a(), 10, 12)), Some(PUT));
+    assert_eq!(all.run(&prewrite_batch(&[a(), b()], 10)), Some(1 + LOCK), "one of two is new, from an even byte on");
+    assert_eq!(all.run(&commit(a(), 10, 12)), Some(1 + PUT));
     assert_eq!(all.run(&commit(a(), 10, 12)), Some(0), "a replay");
-    assert_eq!(all.run(&commit_batch([a(), b()], 10, 12)), Some(1 + PUT), "one of two is new, from an even byte on");
-    assert_eq!(all.run(&rollback(a(), 13)), Some(1 + ROLLBACK));
+    assert_eq!(all.run(&commit_batch([a(), b()], 10, 12)), Some(PUT), "one of two is new");
+    assert_eq!(all.run(&rollback(a(), 13)), Some(ROLLBACK));
     assert_eq!(all.run(&rollback_batch([a(), b()], 13)), Some(1 + ROLLBACK), "one of two is new");
     assert_eq!(all.run(&rollback_batch([a(), b()], 13)), Some(0), "a replay");
-    assert_eq!(all.run(&one_step(&[a(), b()], 14, 15)), Some(2 * (1 + PUT)));
+    assert_eq!(all.run(&one_step(&[a(), b()], 14, 15)), Some(1 + 2 * PUT));
     assert_eq!(all.run(&one_step(&[a(), b()], 14, 15)), Some(0), "a replay");
     assert_eq!(all.run(&read(a(), 20)), Some(0));
     let gap = all.area.gap();
@@ -114,7 +118,7 @@ fn each_call_asks_for_the_longest() {
             filled.run(&prewrite_batch(&[a(), c()], 10));
             filled.close(left);
             assert_eq!(filled.run(&call).is_none(), packs, "{left} bytes left for {call:?}");
-            let top = if packs { packed(&[2 * LOCK + filled.rolled_back]) } else { AREA - left };
+            let top = if packs { packed(&[2 * (LOCK + 1) + filled.rolled_back]) } else { AREA - left };
             assert_eq!(AREA - filled.area.gap(), laid(top, brought), "{call:?}");
         }
     }

@@ -52,8 +52,8 @@ fn a_lock_and_a_key_out_of_form() {
 /// A page counts its bytes, one intent nothing.
 #[test]
 fn other_calls_count_as_before() {
-    let paged = last(&[chain(), vec![page(21, 7, 12)]].concat());
-    assert_eq!((paged.number, paged.count), (0, 12));
+    let paged = last(&[chain(), vec![page(21, 8, 13)]].concat());
+    assert_eq!((paged.number, paged.count), (0, 13));
     let intent = Call::OneIntent { moment: 50, key: a() };
     assert_eq!(last(&[prewrite(a(), 50), intent]).count, 0);
 }

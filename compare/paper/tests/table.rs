@@ -1,4 +1,5 @@
-//! W1 to W11, the paper's table, through the trace form.
+//! W1 to W11, the paper's table, through the trace form: "01's row cases gain that byte, so the byte limits of W9 and W10
+//! become 8 and 7".
 
 mod common;
 
@@ -74,23 +75,23 @@ fn w8_one_step_replay_and_part() {
 
 #[test]
 fn w9_page_at_its_byte_limit() {
-    let bytes = [0x00, 0x01, 0x05, 0x00, 0x00, 0x00, 0x01, 0x61, 0x02, 0x00, 0x00, 0x00];
-    let exact = after(w2(), page(12, 7, 12));
-    assert_eq!((exact.number, exact.count, &exact.payload[..]), (0, 12, &bytes[..]));
-    let longer = after(w2(), page(12, 7, 14));
-    assert_eq!((longer.count, &longer.payload[..]), (12, &[&bytes[..], &[0xEE, 0xEE]].concat()[..]));
-    let short = after(w2(), page(12, 7, 11));
-    assert_eq!((short.number, short.count, &short.payload[..]), (12, 0, &[0xEE; 11][..]));
+    let bytes = [0x00, 0x01, 0x05, 0x00, 0x00, 0x00, 0x01, 0x61, 0x03, 0x00, 0x00, 0x00, 0x00];
+    let exact = after(w2(), page(12, 8, 13));
+    assert_eq!((exact.number, exact.count, &exact.payload[..]), (0, 13, &bytes[..]));
+    let longer = after(w2(), page(12, 8, 15));
+    assert_eq!((longer.count, &longer.payload[..]), (13, &[&bytes[..], &[0xEE, 0xEE]].concat()[..]));
+    let short = after(w2(), page(12, 8, 12));
+    assert_eq!((short.number, short.count, &short.payload[..]), (12, 0, &[0xEE; 12][..]));
 }
 
 #[test]
 fn w10_page_below_its_first_row() {
-    assert_eq!(after(w2(), page(12, 6, 12)).number, 10);
+    assert_eq!(after(w2(), page(12, 7, 13)).number, 10);
 }
 
 #[test]
 fn w11_the_key_past_the_last_row_refuses() {
-    let held = after([w2(), vec![prewrite(b(), 12)]].concat(), page(12, 7, 12));
+    let held = after([w2(), vec![prewrite(b(), 12)]].concat(), page(12, 8, 13));
     assert_eq!((held.number, held.holder), (7, Holder { transaction: 7, start: 12, time_to_live: 1, kind: 1 }));
-    assert_eq!(held.payload, [0xEE; 12], "a refusal leaves the buffer alone");
+    assert_eq!(held.payload, [0xEE; 13], "a refusal leaves the buffer alone");
 }

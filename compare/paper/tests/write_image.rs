@@ -33,7 +33,7 @@ fn crossed() -> Image {
     let record = |start, commit| (a(), commit, RawRecord { start, commit, kind: 1 });
     Image {
         table: 1,
-        defaults: vec![(a(), 6, vec![0, 0]), (a(), 5, vec![0, 1, 0])],
+        defaults: vec![(a(), 6, vec![0, 0, 0]), (a(), 5, vec![0, 1, 0, 0])],
         locks: vec![],
         writes: vec![record(5, 20), record(6, 10)],
     }
@@ -56,9 +56,9 @@ fn each_section_ascends_by_key_then_stamp() {
 #[test]
 fn the_bytes_of_one_lock() {
     let w1 = prewrite(a(), 10);
-    let needed = 10 + (1 + 5 + 8 + 1 + 2) + (1 + 5 + 8 + 1 + 5 + 8 + 8 + 1);
+    let needed = 10 + (1 + 5 + 8 + 1 + 3) + (1 + 5 + 8 + 1 + 5 + 8 + 8 + 1);
     let answer = last(&[w1, write(1, needed)]);
-    let mut expected = vec![0, 0, 0, 1, 0, 1, 5, 0, 0, 0, 1, b'a', 0, 0, 0, 0, 0, 0, 0, 10, 2, 0, 0];
+    let mut expected = vec![0, 0, 0, 1, 0, 1, 5, 0, 0, 0, 1, b'a', 0, 0, 0, 0, 0, 0, 0, 10, 3, 0, 0, 0];
     expected.extend([0, 1, 5, 0, 0, 0, 1, b'a', 0, 0, 0, 0, 0, 0, 0, 7, 5, 0, 0, 0, 1, b'a']);
     expected.extend([0, 0, 0, 0, 0, 0, 0, 10, 0, 0, 0, 0, 0, 0, 0, 1, 1, 0, 0]);
     assert_eq!((answer.number, answer.count, answer.payload), (0, u64::from(needed), expected));
@@ -160,7 +160,7 @@ fn the_longest_image() {
     for number in 0..LINES {
         let row = left / (LINES - number) - 7;
         left -= 7 + row;
-        let row = if row == 2 { vec![0, 0] } else { [&[0, 1, row as u8 - 3][..], &vec![9; row - 3]].concat() };
+        let row = [&[0, 1, row as u8 - 4][..], &vec![9; row - 4], &[0]].concat();
         image.defaults.push((long(number), 5, row));
         if number < LOCKS {
             let lock = RawLock { transaction: 7, primary: a(), start: 5, time_to_live: 1, kind: 1 };

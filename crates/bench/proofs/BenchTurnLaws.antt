@@ -1,7 +1,7 @@
 -- The copy of an area below its top, and what holds before each call of a turn.
 -- Assumes nothing.
 use Prim.Native.Nat.{ℕ, _≤_}
-use mathlib.Core.Path.{_≡_, refl, sym, ap, ap₂, subst, _∙_}
+use mathlib.Core.Path.{_≡_, sym, ap, ap₂, subst, _∙_}
 use mathlib.Core.List.{List, _++_}
 use native.Mathlib.Omega.{arith}
 use lib.ListN.{length, take, drop}
@@ -43,13 +43,6 @@ module _ {st : Store} {area copy : Bytes} (t : TurnAsks st area copy) where
           fit = t .made .fit;
         }
 
--- what the loops keep: the store, its area, the area for copies, and a buffer that is as long as it was
-pub record Turning (st : Store) (area copy out₀ out : Bytes) : Type 0 where
-  pub asks : TurnAsks st area copy
-  pub as-long : length out ≡ length out₀
-
-pub turning-start : {st : Store} {area copy out : Bytes} → TurnAsks st area copy → Turning st area copy out out
-turning-start a = record { asks = a; as-long = refl }
-
-pub turning-more : {st : Store} {area copy copy′ out₀ out out′ : Bytes} → Turning st area copy out₀ out → length copy′ ≡ 131072 → length out′ ≡ length out → Turning st area copy′ out₀ out′
-turning-more t h g = record { asks = record { made = t .asks .made; length-is = h }; as-long = g ∙ t .as-long }
+-- what the loops keep
+pub turning-more : {st : Store} {area copy copy′ : Bytes} → TurnAsks st area copy → length copy′ ≡ 131072 → TurnAsks st area copy′
+turning-more t h = record { made = t .made; length-is = h }

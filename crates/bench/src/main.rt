@@ -55,7 +55,6 @@ fn head_of(input: &[u8]) -> Head
 fn measure(input: &[u8]) {
     let mut area = [0u8; AREA];
     let mut copy = [0u8; AREA];
-    let mut out = [0u8; 131072];
     let head = head_of(input);
     let b = head.at;
     let e = b + head.len;
@@ -63,14 +62,13 @@ fn measure(input: &[u8]) {
     let done = mvcc::restore(store, &mut area, &input[b..e]);
     let kept = done.store;
     let sum = many_turns(
+        head.turns,
+        head.way,
         kept,
         &area,
         &mut copy,
-        &mut out,
         &input[b..e],
         &input[e..],
-        head.way,
-        head.turns,
     );
     // The room is wider than the number. With 8 bytes of room, the table of a read and the copy of it that `look_up` makes lie 8 bytes apart
     // modulo 4,096, and there some processors copy thirty times slower (docs/SPEED.md).

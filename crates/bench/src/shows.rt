@@ -27,13 +27,12 @@ pub fn page_once(
 {
     let starts = 0 < key.len();
     let none = &key[0..0];
-    let bytes = u64::MAX;
     let paged = mvcc::scan_page(
         store,
         area,
         moment,
         rows,
-        bytes,
+        u64::MAX,
         starts,
         key,
         false,

@@ -78,10 +78,10 @@ fn change_on_copy(
     store: Store,
     area: &[u8; AREA],
     copy: &mut [u8; AREA],
-    image: &[u8],
     s: &[u8],
     a: Asked,
     way: u8,
+    image: &[u8],
 ) -> u64
     requires { ⌜ (TurnAsks store (now area) (now copy)) × (AskedIn (length (now s)) a) ⌝ }
     ensures { λ _. ⌜ length (now (copy .exit)) ≡ 131072 ⌝ }
@@ -98,32 +98,30 @@ fn shows(way: u8) -> bool {
     way < 4
 }
 
-// One call, of either sort.
+// One call, of either sort. What is shown is written where the others have their copy.
 fn one_call(
+    way: u8,
+    turn: u64,
     store: Store,
     area: &[u8; AREA],
     copy: &mut [u8; AREA],
-    out: &mut [u8],
     image: &[u8],
     s: &[u8],
     a: Asked,
-    way: u8,
-    turn: u64,
 ) -> u64
     requires { ⌜ (TurnAsks store (now area) (now copy)) × (AskedIn (length (now s)) a) ⌝ }
     ensures { λ _. ⌜ length (now (copy .exit)) ≡ 131072 ⌝ }
 {
     if shows(way) {
-        return show_call(store, area, out, s, a, way, turn);
+        return show_call(store, area, copy, s, a, way, turn);
     }
-    change_on_copy(store, area, copy, image, s, a, way)
+    change_on_copy(store, area, copy, s, a, way, image)
 }
 
 fn one_turn(
     store: Store,
     area: &[u8; AREA],
     copy: &mut [u8; AREA],
-    out: &mut [u8],
     image: &[u8],
     s: &[u8],
     way: u8,
@@ -136,7 +134,7 @@ fn one_turn(
     let mut sum: u64 = 0;
     while at < s.len() {
         let a = asked_at(s, at);
-        let worth = one_call(store, area, copy, out, image, s, a, way, turn);
+        let worth = one_call(way, turn, store, area, copy, image, s, a);
         sum = wrapping_add_u64(sum, worth);
         at = a.next;
     }
@@ -145,14 +143,13 @@ fn one_turn(
 
 // So many turns: the sum of what their calls are worth.
 pub fn many_turns(
+    turns: u64,
+    way: u8,
     store: Store,
     area: &[u8; AREA],
     copy: &mut [u8; AREA],
-    out: &mut [u8],
     image: &[u8],
     s: &[u8],
-    way: u8,
-    turns: u64,
 ) -> u64
     requires { ⌜ TurnAsks store (now area) (now copy) ⌝ }
     ensures { λ _. ⌜ length (now (copy .exit)) ≡ 131072 ⌝ }
@@ -160,7 +157,7 @@ pub fn many_turns(
     let mut left = turns;
     let mut sum: u64 = 0;
     while 0 < left {
-        let worth = one_turn(store, area, copy, out, image, s, way, left);
+        let worth = one_turn(store, area, copy, image, s, way, left);
         sum = wrapping_add_u64(sum, worth);
         left -= 1;
     }

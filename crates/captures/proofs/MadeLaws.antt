@@ -3,18 +3,17 @@
 use Prim.Native.Nat.{ℕ, zero, suc, _+_, _≤_, _<_}
 use native.Mathlib.Omega.{arith}
 use mathlib.Core.Path.{_≡_, sym, subst}
-use mathlib.Core.Bool.{Bool, true, _&&_, not}
+use mathlib.Core.Bool.{Bool, true, not}
 use mathlib.Core.List.{List, [], _∷_}
-use lib.Dec.{leb, eqb}
+use lib.Dec.{eqb}
 use lib.ListN.{length, getD, take}
 use lib.Seq.{getD-take, length-take-le}
-use borrow.Author.Tests.{leb-true, eqb-false}
+use borrow.Author.Tests.{eqb-false}
 use Rattle.seqs.specs.Tables.{All}
 use Rattle.seqs.proofs.Tables.{table-long, shown-at, shown-length}
 use Rattle.forms.specs.Bytes.{Bytes, bytesAt}
 use Rattle.forms.specs.Key.{keyForm}
-use Rattle.forms.specs.Row.{Row, rowForm, fields}
-use Rattle.forms.specs.Readers.{isSome, whole}
+use Rattle.forms.proofs.RowLaws.{row-bounds}
 use Rattle.rules.specs.declared.records.Kind.{Kind}
 use Rattle.rules.specs.declared.records.Kind.the-variants.{Put, Delete, Rollback}
 use Rattle.rules.specs.Box as box
@@ -63,10 +62,6 @@ sound-primary : (l : box.Lock) → soundLock l ≡ true → keyForm (l .primary)
 unfolding soundLock
 sound-primary l g = search passed
 
-row-fits : (r : Row) → rowForm r ≡ true → length r ≤ 255
-unfolding rowForm
-row-fits r h = let v : leb 2 (length r) && leb (length r) 255 ≡ true = and-left (leb 2 (length r) && leb (length r) 255) (isSome (whole fields r)) h in leb-true (length r) 255 (and-right (leb 2 (length r)) _ v)
-
 module _ {st : Store} {area : Bytes} (b : Built st area) where
   abbrev slot : ℕ → Slot
   slot i = getD (st .lines) i noSlot
@@ -87,7 +82,7 @@ module _ {st : Store} {area : Bytes} (b : Built st area) where
         length-is = bytes-long area (placeOf (slot i) + slot i .len + 8 + 8) (rowLen (slot i .line)) (omega (arith, r .within, b .top-in, b .area-long))
 
         go : (k : Kind) → LeanRow k (rowLen (slot i .line)) → box.rowOf (keyOf area (slot i)) (startOf (lineOf area (slot i) .line)) (boxOf st area .defaults) ≡ rowIf k (rowIn area (slot i)) → rowLen (slot i .line) ≤ 255
-        go Put l e = omega (arith, length-is, row-fits (rowIn area (slot i)) (row-form (keyOf area (slot i)) (startOf (lineOf area (slot i) .line)) (boxOf st area .defaults) (rowIn area (slot i)) (b .kept .rows) e))
+        go Put l e = omega (arith, length-is, row-bounds (rowIn area (slot i)) (row-form (keyOf area (slot i)) (startOf (lineOf area (slot i) .line)) (boxOf st area .defaults) (rowIn area (slot i)) (b .kept .rows) e) .short)
         go Delete l e = omega (arith, l)
         go Rollback l e = omega (arith, l)
 

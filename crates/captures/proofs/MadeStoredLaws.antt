@@ -7,8 +7,8 @@ use mathlib.Core.Bool.{Bool, true, false, true≢false}
 use mathlib.Core.List.{List, [], _∷_, map}
 use lib.ListN.{length, take, drop, length-take}
 use Rattle.seqs.specs.Tables.{All, shown}
-use Rattle.forms.specs.Bytes.{Bytes, bytesAt}
-use Rattle.forms.proofs.NumberLaws.{power-pos, below-word, number-below}
+use Rattle.forms.specs.Bytes.{Bytes, bytesAt, AllBytes}
+use Rattle.forms.proofs.NumberLaws.{power-pos, below-word, number-below, bytes-take, bytes-drop}
 use Rattle.rules.specs.declared.answers.Answer.the-variants.{Accepted, No}
 use Rattle.rules.specs.declared.records.Kind.{Kind}
 use Rattle.rules.specs.declared.records.Kind.the-variants.{Put, Delete, Rollback}
@@ -28,20 +28,9 @@ use Rattle.store.specs.declared.table.Store.{Store}
 use Rattle.store.specs.View.{eightAt, placeOf, lineIn, lineOf, ifPut, defaultIn, addIf, stored, boxOf}
 use Rattle.store.specs.Made.{Made}
 use Rattle.store.proofs.TidyLaws.{built-tidy}
-use Rattle.captures.specs.Lines.{AllBytes, rowAt}
+use Rattle.captures.specs.Lines.{rowAt}
 
 -- ---- bytes, and the numbers that they say
-
-bytes-take : (n : ℕ) (s : Bytes) → AllBytes s → AllBytes (take n s)
-bytes-take zero s g i = omega arith
-bytes-take (suc n) [] g i = omega arith
-bytes-take (suc n) (x ∷ s) g zero = g 0
-bytes-take (suc n) (x ∷ s) g (suc i) = bytes-take n s (λ j. g (suc j)) i
-
-bytes-drop : (n : ℕ) (s : Bytes) → AllBytes s → AllBytes (drop n s)
-bytes-drop zero s g i = g i
-bytes-drop (suc n) [] g i = omega arith
-bytes-drop (suc n) (x ∷ s) g i = bytes-drop n s (λ j. g (suc j)) i
 
 word : (area : Bytes) (at : ℕ) → AllBytes area → Word (eightAt area at)
 word area at g =

@@ -9,7 +9,7 @@ use lib.ListN.{length, getD, take}
 use lib.Seq.{take-suc}
 use Rattle.seqs.specs.Tables.{shown}
 use Rattle.seqs.proofs.Tables.{table-at}
-use Rattle.forms.specs.Bytes.{Bytes}
+use Rattle.forms.specs.Bytes.{Bytes, AllBytes}
 use Rattle.rules.specs.Read.{those}
 use Rattle.rules.specs.declared.records.Kind.{Kind}
 use Rattle.rules.specs.declared.records.Kind.the-variants.{Put, Delete, Rollback}
@@ -28,7 +28,7 @@ use Rattle.store.specs.View.{rowLen, keyOf, lineOf, ifPut, defaultIn, addIf, st
 use Rattle.captures.specs.declared.slots.Section.{Section}
 use Rattle.captures.specs.declared.slots.Section.the-variants.{Locks, Writes}
 use Rattle.captures.specs.declared.sizes.Sizes.{Sizes}
-use Rattle.captures.specs.Lines.{inSection, belongs, isPut, ifSo, entryBytes, AllBytes, rowAt, SlotIn, Lined}
+use Rattle.captures.specs.Lines.{inSection, belongs, isPut, ifSo, entryBytes, rowAt, SlotIn, Lined}
 use Rattle.captures.specs.Sizes.{Small, LineAdded, RowAsks, RowAdded, CountAsks, LineCounted, SizesAre}
 use Rattle.captures.proofs.CaptureLineLaws.{row-short, if-few}
 use Rattle.captures.proofs.CaptureEntryLaws.{default-long, size-standing, size-finished, entry-small, default-small}

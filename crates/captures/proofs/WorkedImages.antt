@@ -1,5 +1,5 @@
 -- Document 02, CR 1, worked: what the definition writes of some boxes, and what the call answers; the list of those which differ is empty.
--- Keys and numbers as in rules/proofs/Worked: a = 00 00 00 01 61, row 00 00, transaction 7, time to live 1; c is a key of table 2.
+-- Keys and numbers as in rules/proofs/Worked: a = 00 00 00 01 61, row 00 00 00, transaction 7, time to live 1; c is a key of table 2.
 -- Assumes nothing.
 use Prim.Native.Nat.{ℕ}
 use mathlib.Core.Path.{_≡_, refl}
@@ -49,7 +49,7 @@ pieceC : Bytes
 pieceC = 5 ∷ 0 ∷ 0 ∷ 0 ∷ 2 ∷ 99 ∷ []
 
 pieceRow : Bytes
-pieceRow = 2 ∷ 0 ∷ 0 ∷ []
+pieceRow = 3 ∷ 0 ∷ 0 ∷ 0 ∷ []
 
 -- number, count, and the buffer
 saw : Written → List ℕ

@@ -4,7 +4,7 @@ use Prim.Native.Nat.{ℕ, _+_, _≤_, _<_}
 use mathlib.Core.Path.{_≡_}
 use mathlib.Core.Bool.{Bool, true, false, _&&_}
 use mathlib.Core.List.{List, [], _++_}
-use lib.ListN.{length, getD}
+use lib.ListN.{length}
 use Rattle.seqs.specs.Tables.{Table, shown}
 use Rattle.forms.specs.Bytes.{Bytes, pieceBytes}
 use Rattle.forms.specs.Key.{keyForm}
@@ -62,10 +62,6 @@ bytesIf true b = b
 bytesIf false b = []
 
 -- ---- slots
-
--- each number is a byte: of what the code is lent, its type says so
-abbrev pub AllBytes : Bytes → Type 0
-AllBytes s = (i : ℕ) → getD s i 0 < 256
 
 -- the row that a slot's line carries, where it is a Put
 abbrev pub rowAt : Bytes → Slot → box.Default

@@ -4,7 +4,7 @@ use Prim.Native.Nat.{ℕ, _+_, _≤_}
 use mathlib.Core.Path.{_≡_}
 use mathlib.Core.List.{List}
 use lib.ListN.{length}
-use Rattle.forms.specs.Bytes.{Bytes}
+use Rattle.forms.specs.Bytes.{Bytes, AllBytes}
 use Rattle.rules.specs.declared.records.Kind.the-variants.{Put}
 use Rattle.rules.specs.Box.{kindIn, eqKind}
 use Rattle.rules.specs.Written.{allBytes}
@@ -14,7 +14,7 @@ use Rattle.store.specs.declared.table.Slot.{Slot}
 use Rattle.store.specs.View.{rowLen, keyOf, lineOf}
 use Rattle.captures.specs.declared.slots.Section.the-variants.{Locks, Writes}
 use Rattle.captures.specs.declared.sizes.Sizes.{Sizes}
-use Rattle.captures.specs.Lines.{inSection, belongs, isPut, ifSo, entryBytes, AllBytes, rowAt, SlotIn, linesIn, rowsIn}
+use Rattle.captures.specs.Lines.{inSection, belongs, isPut, ifSo, entryBytes, rowAt, SlotIn, linesIn, rowsIn}
 
 -- so small that what one line brings does not overflow them
 pub record Small (most : ℕ) (z : Sizes) : Type 0 where

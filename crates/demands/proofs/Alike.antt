@@ -3,12 +3,13 @@
 -- Assumes nothing.
 use Prim.Native.Nat.{ℕ, _-_}
 use native.Mathlib.Nat.{sub-zero}
-use mathlib.Core.Path.{_≡_, refl, sym, ap, _∙_, subst}
+use mathlib.Core.Path.{_≡_, refl, sym, ap, ap₂, _∙_, subst}
 use mathlib.Core.List.{List}
 use lib.ListN.{drop, replicate}
 use Rattle.seqs.specs.Tables.{Table}
 use Rattle.forms.specs.Bytes.{Bytes}
 use Rattle.forms.specs.Key.{Key}
+use Rattle.forms.specs.Row.{Row}
 use Rattle.rules.specs.declared.room.Load.{Load}
 use Rattle.rules.specs.Answers.{answerOf}
 use Rattle.rules.specs.Box.{fresh}
@@ -32,7 +33,7 @@ use Rattle.reads.proofs.PartLaws.{one-reply, one-row, one-lock, one-primary}
 use Rattle.rules.specs.declared.written.Wrote.{Wrote}
 use Rattle.pages.proofs.PageLaws.{one-answer, one-count, one-buffer}
 use Rattle.demands.specs.Calls.{starting, calling, handingRow, handingPrimary}
-use Rattle.demands.specs.Calls.{Sort, Lent, boxIn, Given, started, seen, pointed, handed, paged, changed, stepped, counted, marked, rowIn, lockIn, chains, highest, answerIn, countIn, shownIn, partIn, after, Same, Once, OneOutcome, OneRefusal}
+use Rattle.demands.specs.Calls.{Sort, Lent, boxIn, Given, started, seen, pointed, handed, paged, changed, stepped, counted, marked, boned, summed, rowIn, lockIn, boneIn, bonesIn, chains, highest, answerIn, countIn, shownIn, partIn, after, Same, Once, OneOutcome, OneRefusal}
 use Rattle.demands.proofs.Refusals.{refusals}
 
 -- the parts of `Same`; one answer has one number and one holder
@@ -130,6 +131,19 @@ module _ (w : Lent) where
   pub capture-once : (table : ℕ) → Once w (calling (Call.Capture table))
   capture-once table (paged r x) (paged t y) p o = page-same w (p .captured) (o .captured)
 
+  pub convert-once : (s : Bytes) → Once w (calling (Call.Convert s))
+  convert-once s (paged r x) (paged t y) p o = page-same w p o
+
+  pub bone-once : (r : Row) (n : ℕ) → Once w (calling (Call.Bone r n))
+  bone-once r n (boned x) (boned y) a b =
+      let e = a .answer-is .case-is ∙ sym (b .answer-is .case-is) in
+      same w (boned x) (boned y) e refl (ap₂ boneIn e (a .shown-is ∙ sym (b .shown-is))) refl refl refl
+
+  pub bones-once : (r : Row) → Once w (calling (Call.Bones r))
+  bones-once r (summed x) (summed y) a b =
+      let e = a .answer-is .case-is ∙ sym (b .answer-is .case-is) in
+      same w (summed x) (summed y) e refl (ap₂ bonesIn e (a .shown-is ∙ sym (b .shown-is))) refl refl refl
+
 -- ---- all calls
 
 pub one-outcome : OneOutcome
@@ -149,6 +163,9 @@ one-outcome w (calling (Call.Restore s)) = restore-once w s
 one-outcome w (calling Call.Statistics) = stats-once w
 one-outcome w (calling Call.Marks) = marks-once w
 one-outcome w (calling (Call.Capture t)) = capture-once w t
+one-outcome w (calling (Call.Convert s)) = convert-once w s
+one-outcome w (calling (Call.Bone r n)) = bone-once w r n
+one-outcome w (calling (Call.Bones r)) = bones-once w r
 
 -- ---- what is open, and where
 

@@ -1,16 +1,18 @@
 -- Demand 1, its second half: whatever the public call, a refusal leaves store, area and buffer as they were, counts nothing and shows nothing.
 -- Assumes nothing.
 use Prim.Native.Nat.{ℕ}
-use mathlib.Core.Path.{_≡_, refl, ap, _∙_}
+use mathlib.Core.Path.{_≡_, refl, ap, ap₂, _∙_}
 use mathlib.Core.Bool.{Bool, true, false, not}
 use mathlib.Core.List.{[]}
 use lib.ListN.{length}
 use lib.Dec.{leb, eqb}
 use Rattle.forms.specs.Bytes.{Bytes}
 use Rattle.forms.specs.Key.{Key}
-use Rattle.rules.specs.declared.answers.Answer.the-variants.{Accepted}
+use Rattle.forms.specs.Row.{Row, bone, rowForm, bonesOf, countBelow}
+use Rattle.rules.specs.declared.answers.Answer.{Answer}
+use Rattle.rules.specs.declared.answers.Answer.the-variants.{Accepted, No, Held}
 use Rattle.rules.specs.Answers as answers
-use Rattle.rules.specs.Answers.{Reply, answerOf}
+use Rattle.rules.specs.Answers.{Reply, answerOf, countIf, need}
 use Rattle.rules.specs.Box.{Box}
 use Rattle.rules.specs.Read.{examine}
 use Rattle.rules.specs.Page.{Page}
@@ -18,6 +20,9 @@ use Rattle.rules.specs.Written.{Written, pageBytes, writeIf, written, keyRowByt
 use Rattle.rules.specs.Page.{page, intentPage, conflictPage}
 use Rattle.rules.specs.Call.{Changing, Call}
 use Rattle.rules.specs.Capture.{imageOf, captureIf, captureImage}
+use Rattle.rules.specs.Image.{image}
+use Rattle.rules.specs.Convert.{convertedBytes, convertible, convertIf, convertImage}
+use Rattle.rules.specs.Bones.{Tells, boneSteps, shownIf, boneShown, bonesShown}
 use Rattle.laws.proofs.SettleLaws.{oneStep-refused}
 use Rattle.ledger.proofs.Unmet.{read-count}
 use Rattle.store.specs.declared.table.Store.{Store}
@@ -32,7 +37,9 @@ use Rattle.reads.specs.declared.seen.LockSeen.the-variants as points
 use Rattle.reads.specs.Seen.{seenIn, ReadAs}
 use Rattle.reads.specs.Parts.{rowPart, RowPart, PrimaryPart}
 use Rattle.rules.specs.declared.written.Wrote.{Wrote}
-use Rattle.demands.specs.Calls.{Lent, boxIn, started, seen, pointed, handed, paged, changed, stepped, counted, marked, nothing, rowIn, answerIn, Unchanged, Refusals}
+use Rattle.bones.specs.declared.shown.BoneShown.{BoneShown}
+use Rattle.bones.specs.declared.shown.BonesShown.{BonesShown}
+use Rattle.demands.specs.Calls.{Lent, boxIn, started, seen, pointed, handed, paged, changed, stepped, counted, marked, boned, summed, nothing, rowIn, boneIn, bonesIn, answerIn, Unchanged, Refusals}
 use Rattle.demands.specs.Calls.{starting, calling, handingRow, handingPrimary}
 
 -- ---- a page, and an image
@@ -61,6 +68,15 @@ captured-refused t b buffer = go (not (eqb t 0))
   where
     go : (k : Bool) → (captureIf k (imageOf t b) buffer .answer ≡ Accepted → ⊥) → Blank buffer (captureIf k (imageOf t b) buffer)
     go true n = short-blank (leb (length (imageOf t b)) (length buffer)) (imageOf t b) buffer n
+    go false n = record { count = refl; buffer-is = refl }
+
+-- "a fault by 01's image checks or a 255-byte row is 13, then a short buffer 12"
+converted-refused : (s buffer : Bytes) → (convertImage s buffer .answer ≡ Accepted → ⊥) → Blank buffer (convertImage s buffer)
+unfolding convertImage convertIf
+converted-refused s buffer = go (convertible (image s))
+  where
+    go : (k : Bool) → (convertIf k (convertedBytes s) buffer .answer ≡ Accepted → ⊥) → Blank buffer (convertIf k (convertedBytes s) buffer)
+    go true n = short-blank (leb (length (convertedBytes s)) (length buffer)) (convertedBytes s) buffer n
     go false n = record { count = refl; buffer-is = refl }
 
 module _ (w : Lent) where
@@ -112,6 +128,28 @@ module _ (w : Lent) where
   intent-left (points.Lock i) part p n = absurd (n refl)
   intent-left (points.Refused a) part p n = record { left = refl; box = refl; count = λ _. refl; shown = refl; part = p .is }
 
+-- ---- bones: refused, a question tells `false` or 0
+
+no-bone : (a : Answer) (b : Bool) → (a ≡ Accepted → ⊥) → boneIn a (shownIf a b) ≡ nothing
+no-bone Accepted b n = absurd (n refl)
+no-bone (No m) b n = refl
+no-bone (Held h) b n = refl
+
+no-bones : (a : Answer) (k : ℕ) → (a ≡ Accepted → ⊥) → bonesIn a (countIf a k) ≡ nothing
+unfolding countIf
+no-bones Accepted k n = absurd (n refl)
+no-bones (No m) k n = refl
+no-bones (Held h) k n = refl
+
+module _ (w : Lent) where
+  bone-left : (r : Row) (n : ℕ) (b : BoneShown) → Tells (boneShown r n) (b .answer) (b .shown) → (b .answer ≡ Accepted → ⊥) → Unchanged w (boned b)
+  unfolding boneShown
+  bone-left r n b p h = let e = p .answer-is .case-is in record { left = refl; box = refl; count = λ _. refl; shown = ap₂ boneIn e (p .shown-is) ∙ no-bone (boneSteps r n) (bone (bonesOf r .mask) n) (λ a. h (e ∙ a)); part = refl }
+
+  bones-left : (r : Row) (b : BonesShown) → Tells (bonesShown r) (b .answer) (b .shown) → (b .answer ≡ Accepted → ⊥) → Unchanged w (summed b)
+  unfolding bonesShown
+  bones-left r b p h = let e = p .answer-is .case-is in record { left = refl; box = refl; count = λ _. refl; shown = ap₂ bonesIn e (p .shown-is) ∙ no-bones (need (rowForm r) 2) (countBelow (bone (bonesOf r .mask)) (bonesOf r .count)) (λ a. h (e ∙ a)); part = refl }
+
 -- ---- the theorem
 
 -- `fresh`, `row_of`, `primary_of` and the figures refuse nothing
@@ -141,3 +179,6 @@ refusals w (calling (Call.Restore s)) (changed r area) p n = changed-left w r ar
 refusals w (calling Call.Statistics) (counted s) p n = absurd (n refl)
 refusals w (calling Call.Marks) (marked m) p n = absurd (n refl)
 refusals w (calling (Call.Capture t)) (paged r out) p n = wrote-left w (captureImage t (boxIn w) (w .buffer)) (captured-refused t (boxIn w) (w .buffer)) r out (p .captured) n
+refusals w (calling (Call.Convert s)) (paged r out) p n = wrote-left w (convertImage s (w .buffer)) (converted-refused s (w .buffer)) r out p n
+refusals w (calling (Call.Bone r n)) (boned b) p h = bone-left w r n b p h
+refusals w (calling (Call.Bones r)) (summed b) p h = bones-left w r b p h

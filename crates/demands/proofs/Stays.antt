@@ -1,6 +1,6 @@
 -- A made store stays made, whatever the public call. Assumes nothing.
 use Rattle.rules.specs.Call.{Changing, Call}
-use Rattle.demands.specs.Calls.{started, seen, pointed, handed, paged, changed, stepped, counted, marked, StaysMade, StartsMade}
+use Rattle.demands.specs.Calls.{started, seen, pointed, handed, paged, changed, stepped, counted, marked, boned, summed, StaysMade, StartsMade}
 use Rattle.demands.specs.Calls.{starting, calling, handingRow, handingPrimary}
 
 -- `fresh`, with an area of 131,072 bytes
@@ -25,3 +25,6 @@ stays-made w (calling (Call.Restore s)) (changed r area) p m = p .made
 stays-made w (calling Call.Statistics) (counted s) p m = m
 stays-made w (calling Call.Marks) (marked s) p m = m
 stays-made w (calling (Call.Capture t)) (paged r out) p m = m
+stays-made w (calling (Call.Convert s)) (paged r out) p m = m
+stays-made w (calling (Call.Bone r n)) (boned b) p m = m
+stays-made w (calling (Call.Bones r)) (summed b) p m = m

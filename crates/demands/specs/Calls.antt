@@ -2,13 +2,14 @@
 -- of all of them alike. `Kept` has a case for each call; src/ties.rt makes each call and shows that what it gave is `Kept`, by the call's own
 -- `ensures`. Nothing else is known of the code. proofs/Refusals.antt, proofs/Alike.antt and proofs/Stays.antt have the theorems.
 -- Assumes nothing.
-use Prim.Native.Nat.{ℕ}
+use Prim.Native.Nat.{ℕ, zero, suc}
 use mathlib.Core.Path.{_≡_}
+use mathlib.Core.Bool.{Bool, true, false}
 use mathlib.Core.List.{[]}
 use Rattle.forms.specs.Bytes.{Bytes}
 use Rattle.forms.specs.Row.{Row}
 use Rattle.rules.specs.declared.answers.Answer.{Answer}
-use Rattle.rules.specs.declared.answers.Answer.the-variants.{Accepted}
+use Rattle.rules.specs.declared.answers.Answer.the-variants.{Accepted, No, Held}
 use Rattle.rules.specs.declared.figures.Stats.{Stats}
 use Rattle.rules.specs.declared.figures.Marks.{Marks}
 use Rattle.rules.specs.Answers as answers
@@ -23,6 +24,8 @@ use Rattle.rules.specs.Commit.{commitBatch}
 use Rattle.rules.specs.Rollback.{rollbackBatch}
 use Rattle.rules.specs.OneStep.{oneStep}
 use Rattle.rules.specs.Restore.{restore}
+use Rattle.rules.specs.Convert.{convertImage}
+use Rattle.rules.specs.Bones.{Tells, boneShown, bonesShown}
 use Rattle.rules.specs.Figures.{stats, marks}
 use Rattle.store.specs.declared.table.Store.{Store}
 use Rattle.store.specs.View.{boxOf}
@@ -38,6 +41,8 @@ use Rattle.rules.specs.declared.written.Wrote.{Wrote}
 use Rattle.onesteps.specs.declared.batch.Stepped.{Stepped}
 use Rattle.onesteps.specs.Counts.{Counts}
 use Rattle.restores.specs.Replaced.{Replaced}
+use Rattle.bones.specs.declared.shown.BoneShown.{BoneShown}
+use Rattle.bones.specs.declared.shown.BonesShown.{BonesShown}
 use Rattle.captures.specs.Promise.{ImageWritten}
 
 -- ---- the calls
@@ -63,6 +68,8 @@ pub data Sort : Type 0 where
   aStep : Sort
   someStats : Sort
   someMarks : Sort
+  aBone : Sort
+  someBones : Sort
 
 abbrev pub gives : Public → Sort
 gives starting = aStore
@@ -79,6 +86,9 @@ gives (calling (Call.Restore s)) = aChange
 gives (calling Call.Statistics) = someStats
 gives (calling Call.Marks) = someMarks
 gives (calling (Call.Capture t)) = aPage
+gives (calling (Call.Convert s)) = aPage
+gives (calling (Call.Bone r n)) = aBone
+gives (calling (Call.Bones r)) = someBones
 gives (handingRow s) = aPart
 gives (handingPrimary p) = aPart
 
@@ -110,6 +120,9 @@ pub data Given : Sort → Type 0 where
   -- figures
   counted : Stats → Given someStats
   marked : Marks → Given someMarks
+  -- whether a bone is shown, and how many
+  boned : BoneShown → Given aBone
+  summed : BonesShown → Given someBones
 
 -- ---- what can be told of it
 
@@ -123,6 +136,8 @@ answerIn w (changed r area) = r .answer
 answerIn w (stepped r area) = r .answer
 answerIn w (counted s) = Accepted
 answerIn w (marked m) = Accepted
+answerIn w (boned b) = b .answer
+answerIn w (summed b) = b .answer
 
 -- "A writing call also gives the bytes written"; "The count is the number of entries"; 02, CR 6: "the number of write records it examined"; a call
 -- that gives no count has 0
@@ -136,14 +151,18 @@ countIn (changed r area) = 0
 countIn (stepped r area) = r .count
 countIn (counted s) = 0
 countIn (marked m) = 0
+countIn (boned b) = 0
+countIn (summed b) = 0
 
--- what a call shows: a row, a lock with its primary, or figures
+-- what a call shows: a row, a lock with its primary, figures, or bones
 pub data Shown : Type 0 where
   nothing : Shown
   row : Row → Shown
   lock : Lock → Shown
   chains : Stats → Shown
   highest : Marks → Shown
+  bone : Bool → Shown
+  bones : ℕ → Shown
 
 abbrev pub rowIn : Reply Row → Shown
 rowIn answers.nothing = nothing
@@ -155,6 +174,21 @@ lockIn answers.nothing = nothing
 lockIn (answers.shown l) = lock l
 lockIn (answers.refused a) = nothing
 
+-- of bones a refusal shows nothing where it tells `false` and 0; anything else that it told would be seen
+abbrev pub boneIn : Answer → Bool → Shown
+boneIn Accepted b = bone b
+boneIn (No n) true = bone true
+boneIn (No n) false = nothing
+boneIn (Held h) true = bone true
+boneIn (Held h) false = nothing
+
+abbrev pub bonesIn : Answer → ℕ → Shown
+bonesIn Accepted k = bones k
+bonesIn (No n) zero = nothing
+bonesIn (No n) (suc k) = bones (suc k)
+bonesIn (Held h) zero = nothing
+bonesIn (Held h) (suc k) = bones (suc k)
+
 abbrev pub shownIn : {o : Sort} → Lent → Given o → Shown
 shownIn w (started s) = nothing
 shownIn w (seen r part) = rowIn (seenIn (w .area) (r .seen))
@@ -165,6 +199,8 @@ shownIn w (changed r area) = nothing
 shownIn w (stepped r area) = nothing
 shownIn w (counted s) = chains s
 shownIn w (marked m) = highest m
+shownIn w (boned b) = boneIn (b .answer) (b .shown)
+shownIn w (summed b) = bonesIn (b .answer) (b .shown)
 
 -- the stretch of the store's own bytes that is handed back; none is the empty one
 abbrev pub partIn : {o : Sort} → Given o → Bytes
@@ -177,6 +213,8 @@ partIn (changed r area) = []
 partIn (stepped r area) = []
 partIn (counted s) = []
 partIn (marked m) = []
+partIn (boned b) = []
+partIn (summed b) = []
 
 -- what stands after the call. A call that gives no store back took it by value, and the caller's is as it was; so is an area that was lent as
 -- `&`: of these it is the functions' types that say so, and not their promises.
@@ -190,6 +228,8 @@ after w (changed r area) = record { store = r .store; area = area; buffer = w .b
 after w (stepped r area) = record { store = r .store; area = area; buffer = w .buffer }
 after w (counted s) = w
 after w (marked m) = w
+after w (boned b) = w
+after w (summed b) = w
 
 -- ---- the promises
 
@@ -210,6 +250,9 @@ Kept w (calling (Call.Restore s)) (changed r area) = Replaced (w .store) (w .are
 Kept w (calling Call.Statistics) (counted s) = s ≡ stats (boxIn w)
 Kept w (calling Call.Marks) (marked m) = m ≡ marks (boxIn w)
 Kept w (calling (Call.Capture t)) (paged r out) = ImageWritten t (boxIn w) (w .buffer) r out
+Kept w (calling (Call.Convert s)) (paged r out) = WroteAs (convertImage s (w .buffer)) r out
+Kept w (calling (Call.Bone r n)) (boned b) = Tells (boneShown r n) (b .answer) (b .shown)
+Kept w (calling (Call.Bones r)) (summed b) = Tells (bonesShown r) (b .answer) (b .shown)
 Kept w (handingRow s) (handed part) = RowPart (w .area) s part
 Kept w (handingPrimary p) (handed part) = PrimaryPart (w .area) p part
 

@@ -12,8 +12,10 @@ ghost use Rattle.store.specs.declared.table.Store.{Store};
 ghost use Rattle.store.specs.Made.{Made};
 ghost use Rattle.demands.specs.Calls.{Lent, Kept, KeptOn};
 ghost use Rattle.demands.specs.Calls.{starting, calling, handingRow, handingPrimary};
-ghost use Rattle.demands.specs.Calls.{started, seen, pointed, handed, paged, changed, stepped, counted, marked};
+ghost use Rattle.demands.specs.Calls.{started, seen, pointed, handed, paged, changed, stepped, counted, marked, boned, summed};
 use mvcc::AREA;
+use mvcc::BoneShown;
+use mvcc::BonesShown;
 use mvcc::Changed;
 use mvcc::LockSeen;
 use mvcc::Marks;
@@ -267,6 +269,25 @@ pub fn capture_snapshot_table(store: Store, area: &[u8; AREA], table: u32, out: 
     ensures { λ r. ⌜ Kept (record { store = store; area = now (area .entry); buffer = now (out .entry) }) (calling (Call.Capture table)) (paged r (now (out .exit))) ⌝ }
 {
     mvcc::capture_snapshot_table(store, area, table, out)
+}
+
+// The questions about a row take no store either.
+pub fn convert_image(image: &[u8], out: &mut [u8]) -> Wrote
+    ensures { λ r. ⌜ ((store : Store) (area : Bytes) → Kept (record { store = store; area = area; buffer = now (out .entry) }) (calling (Call.Convert (now (image .entry)))) (paged r (now (out .exit)))) ⌝ }
+{
+    mvcc::convert_image(image, out)
+}
+
+pub fn bone_shown(row: &[u8], n: u64) -> BoneShown
+    ensures { λ r. ⌜ ((w : Lent) → Kept w (calling (Call.Bone (now (row .entry)) n)) (boned r)) ⌝ }
+{
+    mvcc::bone_shown(row, n)
+}
+
+pub fn bones_shown(row: &[u8]) -> BonesShown
+    ensures { λ r. ⌜ ((w : Lent) → Kept w (calling (Call.Bones (now (row .entry)))) (summed r)) ⌝ }
+{
+    mvcc::bones_shown(row)
 }
 
 pub fn stats(store: Store, area: &[u8; AREA]) -> Stats

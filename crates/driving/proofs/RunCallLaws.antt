@@ -6,17 +6,18 @@ use mathlib.Core.Path.{_≡_, refl, sym, _∙_, ap, subst}
 use mathlib.Core.Bool.{Bool, true, false, not}
 use mathlib.Core.List.{[]}
 use mathlib.Core.Option.{Option, none, some}
-use lib.ListN.{length}
+use lib.ListN.{length, length-replicate}
 use lib.Dec.{ltb}
 use borrow.Author.Tests.{not-true, not-false, ltb-true, ltb-false}
 use Rattle.forms.specs.Bytes.{Bytes, bytesAt}
 use Rattle.forms.specs.Readers.{when}
 use Rattle.rules.specs.declared.answers.Answer.{Answer}
-use Rattle.rules.specs.Answers.{number, holder}
 use Rattle.rules.specs.Box.{Box}
 use Rattle.rules.specs.Calls.{Done}
 use Rattle.rules.specs.Prewrite.{PrewriteTerms, prewriteBatch, prewrite}
 use Rattle.rules.specs.OneStep.{Counted, oneStep}
+use Rattle.rules.specs.Bones.{boneShown}
+use Rattle.rules.specs.Convert.{convertImage}
 use Rattle.calls.specs.declared.changed.Changed.{Changed}
 use Rattle.calls.specs.Settled.{Settled}
 use Rattle.restores.specs.Replaced.{Replaced}
@@ -24,21 +25,24 @@ use Rattle.onesteps.specs.declared.batch.Stepped.{Stepped}
 use Rattle.onesteps.specs.Counts.{Counts}
 use Rattle.traces.specs.declared.args.Args.{Args}
 use Rattle.traces.specs.declared.op.ChangeOp.{ChangeOp}
+use Rattle.traces.specs.declared.op.AskOp.{AskOp}
 use Rattle.traces.specs.declared.op.Op.{Op}
 use Rattle.traces.specs.Calls.{TraceCall, oneEntry, call}
-use Rattle.traces.specs.Ops.{isCapture}
+use Rattle.traces.specs.Ops.{isLong}
 use Rattle.traces.specs.Places.{kindOf, firstWidth, bufferBelow}
 use Rattle.traces.specs.Args.{callOf, callAs, ArgsOf}
+use Rattle.traces.specs.Payloads.{bonePayload}
 use Rattle.traces.specs.Answers.{answerBytes}
-use Rattle.traces.proofs.FormLaws.{length-answer}
 use Rattle.store.specs.declared.table.Store.{Store}
 use Rattle.store.specs.View.{boxOf}
 use Rattle.store.specs.Made.{Made}
-use Rattle.showing.specs.Told.{Told, told, toldIn, toldOf, toldBytes, notRun, changing, counting, Writes}
+use Rattle.showing.specs.Told.{Told, told, toldIn, toldOf, toldBytes, notRun, changing, counting, lent, paging, Writes}
 use Rattle.driving.specs.Changes.{changedBy}
+use Rattle.driving.specs.Asks.{askedBytes, writtenBytes}
 use Rattle.showing.specs.Ran.{RanAs, DoneAs, TellsChange, Unrun, RunCall, RunAsks, CaptureAsks, longest}
 use Rattle.showing.specs.declared.ran.Ran.{Ran}
-use Rattle.showing.proofs.TellLaws.{written, written-count}
+use Rattle.showing.proofs.PagingLaws.{converted-long}
+use Rattle.showing.proofs.ShowLaws.{ran-told}
 
 -- what a call that changes the store promises, once its answer is written with its count
 counts-told : (d : Counted) {st : Store} {a : Answer} {c : ℕ} {area′ out out′ : Bytes} {n : ℕ} → DoneAs (d .done) (record { store = st; answer = a }) area′ → c ≡ d .count → longest ≤ length out → Writes (answerBytes a c []) out n out′
@@ -46,8 +50,7 @@ counts-told : (d : Counted) {st : Store} {a : Answer} {c : ℕ} {area′ out out
 counts-told d {a = a} {c = c} {out = out} {out′ = out′} {n = n} v e length-is w =
     let s : Writes (answerBytes (d .done .answer) c []) out n out′ = subst (λ (x : Answer). Writes (answerBytes x c []) out n out′) (v .answer-is) w in
     let u : Writes (toldBytes (counting d)) out n out′ = subst (λ (x : ℕ). Writes (answerBytes (d .done .answer) x []) out n out′) e s in
-    let h : length (toldBytes (counting d)) ≤ length out = omega (arith, length-answer (number (d .done .answer)) (holder (d .done .answer)) (d .count) []) in
-    record { made = v .made; shown = v .shown; put = written h u; within = omega (arith, written-count h u) }
+    ran-told (counting d) (v .made) (v .shown) (omega arith) length-is u
 
 -- one without count is one whose count is 0
 pub tells-change : {m : Changed} {out out′ : Bytes} {n : ℕ} → longest ≤ length out → Writes (answerBytes (m .answer) 0 []) out n out′ → TellsChange m out (record { store = m .store; len = n }) out′
@@ -106,18 +109,54 @@ module _ (s : Bytes) (a : Args) (b : Box) where
       let u = subst (λ (x : Bytes). Counts st area (oneStep (record { txn = a .first; start = a .second; commit = a .third }) x b) m area′) e v in
       counts-told (oneStep (record { txn = a .first; start = a .second; commit = a .third }) (bytesAt s (a .restat) (a .restlen)) b) (settled (u .settled)) (u .count-is) length-is w
 
+  -- of a question about a row
+  asked-told : (op : AskOp) → askedBytes op (bytesAt s (a .rowat) (a .rowlen)) (a .first) ≡ toldBytes (told (callAs (Op.Asks op) s a) (a .buffer) b)
+  unfolding told
+  asked-told AskOp.Bone = refl
+  asked-told AskOp.Bones = refl
+
+  asked-box : (op : AskOp) → b ≡ told (callAs (Op.Asks op) s a) (a .buffer) b .box
+  unfolding told
+  asked-box AskOp.Bone = refl
+  asked-box AskOp.Bones = refl
+
+  asked-short : (op : AskOp) → length (told (callAs (Op.Asks op) s a) (a .buffer) b .payload) ≤ 262144
+  unfolding told
+  asked-short AskOp.Bone = by-shown (boneShown (bytesAt s (a .rowat) (a .rowlen)) (a .first) .shown)
+    where
+      by-shown : (f : Bool) → length (bonePayload f) ≤ 262144
+      by-shown true = omega arith
+      by-shown false = omega arith
+  asked-short AskOp.Bones = omega arith
+
+  pub ask-ran : (op : AskOp) {r : Bytes} {st : Store} {area out out′ : Bytes} {n : ℕ} → r ≡ bytesAt s (a .rowat) (a .rowlen) → Made st area → boxOf st area ≡ b → longest ≤ length out → Writes (askedBytes op r (a .first)) out n out′
+      → RanAs (told (callAs (Op.Asks op) s a) (a .buffer) b) out (record { store = st; len = n }) area out′
+  ask-ran op {out = out} {out′ = out′} {n = n} e m k length-is w =
+      ran-told _ m (k ∙ asked-box op) (asked-short op) length-is (subst (λ (x : Bytes). Writes x out n out′) (ap (λ (x : Bytes). askedBytes op x (a .first)) e ∙ asked-told op) w)
+
+  -- of the converter
+  pub convert-ran : {r : Bytes} {st : Store} {area out out′ : Bytes} {n : ℕ} → r ≡ bytesAt s (a .restat) (a .restlen) → a .buffer < 262145 → Made st area → boxOf st area ≡ b → longest ≤ length out → Writes (writtenBytes (convertImage r (lent (a .buffer)))) out n out′
+      → RanAs (told (callAs Op.Convert s a) (a .buffer) b) out (record { store = st; len = n }) area out′
+  unfolding told
+  convert-ran {out = out} {out′ = out′} {n = n} e small m k length-is w =
+      let i : Bytes = bytesAt s (a .restat) (a .restlen) in
+      ran-told (paging (convertImage i (lent (a .buffer))) b) m k (omega (arith, converted-long i (lent (a .buffer)), length-replicate {A = ℕ} (a .buffer) 238)) length-is (subst (λ (x : Bytes). Writes (writtenBytes (convertImage x (lent (a .buffer)))) out n out′) e w)
+
   -- of any call
   pub by-op : (op : Op) {out : Bytes} {x : Ran} {area′ out′ : Bytes} → a .op ≡ op → RanAs (told (callAs op s a) (a .buffer) b) out x area′ out′ → RanAs (toldIn (callOf s a) b) out x area′ out′
   by-op op {out} {x} {area′} {out′} e v = subst (λ (o : Op). RanAs (told (callAs o s a) (a .buffer) b) out x area′ out′) (sym e) v
 
--- ---- the call that writes the image: its table and its long buffer are within their limits
+-- ---- the calls that have a long buffer: it is within its limit, and so is the table
+
+pub long-small : (a : Args) {op : Op} → isLong op ≡ true → a .op ≡ op → a .buffer < bufferBelow (isLong (a .op)) → a .buffer < 262145
+long-small a h e l = subst (λ (x : Bool). a .buffer < bufferBelow x) (ap isLong e ∙ h) l
 
 module _ {st : Store} {area s : Bytes} {a : Args} {out : Bytes} (v : RunAsks st area s a (a .op) out) (e : a .op ≡ Op.Capture) where
   pub table-fits : a .first < 4294967296
-  table-fits = subst (λ (x : Op). a .first < 256 ^ firstWidth (isCapture x)) e (v .places .first)
+  table-fits = subst (λ (x : Op). a .first < 256 ^ firstWidth (isLong x)) e (v .places .first)
 
   pub asks-capture : CaptureAsks st area (a .buffer) out
-  asks-capture = record { made = v .made; small = subst (λ (x : Op). a .buffer < bufferBelow (isCapture x)) e (v .places .buffer); length-is = v .length-is }
+  asks-capture = record { made = v .made; small = long-small a refl e (v .places .buffer); length-is = v .length-is }
 
 -- ---- the call's bytes
 

@@ -4,6 +4,8 @@ ghost use Rattle.store.specs.View.{boxOf};
 ghost use Rattle.store.specs.Made.{Made};
 ghost use Rattle.showing.specs.Told.{toldIn};
 ghost use Rattle.showing.specs.Ran.{RunAsks, RanAs, RunCall};
+use crate::asks::run_ask;
+use crate::asks::run_convert;
 use crate::changes::run_change;
 use crate::changes::run_step;
 use crate::changes::tell_change;
@@ -27,7 +29,9 @@ fn run_args(store: Store, area: &mut [u8; AREA], call: &[u8], args: Args, out: &
         Op::Shows(show) => run_shown(store, area, call, args, show, out),
         Op::Changes(change) => run_change(store, area, call, args, change, out),
         Op::OneStep => run_step(store, area, call, args, out),
+        Op::Asks(ask) => run_ask(store, area, call, args, ask, out),
         Op::Capture => run_capture(store, area, args.first as u32, args.buffer, out),
+        Op::Convert => run_convert(store, area, call, args, out),
     }
 }
 

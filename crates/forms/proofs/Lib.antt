@@ -7,6 +7,7 @@ pub mod NumberLaws
 pub mod WriterLaws
 pub mod KeyFormLaws
 pub mod RowLaws
+pub mod BoneLaws
 pub mod BatchEntryLaws
 pub mod ReadAllLaws
 pub mod DecodeLaws

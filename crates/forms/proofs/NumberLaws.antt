@@ -12,7 +12,7 @@ use lib.ListN.{length, getD, take, drop, length-append}
 use lib.Seq.{drop-cons}
 use lib.Dec.{leb}
 use borrow.Author.Tests.{le-leb, lt-leb, leb-true, leb-false, not-true, not-false}
-use Rattle.forms.specs.Bytes.{Bytes}
+use Rattle.forms.specs.Bytes.{Bytes, AllBytes}
 use Rattle.forms.specs.Readers.{Read, readOn, _>>=_, just}
 use Rattle.forms.specs.Numbers.{numberFrom, number, digits, numberOf, widthOf}
 use Rattle.forms.specs.Places.{found, NumberAt}
@@ -49,12 +49,23 @@ unfolding numberFrom
 number-more v [] b = refl
 number-more v (x ∷ a) b = number-more (v * 256 + x) a b
 
-pub number-below : (s : Bytes) (k v : ℕ) → ((i : ℕ) → getD s i 0 < 256) → v < 256 ^ k → numberFrom v s < 256 ^ (k + length s)
+pub number-below : (s : Bytes) (k v : ℕ) → AllBytes s → v < 256 ^ k → numberFrom v s < 256 ^ (k + length s)
 unfolding numberFrom
 number-below [] k v g h = subst (λ (n : ℕ). v < 256 ^ n) {x = k} (omega arith) h
 number-below (x ∷ s) k v g h =
     let e : suc k + length s ≡ k + suc (length s) = omega arith in
     subst (λ (n : ℕ). numberFrom (v * 256 + x) s < 256 ^ n) e (number-below s (suc k) (v * 256 + x) (λ i. g (suc i)) (below-more k v x h (g 0)))
+
+pub bytes-take : (n : ℕ) (s : Bytes) → AllBytes s → AllBytes (take n s)
+bytes-take zero s g i = omega arith
+bytes-take (suc n) [] g i = omega arith
+bytes-take (suc n) (x ∷ s) g zero = g 0
+bytes-take (suc n) (x ∷ s) g (suc i) = bytes-take n s (λ j. g (suc j)) i
+
+pub bytes-drop : (n : ℕ) (s : Bytes) → AllBytes s → AllBytes (drop n s)
+bytes-drop zero s g i = g i
+bytes-drop (suc n) [] g i = omega arith
+bytes-drop (suc n) (x ∷ s) g i = bytes-drop n s (λ j. g (suc j)) i
 
 -- ---- the bytes of a number
 

@@ -1,4 +1,4 @@
--- Rows: what each way over a section says, the loop over the texts, and what a row in form is.
+-- Rows: what each way over one of document 01's sections says, the loop over the texts, and what a row of 01's own form is.
 -- Assumes nothing.
 use Prim.Native.Nat.{ℕ, suc, _+_, _-_, _*_, _≤_, _<_}
 use native.Mathlib.Omega.{arith}
@@ -12,7 +12,7 @@ use borrow.Author.Tests.{le-leb, lt-leb, leb-true, not-true, not-false}
 use Rattle.seqs.proofs.Tests.{and-left, and-right}
 use Rattle.forms.specs.Bytes.{Bytes}
 use Rattle.forms.specs.Readers.{Read, readOn, _>>=_, just, when, byte, stretch, piece, upTo, times, section, ended, whole, isSome}
-use Rattle.forms.specs.Row.{Row, integers, texts, fields, rowForm}
+use Rattle.forms.specs.Row.{Row, integers, texts, fields, oldRowForm, rowForm}
 use Rattle.forms.specs.Places.{restOf, RestAt, PartAt}
 use Rattle.forms.specs.declared.part.Part.{Part}
 use Rattle.forms.specs.declared.row.Rest.{Rest}
@@ -108,7 +108,31 @@ module _ (s : Bytes) (at : ℕ) where
   unfolding texts section _>>=_ readOn
   texts-good l h v = record { is = ap restOf (after (λ n. times n piece) (count-at s at l h)) ∙ v .is; within = v .within }
 
--- ---- `row_in_form`
+-- ---- `fields_end`
+
+abbrev textsAfter : Option Bytes → Option Bytes
+textsAfter none = none
+textsAfter (some t) = restOf (texts t)
+
+fields-rest : (s : Bytes) → restOf (fields s) ≡ textsAfter (restOf (integers s))
+unfolding fields _>>=_ readOn
+fields-rest s = go (integers s)
+  where
+    go : (o : Option (Read Bytes)) → restOf (readOn o (λ _. texts)) ≡ textsAfter (restOf o)
+    go none = refl
+    go (some q) = refl
+
+module _ {s : Bytes} {i : Rest} (v : RestAt s (restOf (integers s)) i) where
+  fields-are : (b : Bool) → i .ok ≡ b → restOf (fields s) ≡ textsAfter (when b (drop (i .at) s))
+  fields-are b p = fields-rest s ∙ ap textsAfter (v .is ∙ ap (λ (b : Bool). when b (drop (i .at) s)) p)
+
+  pub fields-none : not (i .ok) ≡ true → RestAt s (restOf (fields s)) noRest
+  fields-none n = record { is = fields-are false (not-true (i .ok) n); within = omega arith }
+
+  pub fields-good : {t : Rest} → not (i .ok) ≡ false → RestAt s (restOf (texts (drop (i .at) s))) t → RestAt s (restOf (fields s)) t
+  fields-good n u = record { is = fields-are true (not-false (i .ok) n) ∙ u .is; within = u .within }
+
+-- ---- `old_row_in_form`
 
 -- "nothing may follow": all was read where what is left is empty
 abbrev isEnd : Option Bytes → Bool
@@ -124,56 +148,35 @@ end-is (some r) = go (r .rest)
     go [] = refl
     go (x ∷ t) = refl
 
-abbrev textsAfter : Option Bytes → Option Bytes
-textsAfter none = none
-textsAfter (some t) = restOf (texts t)
-
-fields-rest : (s : Bytes) → restOf (fields s) ≡ textsAfter (restOf (integers s))
-unfolding fields _>>=_ readOn
-fields-rest s = go (integers s)
-  where
-    go : (o : Option (Read Bytes)) → restOf (readOn o (λ _. texts)) ≡ textsAfter (restOf o)
-    go none = refl
-    go (some q) = refl
-
 module _ (s : Bytes) where
-  pub row-tiny : length s < 2 → false ≡ rowForm s
-  unfolding rowForm
-  row-tiny h = simp (lt-leb _ _ h)
+  pub old-tiny : length s < 2 → false ≡ oldRowForm s
+  unfolding oldRowForm
+  old-tiny h = simp (lt-leb _ _ h)
 
-  pub row-long : 255 < length s → false ≡ rowForm s
-  unfolding rowForm
-  row-long h = let l : 2 ≤ length s = omega arith in simp (le-leb _ _ l, lt-leb _ _ h)
+  pub old-long : 255 < length s → false ≡ oldRowForm s
+  unfolding oldRowForm
+  old-long h = let l : 2 ≤ length s = omega arith in simp (le-leb _ _ l, lt-leb _ _ h)
 
-module _ (s : Bytes) (l : 2 ≤ length s) (h : length s ≤ 255) where
-  row-is : rowForm s ≡ isEnd (restOf (fields s))
-  unfolding rowForm whole
-  row-is = simp (le-leb _ _ l, le-leb _ _ h) (end-is (fields s))
+module _ (s : Bytes) (l : 2 ≤ length s) (h : length s ≤ 255) {f : Rest} (v : RestAt s (restOf (fields s)) f) where
+  old-is : (b : Bool) → f .ok ≡ b → oldRowForm s ≡ isEnd (when b (drop (f .at) s))
+  unfolding oldRowForm whole
+  old-is b p = simp (le-leb _ _ l, le-leb _ _ h) (end-is (fields s) ∙ ap isEnd (v .is ∙ ap (λ (b : Bool). when b (drop (f .at) s)) p))
 
-  module _ {i : Rest} (v : RestAt s (restOf (integers s)) i) where
-    row-fields : (b : Bool) → i .ok ≡ b → rowForm s ≡ isEnd (textsAfter (when b (drop (i .at) s)))
-    row-fields b p = row-is ∙ ap isEnd (fields-rest s ∙ ap textsAfter (v .is ∙ ap (λ (b : Bool). when b (drop (i .at) s)) p))
+  pub old-none : not (f .ok) ≡ true → false ≡ oldRowForm s
+  old-none n = sym (old-is false (not-true (f .ok) n))
 
-    pub row-integers : not (i .ok) ≡ true → false ≡ rowForm s
-    row-integers n = sym (row-fields false (not-true (i .ok) n))
+  pub old-end : not (f .ok) ≡ false → eqb (f .at) (length s) ≡ oldRowForm s
+  old-end n = end-at s (f .at) (v .within) ∙ sym (old-is true (not-false (f .ok) n))
 
-    module _ (good : not (i .ok) ≡ false) {t : Rest} (u : RestAt s (restOf (texts (drop (i .at) s))) t) where
-      row-texts : (b : Bool) → t .ok ≡ b → rowForm s ≡ isEnd (when b (drop (t .at) s))
-      row-texts b p = row-fields true (not-false (i .ok) good) ∙ ap isEnd (u .is ∙ ap (λ (b : Bool). when b (drop (t .at) s)) p)
+-- ---- a row in form
 
-      pub row-no-texts : not (t .ok) ≡ true → false ≡ rowForm s
-      row-no-texts n = sym (row-texts false (not-true (t .ok) n))
-
-      pub row-end : not (t .ok) ≡ false → eqb (t .at) (length s) ≡ rowForm s
-      row-end n = end-at s (t .at) (u .within) ∙ sym (row-texts true (not-false (t .ok) n))
-
--- "Length 2 to 255"
+-- "Lengths stay at most 255, the smallest row is 00 00 00"
 pub record RowBounds (r : Row) : Type 0 where
-  pub length-is : 2 ≤ length r
+  pub length-is : 3 ≤ length r
   pub short : length r ≤ 255
 
 pub row-bounds : (r : Row) → rowForm r ≡ true → RowBounds r
 unfolding rowForm
 row-bounds r h =
-    let g : leb 2 (length r) && leb (length r) 255 ≡ true = and-left _ _ h in
-    record { length-is = leb-true _ _ (and-left _ _ g); short = leb-true _ _ (and-right (leb 2 (length r)) _ g) }
+    let g : leb 3 (length r) && leb (length r) 255 ≡ true = and-left _ _ h in
+    record { length-is = leb-true _ _ (and-left _ _ g); short = leb-true _ _ (and-right (leb 3 (length r)) _ g) }

@@ -2,9 +2,9 @@
 -- Assumes nothing.
 use mathlib.Core.Bool.{Bool, true, false}
 use mathlib.Core.List.{List, [], _∷_}
-use Prim.Native.Nat.{ℕ}
+use Prim.Native.Nat.{ℕ, _<_}
 use lib.Dec.{ltb}
-use lib.ListN.{length, take, drop}
+use lib.ListN.{length, getD, take, drop}
 use Rattle.forms.specs.declared.key.Order.{Order}
 use Rattle.forms.specs.declared.key.Order.the-variants.{Less, Equal, Greater}
 
@@ -47,3 +47,7 @@ bytesAt s at len = take len (drop at s)
 -- "a length byte and its bytes"
 abbrev pub pieceBytes : Bytes → Bytes
 pieceBytes s = length s ∷ s
+
+-- each number is a byte: of what the code is lent, its type says so
+abbrev pub AllBytes : Bytes → Type 0
+AllBytes s = (i : ℕ) → getD s i 0 < 256

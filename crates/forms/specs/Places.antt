@@ -12,11 +12,12 @@ use Rattle.forms.specs.Bytes.{Bytes, bytesAt, ltBytes}
 use Rattle.forms.specs.Readers.{Read, Reader, when, times, piece, whole}
 use Rattle.forms.specs.Numbers.{numberOf}
 use Rattle.forms.specs.Key.{Key}
-use Rattle.forms.specs.Row.{integers, texts}
+use Rattle.forms.specs.Row.{Row, Bones, maskBytes, rowForm, bonesOf}
 use Rattle.forms.specs.Batch.{Mutation, keyIn, mutation, above, ascend}
 use Rattle.forms.specs.declared.number.Number.{Number}
 use Rattle.forms.specs.declared.part.Part.{Part}
 use Rattle.forms.specs.declared.row.Rest.{Rest}
+use Rattle.forms.specs.declared.row.Mask.{Mask}
 use Rattle.forms.specs.declared.batch.Entry.{Entry}
 use Rattle.forms.specs.declared.batch.Step.{Step}
 use Rattle.forms.specs.declared.batch.Entries.{Entries}
@@ -51,6 +52,26 @@ restOf (some r) = some (r .rest)
 pub record RestAt (s : Bytes) (o : Option Bytes) (r : Rest) : Type 0 where
   pub is : o ≡ when (r .ok) (drop (r .at) s)
   pub within : r .at ≤ length s
+
+-- ---- the bones of a row
+
+-- what the places of a mask say
+abbrev pub bonesAt : Bytes → Mask → Bones
+bonesAt s m = record { count = m .count; mask = bytesAt s (m .at) (maskBytes (m .count)) }
+
+pub record BonesAt (s : Bytes) (o : Option (Read Bones)) (m : Mask) : Type 0 where
+  pub is : o ≡ found s (m .ok) (bonesAt s m) (m .end)
+  pub size : m .end ≡ m .at + maskBytes (m .count)
+  pub within : m .end ≤ length s
+
+abbrev pub noMask : Mask
+noMask = record { ok = false; count = 0; at = 0; end = 0 }
+
+-- those of a whole row, which end where it ends
+pub record RowBones (r : Row) (m : Mask) : Type 0 where
+  pub form : m .ok ≡ rowForm r
+  pub is : m .ok ≡ true → bonesOf r ≡ bonesAt r m
+  pub size : m .ok ≡ true → m .at + maskBytes (m .count) ≡ length r
 
 -- ---- one entry of a batch
 

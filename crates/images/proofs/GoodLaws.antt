@@ -1,14 +1,16 @@
--- One entry of an image: `ofTable`, `goodDefault`, `goodLock` and `goodWrite` by the tests that a program makes of them, one law for each way out.
+-- One entry of an image: `ofTable`, `goodDefaultBy`, `goodLock` and `goodWrite` by the tests that a program makes of them, one law for each way
+-- out.
 -- Assumes nothing.
 use Prim.Native.Nat.{ℕ}
 use native.Mathlib.Omega.{arith}
-use mathlib.Core.Path.{_≡_, sym, _∙_, ap}
-use mathlib.Core.Bool.{Bool, true, false, not, _&&_}
+use mathlib.Core.Path.{_≡_, refl, sym, _∙_, ap}
+use mathlib.Core.Bool.{Bool, true, false, not, _&&_, and-true, true≢false}
+use lib.ListN.{length}
 use lib.Dec.{eqb}
 use borrow.Author.Tests.{eq-eqb, ne-eqb}
-use Rattle.seqs.proofs.Tests.{and-both}
+use Rattle.seqs.proofs.Tests.{and-left, and-right, and-both}
 use Rattle.forms.specs.Key.{Key, tableOf, keyForm}
-use Rattle.forms.specs.Row.{rowForm}
+use Rattle.forms.specs.Row.{Row, rowForm, oldRowForm}
 use Rattle.forms.specs.Places.{NumberAt}
 use Rattle.forms.specs.declared.number.Number.{Number}
 use Rattle.forms.proofs.KeyFormLaws.{key-bounds}
@@ -16,13 +18,15 @@ use Rattle.forms.proofs.NumberLaws.{number-value}
 use Rattle.rules.specs.declared.records.Kind.the-variants.{Rollback}
 use Rattle.rules.specs.Box as box
 use Rattle.rules.specs.Sound.{soundRecord, soundLock}
-use Rattle.rules.specs.Page.{KeyLock}
 use Rattle.rules.specs.Image.{KeyRecord}
-use Rattle.rules.specs.Restore.{ofTable, goodDefault, goodLock, goodWrite}
+use Rattle.rules.specs.Restore.{ofTable, goodDefaultBy, goodLock, goodWrite}
+use Rattle.rules.specs.Convert.{mayGrow}
 use Rattle.images.specs.Entries.{Raw}
 use Rattle.images.specs.declared.entries.Section.{Section}
 use Rattle.images.specs.declared.entries.Section.the-variants.{Default, Lock, Write}
-use Rattle.images.specs.Good.{known, defaultOf, keyLockOf, keyRecordOf, fits}
+use Rattle.images.specs.Good.{known, kindOf, defaultOf, keyLockOf, keyRecordOf, headGood, formOf, fits}
+use Rattle.images.specs.declared.checks.Form.{Form}
+use Rattle.images.specs.declared.checks.Form.the-variants.{Old, New}
 use Rattle.images.proofs.TestLaws.{fails, holds, and-out, and-last, and-rest}
 
 -- a number that is 0 is not other than 0, and one that is not 0 is
@@ -44,17 +48,34 @@ module _ (t : ℕ) (k : Key) {b : Bool} (e : b ≡ keyForm k) where
       let f : keyForm k ≡ true = holds e h in
       and-rest (keyForm k) (eqb (tableOf k) t) (eqb (n .value) t) f (ap (λ (m : ℕ). eqb m t) (number-value v (omega (arith, key-bounds k f .length-is))))
 
+-- ---- the key and the number after it
+
+module _ (t : ℕ) (x : Raw) {b : Bool} (e : b ≡ ofTable t (x .key)) where
+  pub head-key : not b ≡ true → false ≡ headGood t x
+  head-key h = sym (and-out (ofTable t (x .key)) (not (eqb (x .first) 0)) (fails e h))
+
+  pub head-first : {r : Bool} → not b ≡ false → r ≡ not (eqb (x .first) 0) → r ≡ headGood t x
+  head-first {r} h q = and-rest (ofTable t (x .key)) (not (eqb (x .first) 0)) r (holds e h) q
+
 -- ---- "default start not 0, row decodes"
 
-module _ (t : ℕ) (d : box.Default) {b : Bool} (e : b ≡ ofTable t (d .key)) where
-  pub default-key : not b ≡ true → false ≡ goodDefault t d
-  default-key h = sym (and-out (ofTable t (d .key) && not (eqb (d .start) 0)) (rowForm (d .row)) (and-out (ofTable t (d .key)) (not (eqb (d .start) 0)) (fails e h)))
+module _ (form : Row → Bool) (t : ℕ) (x : Raw) {b : Bool} (e : b ≡ headGood t x) where
+  pub default-head : not b ≡ true → false ≡ goodDefaultBy form t (defaultOf x)
+  default-head h = sym (and-out (headGood t x) (form (x .piece)) (fails e h))
 
-  pub default-start : d .start ≡ 0 → false ≡ goodDefault t d
-  default-start z = sym (and-out (ofTable t (d .key) && not (eqb (d .start) 0)) (rowForm (d .row)) (and-last (ofTable t (d .key)) (not (eqb (d .start) 0)) (zero (d .start) z)))
+  pub default-row : {r : Bool} → not b ≡ false → r ≡ form (x .piece) → r ≡ goodDefaultBy form t (defaultOf x)
+  default-row {r} h q = and-rest (headGood t x) (form (x .piece)) r (holds e h) q
 
-  pub default-row : {r : Bool} → not b ≡ false → (d .start ≡ 0 → ⊥) → r ≡ rowForm (d .row) → r ≡ goodDefault t d
-  default-row {r} h n q = and-rest (ofTable t (d .key) && not (eqb (d .start) 0)) (rowForm (d .row)) r (and-both (ofTable t (d .key)) (not (eqb (d .start) 0)) (holds e h) (nonzero (d .start) n)) q
+-- ---- the form of a row
+
+pub row-full : (form : Form) (r : Row) → form ≡ Old → length r ≡ 255 → false ≡ formOf form r
+row-full form r o e = sym (ap (λ (f : Form). formOf f r) o ∙ and-last (oldRowForm r) (mayGrow r) (ap not (eq-eqb (length r) 255 e)))
+
+pub row-old : (form : Form) (r : Row) {b : Bool} → form ≡ Old → (length r ≡ 255 → ⊥) → b ≡ oldRowForm r → b ≡ formOf form r
+row-old form r o n q = q ∙ sym (ap (λ (f : Form). formOf f r) o ∙ ap (λ (c : Bool). oldRowForm r && c) (ap not (ne-eqb (length r) 255 n)) ∙ and-true (oldRowForm r))
+
+pub row-new : (form : Form) (r : Row) {b : Bool} → form ≡ New → b ≡ rowForm r → b ≡ formOf form r
+row-new form r o q = q ∙ sym (ap (λ (f : Form). formOf f r) o)
 
 -- ---- "Sound lock: transaction, start, time to live not 0, kind Put or Delete, primary a key"
 
@@ -89,30 +110,37 @@ module _ (l : box.Lock) where
   sound-all {r} a b c d q =
       and-rest (txn && start && ttl && kind) primary r (and-both (txn && start && ttl) kind (and-both (txn && start) ttl (and-both txn start a b) c) d) q
 
-module _ (t : ℕ) (x : KeyLock) {b : Bool} (e : b ≡ ofTable t (x .key)) where
-  pub lock-key : not b ≡ true → false ≡ goodLock t x
-  lock-key h = sym (and-out (ofTable t (x .key)) (soundLock (x .lock)) (fails e h))
+head-out : (a t s l k p : Bool) → a && t ≡ false → a && (t && s && l && k && p) ≡ false
+head-out true true s l k p e = absurd (true≢false e)
+head-out true false s l k p e = refl
+head-out false t s l k p e = refl
 
-  unsound : soundLock (x .lock) ≡ false → false ≡ goodLock t x
-  unsound h = sym (and-last (ofTable t (x .key)) (soundLock (x .lock)) h)
+module _ (t : ℕ) (x : Raw) {b : Bool} (e : b ≡ headGood t x) where
+  abbrev lock : box.Lock
+  lock = keyLockOf x .lock
 
-  pub lock-txn : x .lock .txn ≡ 0 → false ≡ goodLock t x
-  lock-txn z = unsound (sound-start (x .lock) (and-out (txn (x .lock)) (start (x .lock)) (zero _ z)))
+  pub lock-head : not b ≡ true → false ≡ goodLock t (keyLockOf x)
+  unfolding soundLock
+  lock-head h = sym (head-out (ofTable t (x .key)) (txn lock) (start lock) (ttl lock) (kind lock) (primary lock) (fails e h))
 
-  pub lock-start : x .lock .start ≡ 0 → false ≡ goodLock t x
-  lock-start z = unsound (sound-start (x .lock) (and-last (txn (x .lock)) (start (x .lock)) (zero _ z)))
+  unsound : soundLock lock ≡ false → false ≡ goodLock t (keyLockOf x)
+  unsound h = sym (and-last (ofTable t (x .key)) (soundLock lock) h)
 
-  pub lock-ttl : x .lock .ttl ≡ 0 → false ≡ goodLock t x
-  lock-ttl z = unsound (sound-ttl (x .lock) (and-last (txn (x .lock) && start (x .lock)) (ttl (x .lock)) (zero _ z)))
+  pub lock-start : x .second ≡ 0 → false ≡ goodLock t (keyLockOf x)
+  lock-start z = unsound (sound-start lock (and-last (txn lock) (start lock) (zero _ z)))
 
-  pub lock-kind : {a : Bool} → a ≡ not (box.eqKind (x .lock .kind) Rollback) → not a ≡ true → false ≡ goodLock t x
-  lock-kind q h = unsound (sound-kind (x .lock) (and-last (txn (x .lock) && start (x .lock) && ttl (x .lock)) (kind (x .lock)) (fails q h)))
+  pub lock-ttl : x .third ≡ 0 → false ≡ goodLock t (keyLockOf x)
+  lock-ttl z = unsound (sound-ttl lock (and-last (txn lock && start lock) (ttl lock) (zero _ z)))
 
-  pub lock-primary : {a r : Bool} → not b ≡ false → (x .lock .txn ≡ 0 → ⊥) → (x .lock .start ≡ 0 → ⊥) → (x .lock .ttl ≡ 0 → ⊥) → a ≡ not (box.eqKind (x .lock .kind) Rollback) → not a ≡ false
-      → r ≡ keyForm (x .lock .primary) → r ≡ goodLock t x
-  lock-primary {r = r} h n m o q g p =
-      and-rest (ofTable t (x .key)) (soundLock (x .lock)) r (holds e h)
-      (sound-all (x .lock) (nonzero _ n) (nonzero _ m) (nonzero _ o) (holds q g) p)
+  pub lock-kind : {a : Bool} → a ≡ not (box.eqKind (kindOf (x .kind)) Rollback) → not a ≡ true → false ≡ goodLock t (keyLockOf x)
+  lock-kind q h = unsound (sound-kind lock (and-last (txn lock && start lock && ttl lock) (kind lock) (fails q h)))
+
+  pub lock-primary : {a r : Bool} → not b ≡ false → (x .second ≡ 0 → ⊥) → (x .third ≡ 0 → ⊥) → a ≡ not (box.eqKind (kindOf (x .kind)) Rollback) → not a ≡ false → r ≡ keyForm (x .piece)
+      → r ≡ goodLock t (keyLockOf x)
+  lock-primary {r = r} h m o q g p =
+      let c : headGood t x ≡ true = holds e h in
+      and-rest (ofTable t (x .key)) (soundLock lock) r (and-left _ _ c)
+      (sound-all lock (and-right (ofTable t (x .key)) _ c) (nonzero _ m) (nonzero _ o) (holds q g) p)
 
 -- ---- "record sound"
 
@@ -125,24 +153,24 @@ module _ (t : ℕ) (x : KeyRecord) {b : Bool} (e : b ≡ ofTable t (x .key)) whe
 
 -- ---- an entry of a section
 
-module _ (section : Section) (t : ℕ) (x : Raw) where
-  pub fits-default : {b : Bool} → section ≡ Default → b ≡ goodDefault t (defaultOf x) → b ≡ fits section t x
+module _ (form : Row → Bool) (section : Section) (t : ℕ) (x : Raw) where
+  pub fits-default : {b : Bool} → section ≡ Default → b ≡ goodDefaultBy form t (defaultOf x) → b ≡ fits form section t x
   unfolding fits
-  fits-default e q = q ∙ sym (ap (λ (c : Section). fits c t x) e)
+  fits-default e q = q ∙ sym (ap (λ (c : Section). fits form c t x) e)
 
   module _ {k : Bool} (known-is : k ≡ known (x .kind)) where
-    pub lock-unknown : section ≡ Lock → not k ≡ true → false ≡ fits section t x
+    pub lock-unknown : section ≡ Lock → not k ≡ true → false ≡ fits form section t x
     unfolding fits
-    lock-unknown e h = sym (ap (λ (c : Section). fits c t x) e ∙ and-out (known (x .kind)) (goodLock t (keyLockOf x)) (fails known-is h))
+    lock-unknown e h = sym (ap (λ (c : Section). fits form c t x) e ∙ and-out (known (x .kind)) (goodLock t (keyLockOf x)) (fails known-is h))
 
-    pub fits-lock : {b : Bool} → section ≡ Lock → not k ≡ false → b ≡ goodLock t (keyLockOf x) → b ≡ fits section t x
+    pub fits-lock : {b : Bool} → section ≡ Lock → not k ≡ false → b ≡ goodLock t (keyLockOf x) → b ≡ fits form section t x
     unfolding fits
-    fits-lock {b} e h q = and-rest (known (x .kind)) (goodLock t (keyLockOf x)) b (holds known-is h) q ∙ sym (ap (λ (c : Section). fits c t x) e)
+    fits-lock {b} e h q = and-rest (known (x .kind)) (goodLock t (keyLockOf x)) b (holds known-is h) q ∙ sym (ap (λ (c : Section). fits form c t x) e)
 
-    pub write-unknown : section ≡ Write → not k ≡ true → false ≡ fits section t x
+    pub write-unknown : section ≡ Write → not k ≡ true → false ≡ fits form section t x
     unfolding fits
-    write-unknown e h = sym (ap (λ (c : Section). fits c t x) e ∙ and-out (known (x .kind)) (goodWrite t (keyRecordOf x)) (fails known-is h))
+    write-unknown e h = sym (ap (λ (c : Section). fits form c t x) e ∙ and-out (known (x .kind)) (goodWrite t (keyRecordOf x)) (fails known-is h))
 
-    pub fits-write : {b : Bool} → section ≡ Write → not k ≡ false → b ≡ goodWrite t (keyRecordOf x) → b ≡ fits section t x
+    pub fits-write : {b : Bool} → section ≡ Write → not k ≡ false → b ≡ goodWrite t (keyRecordOf x) → b ≡ fits form section t x
     unfolding fits
-    fits-write {b} e h q = and-rest (known (x .kind)) (goodWrite t (keyRecordOf x)) b (holds known-is h) q ∙ sym (ap (λ (c : Section). fits c t x) e)
+    fits-write {b} e h q = and-rest (known (x .kind)) (goodWrite t (keyRecordOf x)) b (holds known-is h) q ∙ sym (ap (λ (c : Section). fits form c t x) e)

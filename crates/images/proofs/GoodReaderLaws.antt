@@ -10,6 +10,7 @@ use lib.ListN.{length, drop}
 use lib.Dec.{eqb}
 use borrow.Author.Tests.{not-true, not-false}
 use Rattle.forms.specs.Bytes.{Bytes}
+use Rattle.forms.specs.Row.{Row}
 use Rattle.forms.specs.Readers.{Read, Reader, readOn, _>>=_, just, when, byte, piece, times, section, isSome}
 use Rattle.forms.specs.Numbers.{numberOf}
 use Rattle.forms.specs.Places.{found}
@@ -18,7 +19,7 @@ use Rattle.rules.specs.Box as box
 use Rattle.rules.specs.declared.records.Kind.{Kind}
 use Rattle.rules.specs.Page.{KeyLock}
 use Rattle.rules.specs.Image.{KeyRecord, kindIf, kindFrom, defaultFrom, lockFrom, keyLockFrom, writeFrom}
-use Rattle.rules.specs.Restore.{allGood, goodDefault, goodLock, goodWrite}
+use Rattle.rules.specs.Restore.{allGood, goodDefaultBy, goodLock, goodWrite}
 use Rattle.images.specs.Entries.{Raw, End, orElse, hasPiece, hasTail, tailFrom, noEnd, entryFrom, rawOf, EntryAt, noEntry}
 use Rattle.images.specs.declared.entries.Section.{Section}
 use Rattle.images.specs.declared.entries.Section.the-variants.{Default, Lock, Write}
@@ -27,8 +28,8 @@ use Rattle.images.specs.Good.{known, knownBy, kindBy, kindOf, defaultOf,
 
 -- ---- `good_at`
 
-module _ (section : Section) (t : ℕ) {s : Bytes} {at : ℕ} where
-  nothing : goodFrom section t (drop at s) ≡ none → GoodAt section t s at noEntry
+module _ (form : Row → Bool) (section : Section) (t : ℕ) {s : Bytes} {at : ℕ} where
+  nothing : goodFrom form section t (drop at s) ≡ none → GoodAt form section t s at noEntry
   nothing e = record {
     is = e;
     lies = record { key-in = omega arith; piece-in = omega arith };
@@ -43,23 +44,23 @@ module _ (section : Section) (t : ℕ) {s : Bytes} {at : ℕ} where
     pub entry-lies : Lies s e
     entry-lies = record { key-in = v .key-in; piece-in = v .piece-in }
 
-    read : (b : Bool) → e .ok ≡ b → goodFrom section t (drop at s) ≡ pass (fits section t) (found s b (rawOf s e) (e .next))
+    read : (b : Bool) → e .ok ≡ b → goodFrom form section t (drop at s) ≡ pass (fits form section t) (found s b (rawOf s e) (e .next))
     unfolding goodFrom
-    read b h = ap (pass (fits section t)) (v .is ∙ ap (λ (c : Bool). found s c (rawOf s e) (e .next)) h)
+    read b h = ap (pass (fits form section t)) (v .is ∙ ap (λ (c : Bool). found s c (rawOf s e) (e .next)) h)
 
-    pub good-none : not (e .ok) ≡ true → GoodAt section t s at noEntry
+    pub good-none : not (e .ok) ≡ true → GoodAt form section t s at noEntry
     unfolding pass
     good-none h = nothing (read false (not-true (e .ok) h))
 
-    module _ (ok : not (e .ok) ≡ false) {b : Bool} (g : b ≡ fits section t (rawOf s e)) where
-      tested : goodFrom section t (drop at s) ≡ when b (record { got = rawOf s e; rest = drop (e .next) s })
+    module _ (ok : not (e .ok) ≡ false) {b : Bool} (g : b ≡ fits form section t (rawOf s e)) where
+      tested : goodFrom form section t (drop at s) ≡ when b (record { got = rawOf s e; rest = drop (e .next) s })
       unfolding pass
       tested = read true (not-false (e .ok) ok) ∙ ap (λ (c : Bool). when c (record { got = rawOf s e; rest = drop (e .next) s })) (sym g)
 
-      pub good-bad : not b ≡ true → GoodAt section t s at noEntry
+      pub good-bad : not b ≡ true → GoodAt form section t s at noEntry
       good-bad h = nothing (tested ∙ ap (λ (c : Bool). when c (record { got = rawOf s e; rest = drop (e .next) s })) (not-true b h))
 
-      pub good-good : not b ≡ false → GoodAt section t s at e
+      pub good-good : not b ≡ false → GoodAt form section t s at e
       good-good h = record {
         is =
             tested ∙ ap (λ (c : Bool). when c (record { got = rawOf s e; rest = drop (e .next) s })) (not-false b h)
@@ -188,19 +189,20 @@ pass-pass g h (some q) = go (h (q .got))
     go false = refl
 
 -- each section's good entries are document 01's
-pub good-defaults : (t : ℕ) (s : Bytes) → pass (goodDefault t) (defaultFrom s) ≡ mapRead defaultOf (goodFrom Default t s)
-unfolding goodFrom fits
-good-defaults t s = ap (pass (goodDefault t)) (default-same s) ∙ pass-map defaultOf (goodDefault t) (entryFrom Default s)
+module _ (form : Row → Bool) where
+  pub good-defaults : (t : ℕ) (s : Bytes) → pass (goodDefaultBy form t) (defaultFrom s) ≡ mapRead defaultOf (goodFrom form Default t s)
+  unfolding goodFrom fits
+  good-defaults t s = ap (pass (goodDefaultBy form t)) (default-same s) ∙ pass-map defaultOf (goodDefaultBy form t) (entryFrom Default s)
 
-pub good-locks : (t : ℕ) (s : Bytes) → pass (goodLock t) (keyLockFrom s) ≡ mapRead keyLockOf (goodFrom Lock t s)
-unfolding goodFrom fits
-good-locks t s =
-    ap (pass (goodLock t)) (lock-same s) ∙ pass-map keyLockOf (goodLock t) (pass knownRaw (entryFrom Lock s)) ∙ ap (mapRead keyLockOf) (pass-pass (λ (x : Raw). goodLock t (keyLockOf x)) knownRaw (entryFrom Lock s))
+  pub good-locks : (t : ℕ) (s : Bytes) → pass (goodLock t) (keyLockFrom s) ≡ mapRead keyLockOf (goodFrom form Lock t s)
+  unfolding goodFrom fits
+  good-locks t s =
+      ap (pass (goodLock t)) (lock-same s) ∙ pass-map keyLockOf (goodLock t) (pass knownRaw (entryFrom Lock s)) ∙ ap (mapRead keyLockOf) (pass-pass (λ (x : Raw). goodLock t (keyLockOf x)) knownRaw (entryFrom Lock s))
 
-pub good-writes : (t : ℕ) (s : Bytes) → pass (goodWrite t) (writeFrom s) ≡ mapRead keyRecordOf (goodFrom Write t s)
-unfolding goodFrom fits
-good-writes t s =
-    ap (pass (goodWrite t)) (write-same s) ∙ pass-map keyRecordOf (goodWrite t) (pass knownRaw (entryFrom Write s)) ∙ ap (mapRead keyRecordOf) (pass-pass (λ (x : Raw). goodWrite t (keyRecordOf x)) knownRaw (entryFrom Write s))
+  pub good-writes : (t : ℕ) (s : Bytes) → pass (goodWrite t) (writeFrom s) ≡ mapRead keyRecordOf (goodFrom form Write t s)
+  unfolding goodFrom fits
+  good-writes t s =
+      ap (pass (goodWrite t)) (write-same s) ∙ pass-map keyRecordOf (goodWrite t) (pass knownRaw (entryFrom Write s)) ∙ ap (mapRead keyRecordOf) (pass-pass (λ (x : Raw). goodWrite t (keyRecordOf x)) knownRaw (entryFrom Write s))
 
 -- ---- many of them
 

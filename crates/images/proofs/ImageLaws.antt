@@ -12,6 +12,7 @@ use borrow.Author.Tests.{eq-eqb, ne-eqb, not-true, not-false}
 use Rattle.seqs.specs.Tables.{All}
 use Rattle.seqs.proofs.Alls.{all-none}
 use Rattle.forms.specs.Bytes.{Bytes}
+use Rattle.forms.specs.Row.{Row}
 use Rattle.forms.specs.Readers.{Read, Reader, readOn, _>>=_, just, when, ended, whole, isSome}
 use Rattle.forms.specs.Readers as readers
 use Rattle.forms.specs.Numbers.{numberOf}
@@ -23,7 +24,7 @@ use Rattle.rules.specs.Box as box
 use Rattle.rules.specs.Page.{KeyLock}
 use Rattle.rules.specs.Room.{sumOf}
 use Rattle.rules.specs.Image.{Image, KeyRecord, image, imageFrom, defaultFrom, keyLockFrom, writeFrom}
-use Rattle.rules.specs.Restore.{allGood, goodDefault, goodLock, goodWrite, noSecond, likeDefault, likeLock, likeWrite, hasDefault, goodImage}
+use Rattle.rules.specs.Restore.{allGood, goodDefaultBy, goodLock, goodWrite, noSecond, likeDefault, likeLock, likeWrite, hasDefault, goodImageBy}
 use Rattle.images.specs.Entries.{Raw, rawAt}
 use Rattle.images.specs.declared.entries.Section.{Section}
 use Rattle.images.specs.declared.entries.Section.the-variants.{Default, Lock, Write}
@@ -37,12 +38,12 @@ use Rattle.images.proofs.GoodReaderLaws.{mapRead, good-defaults, good-l
 
 -- ---- a fault of a section is a fault of the image
 
-module _ (i : Image) where
+module _ (form : Row → Bool) (i : Image) where
   abbrev b1 : Bool
   b1 = not (eqb (i .table) 0)
 
   abbrev b2 : Bool
-  b2 = allGood (goodDefault (i .table)) (i .defaults)
+  b2 = allGood (goodDefaultBy form (i .table)) (i .defaults)
 
   abbrev b3 : Bool
   b3 = allGood (goodLock (i .table)) (i .locks)
@@ -50,42 +51,41 @@ module _ (i : Image) where
   abbrev b4 : Bool
   b4 = allGood (goodWrite (i .table)) (i .writes)
 
-  later : b1 && b2 && b3 && b4 ≡ false → goodImage i ≡ false
-  unfolding goodImage
+  later : b1 && b2 && b3 && b4 ≡ false → goodImageBy form i ≡ false
   later e = and-out _ (allGood (hasDefault (i .defaults)) (i .writes)) (and-out _ (noSecond likeWrite (i .writes)) (and-out _ (noSecond likeLock (i .locks)) (and-out _ (noSecond likeDefault (i .defaults)) e)))
 
-  zero-table : i .table ≡ 0 → goodImage i ≡ false
+  zero-table : i .table ≡ 0 → goodImageBy form i ≡ false
   zero-table e = later (and-out _ b4 (and-out _ b3 (and-out b1 b2 (ap not (eq-eqb (i .table) 0 e)))))
 
-  bad-defaults : b2 ≡ false → goodImage i ≡ false
+  bad-defaults : b2 ≡ false → goodImageBy form i ≡ false
   bad-defaults e = later (and-out _ b4 (and-out _ b3 (and-last b1 b2 e)))
 
-  bad-locks : b3 ≡ false → goodImage i ≡ false
+  bad-locks : b3 ≡ false → goodImageBy form i ≡ false
   bad-locks e = later (and-out _ b4 (and-last (b1 && b2) b3 e))
 
-  bad-writes : b4 ≡ false → goodImage i ≡ false
+  bad-writes : b4 ≡ false → goodImageBy form i ≡ false
   bad-writes e = later (and-last (b1 && b2 && b3) b4 e)
 
 -- ---- whatever follows
 
-on-all : {A : Type 0} (o : Option (Read A)) (f : A → Reader Image) → ((x : A) (u : Bytes) → isGood (ended (f x u)) ≡ false) → isGood (ended (readOn o f)) ≡ false
+on-all : (form : Row → Bool) {A : Type 0} (o : Option (Read A)) (f : A → Reader Image) → ((x : A) (u : Bytes) → isGood form (ended (f x u)) ≡ false) → isGood form (ended (readOn o f)) ≡ false
 unfolding readOn ended
-on-all none f h = refl
-on-all (some q) f h = h (q .got) (q .rest)
+on-all form none f h = refl
+on-all form (some q) f h = h (q .got) (q .rest)
 
-on-bad : {A : Type 0} (g : A → Bool) (o : Option (Read A)) (f : A → Reader Image) → pass g o ≡ none → ((x : A) (u : Bytes) → g x ≡ false → isGood (ended (f x u)) ≡ false) → isGood (ended (readOn o f)) ≡ false
+on-bad : (form : Row → Bool) {A : Type 0} (g : A → Bool) (o : Option (Read A)) (f : A → Reader Image) → pass g o ≡ none → ((x : A) (u : Bytes) → g x ≡ false → isGood form (ended (f x u)) ≡ false) → isGood form (ended (readOn o f)) ≡ false
 unfolding readOn ended pass
-on-bad g none f e h = refl
-on-bad g (some q) f e h = h (q .got) (q .rest) (go (g (q .got)) e)
+on-bad form g none f e h = refl
+on-bad form g (some q) f e h = h (q .got) (q .rest) (go (g (q .got)) e)
   where
     go : (b : Bool) → when b q ≡ none → b ≡ false
     go true e = absurd (true≢false (ap isSome e))
     go false e = refl
 
-last : (i : Image) (u : Bytes) → goodImage i ≡ false → isGood (ended (just i u)) ≡ false
+last : (form : Row → Bool) (i : Image) (u : Bytes) → goodImageBy form i ≡ false → isGood form (ended (just i u)) ≡ false
 unfolding just ended
-last i [] e = e
-last i (x ∷ u) e = refl
+last form i [] e = e
+last form i (x ∷ u) e = refl
 
 record Kept {A : Type 0} (g : A → Bool) (o : Option (Read A)) (y : Read A) : Type 0 where
   is : o ≡ some y
@@ -106,12 +106,12 @@ pass-some {A} g (some q) y e = go (g (q .got)) refl e
 
 -- ---- a section of document 01, by what the walk over it found
 
-module _ {A : Type 0} (section : Section) (t : ℕ) (g : A → Bool) (r : Reader A) (f : Raw → A) (same : (s : Bytes) → pass g (r s) ≡ mapRead f (goodFrom section t s)) {s : Bytes} {at : ℕ} {p : Span} {places : List ℕ} (v : SpanAt section t s at p places) where
+module _ (form : Row → Bool) {A : Type 0} (section : Section) (t : ℕ) (g : A → Bool) (r : Reader A) (f : Raw → A) (same : (s : Bytes) → pass g (r s) ≡ mapRead f (goodFrom form section t s)) {s : Bytes} {at : ℕ} {p : Span} {places : List ℕ} (v : SpanAt form section t s at p places) where
   abbrev entries : List A
   entries = map f (map (rawAt section s) (take (p .count) places))
 
   span-read : (b : Bool) → p .ok ≡ b → pass (allGood g) (readers.section (numberOf 2) r (drop at s)) ≡ mapRead (map f) (found s b (map (rawAt section s) (take (p .count) places)) (p .end))
-  span-read b h = pass-section g r f (goodFrom section t) same (drop at s) ∙ ap (mapRead (map f)) (v .is ∙ ap (λ (c : Bool). found s c (map (rawAt section s) (take (p .count) places)) (p .end)) h)
+  span-read b h = pass-section g r f (goodFrom form section t) same (drop at s) ∙ ap (mapRead (map f)) (v .is ∙ ap (λ (c : Bool). found s c (map (rawAt section s) (take (p .count) places)) (p .end)) h)
 
   span-bad : not (p .ok) ≡ true → pass (allGood g) (readers.section (numberOf 2) r (drop at s)) ≡ none
   span-bad h = span-read false (not-true (p .ok) h)
@@ -121,9 +121,9 @@ module _ {A : Type 0} (section : Section) (t : ℕ) (g : A → Bool) (r : Reader
 
 -- ---- the ways out of `sections_of`
 
-failed : {s : Bytes} → isGood (ended (imageFrom s)) ≡ false → (ds ls ws : List ℕ) → SectionsAt s noSections ds ls ws
+failed : (form : Row → Bool) {s : Bytes} → isGood form (ended (imageFrom s)) ≡ false → (ds ls ws : List ℕ) → SectionsAt form s noSections ds ls ws
 unfolding image whole
-failed e ds ls ws = record { bad = λ h. e; good = λ h. absurd (true≢false h); few-defaults = omega arith; few-locks = omega arith; few-writes = omega arith }
+failed form e ds ls ws = record { bad = λ h. e; good = λ h. absurd (true≢false h); few-defaults = omega arith; few-locks = omega arith; few-writes = omega arith }
 
 abbrev writesOn : ℕ → List box.Default → List KeyLock → List KeyRecord → Reader Image
 writesOn t ds ls ws = just (record { table = t; defaults = ds; locks = ls; writes = ws })
@@ -137,40 +137,40 @@ defaultsOn t ds = readers.section (numberOf 2) keyLockFrom >>= locksOn t ds
 abbrev tableOn : ℕ → Reader Image
 tableOn t = readers.section (numberOf 2) defaultFrom >>= defaultsOn t
 
-image-verdict : (s : Bytes) {o : Option (Read Image)} → imageFrom s ≡ o → isGood (ended o) ≡ false → isGood (ended (imageFrom s)) ≡ false
-image-verdict s e h = ap (λ (o : Option (Read Image)). isGood (ended o)) e ∙ h
+image-verdict : (form : Row → Bool) (s : Bytes) {o : Option (Read Image)} → imageFrom s ≡ o → isGood form (ended o) ≡ false → isGood form (ended (imageFrom s)) ≡ false
+image-verdict form s e h = ap (λ (o : Option (Read Image)). isGood form (ended o)) e ∙ h
 
-module _ {s : Bytes} (ds ls ws : List ℕ) {t : Number} (tv : NumberAt 4 s 0 t) where
-  pub sections-no-table : not (t .ok) ≡ true → SectionsAt s noSections ds ls ws
+module _ (form : Row → Bool) {s : Bytes} (ds ls ws : List ℕ) {t : Number} (tv : NumberAt 4 s 0 t) where
+  pub sections-no-table : not (t .ok) ≡ true → SectionsAt form s noSections ds ls ws
   unfolding imageFrom ended
-  sections-no-table h = failed (image-verdict s (on-none (numberOf 4) tableOn (number-bad tv h)) refl) ds ls ws
+  sections-no-table h = failed form (image-verdict form s (on-none (numberOf 4) tableOn (number-bad tv h)) refl) ds ls ws
 
   module _ (tg : not (t .ok) ≡ false) where
     tabled : imageFrom s ≡ tableOn (t .value) (drop 4 s)
     unfolding imageFrom
     tabled = on-some (numberOf 4) tableOn (number-good tv tg)
 
-    pub sections-zero : t .value ≡ 0 → SectionsAt s noSections ds ls ws
+    pub sections-zero : t .value ≡ 0 → SectionsAt form s noSections ds ls ws
     unfolding _>>=_
     sections-zero e =
-        failed
-        (image-verdict s tabled
-        (on-all (readers.section (numberOf 2) defaultFrom (drop 4 s)) (defaultsOn (t .value))
-        (λ a u. on-all (readers.section (numberOf 2) keyLockFrom u) (locksOn (t .value) a) (λ b v. on-all (readers.section (numberOf 2) writeFrom v) (writesOn (t .value) a b) (λ c w. last _ w (zero-table _ e)))))) ds ls ws
+        failed form
+        (image-verdict form s tabled
+        (on-all form (readers.section (numberOf 2) defaultFrom (drop 4 s)) (defaultsOn (t .value))
+        (λ a u. on-all form (readers.section (numberOf 2) keyLockFrom u) (locksOn (t .value) a) (λ b v. on-all form (readers.section (numberOf 2) writeFrom v) (writesOn (t .value) a b) (λ c w. last form _ w (zero-table form _ e)))))) ds ls ws
 
-    module _ {d : Span} (dv : SpanAt Default (t .value) s 4 d ds) where
-      pub sections-no-defaults : not (d .ok) ≡ true → SectionsAt s noSections ds ls ws
+    module _ {d : Span} (dv : SpanAt form Default (t .value) s 4 d ds) where
+      pub sections-no-defaults : not (d .ok) ≡ true → SectionsAt form s noSections ds ls ws
       unfolding _>>=_
       sections-no-defaults h =
-          failed
-          (image-verdict s tabled
-          (on-bad (allGood (goodDefault (t .value))) (readers.section (numberOf 2) defaultFrom (drop 4 s)) (defaultsOn (t .value))
-          (span-bad Default (t .value) (goodDefault (t .value)) defaultFrom defaultOf (good-defaults (t .value)) dv h)
-          (λ a u g. on-all (readers.section (numberOf 2) keyLockFrom u) (locksOn (t .value) a) (λ b v. on-all (readers.section (numberOf 2) writeFrom v) (writesOn (t .value) a b) (λ c w. last _ w (bad-defaults _ g)))))) ds ls ws
+          failed form
+          (image-verdict form s tabled
+          (on-bad form (allGood (goodDefaultBy form (t .value))) (readers.section (numberOf 2) defaultFrom (drop 4 s)) (defaultsOn (t .value))
+          (span-bad form Default (t .value) (goodDefaultBy form (t .value)) defaultFrom defaultOf (good-defaults form (t .value)) dv h)
+          (λ a u g. on-all form (readers.section (numberOf 2) keyLockFrom u) (locksOn (t .value) a) (λ b v. on-all form (readers.section (numberOf 2) writeFrom v) (writesOn (t .value) a b) (λ c w. last form _ w (bad-defaults form _ g)))))) ds ls ws
 
       module _ (dg : not (d .ok) ≡ false) where
-        kept-defaults : Kept (allGood (goodDefault (t .value))) (readers.section (numberOf 2) defaultFrom (drop 4 s)) (record { got = map defaultOf (map (rawAt Default s) (take (d .count) ds)); rest = drop (d .end) s })
-        kept-defaults = span-good Default (t .value) (goodDefault (t .value)) defaultFrom defaultOf (good-defaults (t .value)) dv dg
+        kept-defaults : Kept (allGood (goodDefaultBy form (t .value))) (readers.section (numberOf 2) defaultFrom (drop 4 s)) (record { got = map defaultOf (map (rawAt Default s) (take (d .count) ds)); rest = drop (d .end) s })
+        kept-defaults = span-good form Default (t .value) (goodDefaultBy form (t .value)) defaultFrom defaultOf (good-defaults form (t .value)) dv dg
 
         abbrev rows : List box.Default
         rows = map defaultOf (map (rawAt Default s) (take (d .count) ds))
@@ -178,19 +178,19 @@ module _ {s : Bytes} (ds ls ws : List ℕ) {t : Number} (tv : NumberAt 4 s 0 t) 
         stored : imageFrom s ≡ defaultsOn (t .value) rows (drop (d .end) s)
         stored = tabled ∙ on-some (readers.section (numberOf 2) defaultFrom) (defaultsOn (t .value)) (kept-defaults .is)
 
-        module _ {l : Span} (lv : SpanAt Lock (t .value) s (d .end) l ls) where
-          pub sections-no-locks : not (l .ok) ≡ true → SectionsAt s noSections ds ls ws
+        module _ {l : Span} (lv : SpanAt form Lock (t .value) s (d .end) l ls) where
+          pub sections-no-locks : not (l .ok) ≡ true → SectionsAt form s noSections ds ls ws
           unfolding _>>=_
           sections-no-locks h =
-              failed
-              (image-verdict s stored
-              (on-bad (allGood (goodLock (t .value))) (readers.section (numberOf 2) keyLockFrom (drop (d .end) s)) (locksOn (t .value) rows)
-              (span-bad Lock (t .value) (goodLock (t .value)) keyLockFrom keyLockOf (good-locks (t .value)) lv h)
-              (λ b u g. on-all (readers.section (numberOf 2) writeFrom u) (writesOn (t .value) rows b) (λ c w. last _ w (bad-locks _ g))))) ds ls ws
+              failed form
+              (image-verdict form s stored
+              (on-bad form (allGood (goodLock (t .value))) (readers.section (numberOf 2) keyLockFrom (drop (d .end) s)) (locksOn (t .value) rows)
+              (span-bad form Lock (t .value) (goodLock (t .value)) keyLockFrom keyLockOf (good-locks form (t .value)) lv h)
+              (λ b u g. on-all form (readers.section (numberOf 2) writeFrom u) (writesOn (t .value) rows b) (λ c w. last form _ w (bad-locks form _ g))))) ds ls ws
 
           module _ (lg : not (l .ok) ≡ false) where
             kept-locks : Kept (allGood (goodLock (t .value))) (readers.section (numberOf 2) keyLockFrom (drop (d .end) s)) (record { got = map keyLockOf (map (rawAt Lock s) (take (l .count) ls)); rest = drop (l .end) s })
-            kept-locks = span-good Lock (t .value) (goodLock (t .value)) keyLockFrom keyLockOf (good-locks (t .value)) lv lg
+            kept-locks = span-good form Lock (t .value) (goodLock (t .value)) keyLockFrom keyLockOf (good-locks form (t .value)) lv lg
 
             abbrev bs : List KeyLock
             bs = map keyLockOf (map (rawAt Lock s) (take (l .count) ls))
@@ -198,18 +198,18 @@ module _ {s : Bytes} (ds ls ws : List ℕ) {t : Number} (tv : NumberAt 4 s 0 t) 
             locked : imageFrom s ≡ locksOn (t .value) rows bs (drop (l .end) s)
             locked = stored ∙ on-some (readers.section (numberOf 2) keyLockFrom) (locksOn (t .value) rows) (kept-locks .is)
 
-            module _ {w : Span} (wv : SpanAt Write (t .value) s (l .end) w ws) where
-              pub sections-no-writes : not (w .ok) ≡ true → SectionsAt s noSections ds ls ws
+            module _ {w : Span} (wv : SpanAt form Write (t .value) s (l .end) w ws) where
+              pub sections-no-writes : not (w .ok) ≡ true → SectionsAt form s noSections ds ls ws
               unfolding _>>=_
               sections-no-writes h =
-                  failed
-                  (image-verdict s locked
-                  (on-bad (allGood (goodWrite (t .value))) (readers.section (numberOf 2) writeFrom (drop (l .end) s)) (writesOn (t .value) rows bs)
-                  (span-bad Write (t .value) (goodWrite (t .value)) writeFrom keyRecordOf (good-writes (t .value)) wv h) (λ c u g. last _ u (bad-writes _ g)))) ds ls ws
+                  failed form
+                  (image-verdict form s locked
+                  (on-bad form (allGood (goodWrite (t .value))) (readers.section (numberOf 2) writeFrom (drop (l .end) s)) (writesOn (t .value) rows bs)
+                  (span-bad form Write (t .value) (goodWrite (t .value)) writeFrom keyRecordOf (good-writes form (t .value)) wv h) (λ c u g. last form _ u (bad-writes form _ g)))) ds ls ws
 
               module _ (wg : not (w .ok) ≡ false) where
                 kept-writes : Kept (allGood (goodWrite (t .value))) (readers.section (numberOf 2) writeFrom (drop (l .end) s)) (record { got = map keyRecordOf (map (rawAt Write s) (take (w .count) ws)); rest = drop (w .end) s })
-                kept-writes = span-good Write (t .value) (goodWrite (t .value)) writeFrom keyRecordOf (good-writes (t .value)) wv wg
+                kept-writes = span-good form Write (t .value) (goodWrite (t .value)) writeFrom keyRecordOf (good-writes form (t .value)) wv wg
 
                 abbrev all : Image
                 all = imageOf s (t .value) (take (d .count) ds) (take (l .count) ls) (take (w .count) ws)
@@ -221,11 +221,11 @@ module _ {s : Bytes} (ds ls ws : List ℕ) {t : Number} (tv : NumberAt 4 s 0 t) 
                 at-end : ended (imageFrom s) ≡ when (eqb (w .end) (length s)) all
                 at-end = ap ended written ∙ ended-at all s (w .end) (wv .end-in)
 
-                pub sections-tail : (w .end ≡ length s → ⊥) → SectionsAt s noSections ds ls ws
-                sections-tail n = failed (ap isGood (at-end ∙ ap (λ (b : Bool). when b all) (ne-eqb (w .end) (length s) n))) ds ls ws
+                pub sections-tail : (w .end ≡ length s → ⊥) → SectionsAt form s noSections ds ls ws
+                sections-tail n = failed form (ap (isGood form) (at-end ∙ ap (λ (b : Bool). when b all) (ne-eqb (w .end) (length s) n))) ds ls ws
 
                 pub sections-good : (t .value ≡ 0 → ⊥) → w .end ≡ length s
-                    → SectionsAt s (record { ok = true; defaults = d .count; locks = l .count; writes = w .count; writesat = l .end; bytes = d .bytes + l .bytes + w .bytes }) ds ls ws
+                    → SectionsAt form s (record { ok = true; defaults = d .count; locks = l .count; writes = w .count; writesat = l .end; bytes = d .bytes + l .bytes + w .bytes }) ds ls ws
                 unfolding image whole
                 sections-good z e = record {
                   bad = λ h. absurd (false≢true h);

@@ -14,6 +14,7 @@ use borrow.Author.Tests.{not-false}
 use Rattle.seqs.specs.Tables.{All}
 use Rattle.seqs.proofs.Alls.{all-none, all-cons, all-append, all-weaken}
 use Rattle.forms.specs.Bytes.{Bytes, bytesAt}
+use Rattle.forms.specs.Row.{Row}
 use Rattle.forms.specs.Readers as readers
 use Rattle.forms.specs.Numbers.{numberOf}
 use Rattle.forms.specs.Places.{found, NumberAt}
@@ -45,9 +46,9 @@ sum-append f (x ∷ xs) ys = omega (arith, sum-append f xs ys)
 part-length : (s : Bytes) (at len : ℕ) → at + len ≤ length s → length (bytesAt s at len) ≡ len
 part-length s at len h = length-take-le len (drop at s) (omega (arith, length-drop at s))
 
-module _ (section : Section) (t : ℕ) where
+module _ (form : Row → Bool) (section : Section) (t : ℕ) where
   abbrev good : readers.Reader Raw
-  good = goodFrom section t
+  good = goodFrom form section t
 
   abbrev raws : Bytes → ℕ → List ℕ → List Raw
   raws s k places = map (rawAt section s) (take k places)
@@ -56,7 +57,7 @@ module _ (section : Section) (t : ℕ) where
     pub low : k ≤ count
     pub count-fits : count ≤ 65535
     pub is : readers.times count good (drop first s) ≡ before (raws s k places) (readers.times (count - k) good (drop end s))
-    pub each : All (Stands section t s first end) (take k places)
+    pub each : All (Stands form section t s first end) (take k places)
     pub length-is : length places ≡ length old
     pub fit : k ≤ length places
     pub bytes-is : bytes ≡ sumOf rawBytes (raws s k places)
@@ -65,7 +66,7 @@ module _ (section : Section) (t : ℕ) where
     pub end-far : first + 9 * k ≤ end
     pub end-near : end ≤ first + 537 * k
 
-  nothing : {s : Bytes} {at : ℕ} (places : List ℕ) → readers.section (numberOf 2) good (drop at s) ≡ none → SpanAt section t s at noSpan places
+  nothing : {s : Bytes} {at : ℕ} (places : List ℕ) → readers.section (numberOf 2) good (drop at s) ≡ none → SpanAt form section t s at noSpan places
   unfolding sumOf
   nothing places e = record { is = e; each = all-none _; count-fits = omega arith; bytes-is = refl; bytes-few = omega arith; end-in = omega arith; end-near = omega arith }
 
@@ -77,7 +78,7 @@ module _ (section : Section) (t : ℕ) where
   entriesOf n = readers.times n good
 
   module _ {s : Bytes} {at : ℕ} {n : Number} (v : NumberAt 2 s at n) where
-    pub span-no-count : (places : List ℕ) → not (n .ok) ≡ true → SpanAt section t s at noSpan places
+    pub span-no-count : (places : List ℕ) → not (n .ok) ≡ true → SpanAt form section t s at noSpan places
     unfolding readers.section
     span-no-count places h = nothing places (on-none (numberOf 2) entriesOf (number-bad v h))
 
@@ -105,14 +106,14 @@ module _ (section : Section) (t : ℕ) where
           }
 
       module _ {end k bytes : ℕ} {old places : List ℕ} (w : Listing s (at + 2) (n .value) end k bytes old places) where
-        module _ {e : ImageEntry} (q : GoodAt section t s end e) (more : k < n .value) where
+        module _ {e : ImageEntry} (q : GoodAt form section t s end e) (more : k < n .value) where
           reads : Reads good s end (e .ok) (rawOf s e) (e .next)
           reads = record { is = q .is; within = q .next-in }
 
           ahead : n .value - k ≡ suc (n .value - (k + 1))
           ahead = omega arith
 
-          pub listing-bad : not (e .ok) ≡ true → SpanAt section t s at noSpan places
+          pub listing-bad : not (e .ok) ≡ true → SpanAt form section t s at noSpan places
           listing-bad h =
               nothing places
               (counted ∙ w .is
@@ -143,8 +144,8 @@ module _ (section : Section) (t : ℕ) where
                     ∙ ap (λ (l : List Raw). before l (readers.times (n .value - (k + 1)) good (drop (e .next) s))) (sym listed);
                 each =
                     rw (add-one, take-suc-set places k end room)
-                    (all-append (Stands section t s (at + 2) (e .next)) (take k places) (end ∷ []) (all-weaken (Stands section t s (at + 2) end) (Stands section t s (at + 2) (e .next)) (take k places) wider (w .each))
-                    (all-cons (Stands section t s (at + 2) (e .next)) end [] here (all-none _)));
+                    (all-append (Stands form section t s (at + 2) (e .next)) (take k places) (end ∷ []) (all-weaken (Stands form section t s (at + 2) end) (Stands form section t s (at + 2) (e .next)) (take k places) wider (w .each))
+                    (all-cons (Stands form section t s (at + 2) (e .next)) end [] here (all-none _)));
                 length-is = length-set places k end ∙ w .length-is;
                 fit = omega (arith, length-set places k end);
                 bytes-is = omega (arith, w .bytes-is, ap (sumOf rawBytes) listed, sum-append rawBytes (raws s k places) (rawOf s e ∷ []), size);
@@ -157,10 +158,10 @@ module _ (section : Section) (t : ℕ) where
                   grown : end + 9 ≤ e .next
                   grown = omega (arith, q .from ok .0)
 
-                  wider : (p : ℕ) → Stands section t s (at + 2) end p → Stands section t s (at + 2) (e .next) p
+                  wider : (p : ℕ) → Stands form section t s (at + 2) end p → Stands form section t s (at + 2) (e .next) p
                   wider p h = let g = grown in record { next = h .next; is = h .is; low = h .low; high = omega (arith, h .high) }
 
-                  here : Stands section t s (at + 2) (e .next) end
+                  here : Stands form section t s (at + 2) (e .next) end
                   here =
                       let g = grown in
                       record {
@@ -170,7 +171,7 @@ module _ (section : Section) (t : ℕ) where
                         high = omega arith;
                       }
 
-        pub listing-end : n .value ≤ k → SpanAt section t s at (record { ok = true; count = n .value; end = end; bytes = bytes }) places
+        pub listing-end : n .value ≤ k → SpanAt form section t s at (record { ok = true; count = n .value; end = end; bytes = bytes }) places
         unfolding readers.times readers.just
         listing-end h =
             let c : k ≡ n .value = omega (arith, w .low) in
@@ -180,7 +181,7 @@ module _ (section : Section) (t : ℕ) where
                   counted ∙ w .is ∙ ap (λ (m : ℕ). before (raws s k places) (readers.times m good (drop end s))) z
                   ∙ ap (λ (l : List Raw). some (record { got = l; rest = drop end s })) (append-nil (raws s k places))
                   ∙ ap (λ (m : ℕ). some (record { got = raws s m places; rest = drop end s })) c;
-              each = all-weaken (Stands section t s (at + 2) end) (Stands section t s at end) (take (n .value) places) wider (rw c at (w .each));
+              each = all-weaken (Stands form section t s (at + 2) end) (Stands form section t s at end) (take (n .value) places) wider (rw c at (w .each));
               count-fits = omega (arith, w .fit);
               bytes-is = w .bytes-is ∙ ap (λ (m : ℕ). sumOf rawBytes (raws s m places)) c;
               bytes-few = omega (arith, w .bytes-few, w .count-fits);
@@ -188,5 +189,5 @@ module _ (section : Section) (t : ℕ) where
               end-near = omega (arith, w .end-near, w .count-fits);
             }
           where
-            wider : (p : ℕ) → Stands section t s (at + 2) end p → Stands section t s at end p
+            wider : (p : ℕ) → Stands form section t s (at + 2) end p → Stands form section t s at end p
             wider p h = record { next = h .next; is = h .is; low = omega (arith, h .low); high = h .high }

@@ -7,6 +7,7 @@ use mathlib.Core.Option.{Option, none, some}
 use lib.ListN.{length, drop}
 use lib.Dec.{eqb}
 use Rattle.forms.specs.Bytes.{Bytes}
+use Rattle.forms.specs.Row.{Row, rowForm, oldRowForm}
 use Rattle.forms.specs.Readers.{Read, Reader, when}
 use Rattle.forms.specs.Places.{found}
 use Rattle.rules.specs.declared.records.Kind.{Kind}
@@ -15,11 +16,14 @@ use Rattle.rules.specs.declared.records.Record.{Record}
 use Rattle.rules.specs.Box as box
 use Rattle.rules.specs.Page.{KeyLock}
 use Rattle.rules.specs.Image.{KeyRecord}
-use Rattle.rules.specs.Restore.{goodDefault, goodLock, goodWrite}
+use Rattle.rules.specs.Restore.{ofTable, goodDefaultBy, goodLock, goodWrite}
+use Rattle.rules.specs.Convert.{mayGrow}
 use Rattle.images.specs.Entries.{Raw, entryFrom, rawOf, rawAt}
 use Rattle.images.specs.declared.entries.Section.{Section}
 use Rattle.images.specs.declared.entries.Section.the-variants.{Default, Lock, Write}
 use Rattle.images.specs.declared.entries.ImageEntry.{ImageEntry}
+use Rattle.images.specs.declared.checks.Form.{Form}
+use Rattle.images.specs.declared.checks.Form.the-variants.{Old, New}
 
 -- "Kinds: 1 Put, 2 Delete, 3 Rollback"
 abbrev pub knownBy : Bool → Bool → Bool → Bool
@@ -50,27 +54,37 @@ recordOf x = record { stamp = x .first; start = x .second; commit = x .third; ki
 abbrev pub keyRecordOf : Raw → KeyRecord
 keyRecordOf x = record { key = x .key; write = recordOf x }
 
--- an entry of a section that restore lets in by itself
-unfoldable pub fits : Section → ℕ → Raw → Bool
-fits Default t x = goodDefault t (defaultOf x)
-fits Lock t x = known (x .kind) && goodLock t (keyLockOf x)
-fits Write t x = known (x .kind) && goodWrite t (keyRecordOf x)
+-- "key of this table", and a default's "start not 0" or a lock's "transaction .. not 0"
+abbrev pub headGood : ℕ → Raw → Bool
+headGood t x = ofTable t (x .key) && not (eqb (x .first) 0)
+
+-- the form in which a default's row is: that of a row, or document 01's, which a zero count can be added to
+abbrev pub formOf : Form → Row → Bool
+formOf Old = λ r. oldRowForm r && mayGrow r
+formOf New = rowForm
+
+module _ (form : Row → Bool) where
+  -- an entry of a section that is good by itself
+  unfoldable pub fits : Section → ℕ → Raw → Bool
+  fits Default t x = goodDefaultBy form t (defaultOf x)
+  fits Lock t x = known (x .kind) && goodLock t (keyLockOf x)
+  fits Write t x = known (x .kind) && goodWrite t (keyRecordOf x)
 
 -- what was read, if it passes a test
 unfoldable pub pass : {A : Type 0} → (A → Bool) → Option (Read A) → Option (Read A)
 pass g none = none
 pass g (some q) = when (g (q .got)) q
 
-unfoldable pub goodFrom : Section → ℕ → Reader Raw
-goodFrom section t s = pass (fits section t) (entryFrom section s)
+unfoldable pub goodFrom : (Row → Bool) → Section → ℕ → Reader Raw
+goodFrom form section t s = pass (fits form section t) (entryFrom section s)
 
 -- key and piece lie in the image
 pub record Lies (s : Bytes) (e : ImageEntry) : Type 0 where
   pub key-in : e .at + e .len ≤ length s
   pub piece-in : e .pieceat + e .piecelen ≤ length s
 
-pub record GoodAt (section : Section) (t : ℕ) (s : Bytes) (at : ℕ) (e : ImageEntry) : Type 0 where
-  pub is : goodFrom section t (drop at s) ≡ found s (e .ok) (rawOf s e) (e .next)
+pub record GoodAt (form : Row → Bool) (section : Section) (t : ℕ) (s : Bytes) (at : ℕ) (e : ImageEntry) : Type 0 where
+  pub is : goodFrom form section t (drop at s) ≡ found s (e .ok) (rawOf s e) (e .next)
   pub lies : Lies s e
   pub next-in : e .next ≤ length s
   pub key-small : e .len ≤ 255

@@ -10,6 +10,7 @@ use lib.ListN.{length, take, drop}
 use lib.Dec.{ltb}
 use Rattle.seqs.specs.Tables.{All}
 use Rattle.forms.specs.Bytes.{Bytes}
+use Rattle.forms.specs.Row.{Row}
 use Rattle.forms.specs.Readers as readers
 use Rattle.forms.specs.Numbers.{numberOf}
 use Rattle.forms.specs.Places.{found}
@@ -17,7 +18,7 @@ use Rattle.rules.specs.declared.room.Load.{Load}
 use Rattle.rules.specs.Box as box
 use Rattle.rules.specs.Room.{sumOf, loadOf, Fits}
 use Rattle.rules.specs.Image.{Image, image}
-use Rattle.rules.specs.Restore.{allGood, goodDefault, goodLock, goodWrite, goodImage, healthyImage, boxOf}
+use Rattle.rules.specs.Restore.{allGood, goodDefaultBy, goodLock, goodWrite, goodImageBy, goodImage, healthyImage, boxOf}
 use Rattle.images.specs.Entries.{Raw, rawAt}
 use Rattle.images.specs.declared.entries.Section.{Section}
 use Rattle.images.specs.declared.entries.Section.the-variants.{Default, Lock, Write}
@@ -30,9 +31,9 @@ abbrev pub Enough : Bytes → ℕ → Type 0
 Enough s n = (length s ≤ 9 * n) ⊎ (65535 ≤ n)
 
 -- a good entry stands at p, between two places
-pub record Stands (section : Section) (t : ℕ) (s : Bytes) (from to p : ℕ) : Type 0 where
+pub record Stands (form : Row → Bool) (section : Section) (t : ℕ) (s : Bytes) (from to p : ℕ) : Type 0 where
   pub next : ℕ
-  pub is : goodFrom section t (drop p s) ≡ found s true (rawAt section s p) next
+  pub is : goodFrom form section t (drop p s) ≡ found s true (rawAt section s p) next
   pub low : from ≤ p
   pub high : p < to
 
@@ -40,9 +41,9 @@ pub record Stands (section : Section) (t : ℕ) (s : Bytes) (from to p : ℕ) : 
 abbrev pub rawBytes : Raw → ℕ
 rawBytes x = length (x .key) + length (x .piece)
 
-pub record SpanAt (section : Section) (t : ℕ) (s : Bytes) (at : ℕ) (p : Span) (places : List ℕ) : Type 0 where
-  pub is : readers.section (numberOf 2) (goodFrom section t) (drop at s) ≡ found s (p .ok) (map (rawAt section s) (take (p .count) places)) (p .end)
-  pub each : All (Stands section t s at (p .end)) (take (p .count) places)
+pub record SpanAt (form : Row → Bool) (section : Section) (t : ℕ) (s : Bytes) (at : ℕ) (p : Span) (places : List ℕ) : Type 0 where
+  pub is : readers.section (numberOf 2) (goodFrom form section t) (drop at s) ≡ found s (p .ok) (map (rawAt section s) (take (p .count) places)) (p .end)
+  pub each : All (Stands form section t s at (p .end)) (take (p .count) places)
   pub count-fits : p .count ≤ length places
   pub bytes-is : p .bytes ≡ sumOf rawBytes (map (rawAt section s) (take (p .count) places))
   pub bytes-few : p .bytes ≤ 34000000
@@ -61,9 +62,9 @@ pub record Room (s : Bytes) (ds ls ws : List ℕ) : Type 0 where
   pub writes : Enough s (length ws)
 
 -- bytes that are an image, and a good one
-abbrev pub isGood : Option Image → Bool
-isGood none = false
-isGood (some i) = goodImage i
+abbrev pub isGood : (Row → Bool) → Option Image → Bool
+isGood form none = false
+isGood form (some i) = goodImageBy form i
 
 -- the image whose entries stand at these places
 abbrev pub imageOf : Bytes → ℕ → List ℕ → List ℕ → List ℕ → Image
@@ -98,22 +99,22 @@ pub record Placed (s : Bytes) (load : Load) (writesat : ℕ) (rows lines : List 
   pub lines-are : map (lineAt s writesat) (take (load .lines) lines) ≡ boxOf img .lines
 
 -- an image in form at these places, each of its entries good by itself
-pub record Listed (s : Bytes) (i : Sections) (ds ls ws : List ℕ) : Type 0 where
+pub record Listed (form : Row → Bool) (s : Bytes) (i : Sections) (ds ls ws : List ℕ) : Type 0 where
   pub table : ℕ
   pub lat : ℕ
   pub some-table : table ≡ 0 → ⊥
   pub is : image s ≡ some (imageOf s table ds ls ws)
-  pub good-defaults : allGood (goodDefault table) (imageOf s table ds ls ws .defaults) ≡ true
+  pub good-defaults : allGood (goodDefaultBy form table) (imageOf s table ds ls ws .defaults) ≡ true
   pub good-locks : allGood (goodLock table) (imageOf s table ds ls ws .locks) ≡ true
   pub good-writes : allGood (goodWrite table) (imageOf s table ds ls ws .writes) ≡ true
-  pub defaults : All (Stands Default table s 4 lat) ds
-  pub locks : All (Stands Lock table s lat (i .writesat)) ls
-  pub writes : All (Stands Write table s (i .writesat) (length s)) ws
+  pub defaults : All (Stands form Default table s 4 lat) ds
+  pub locks : All (Stands form Lock table s lat (i .writesat)) ls
+  pub writes : All (Stands form Write table s (i .writesat) (length s)) ws
   pub bytes-is : i .bytes ≡ sumOf rawBytes (map (rawAt Default s) ds) + sumOf rawBytes (map (rawAt Lock s) ls) + sumOf rawBytes (map (rawAt Write s) ws)
 
-pub record SectionsAt (s : Bytes) (i : Sections) (ds ls ws : List ℕ) : Type 0 where
-  pub bad : not (i .ok) ≡ true → isGood (image s) ≡ false
-  pub good : not (i .ok) ≡ false → Listed s i (take (i .defaults) ds) (take (i .locks) ls) (take (i .writes) ws)
+pub record SectionsAt (form : Row → Bool) (s : Bytes) (i : Sections) (ds ls ws : List ℕ) : Type 0 where
+  pub bad : not (i .ok) ≡ true → isGood form (image s) ≡ false
+  pub good : not (i .ok) ≡ false → Listed form s i (take (i .defaults) ds) (take (i .locks) ls) (take (i .writes) ws)
   pub few-defaults : i .defaults ≤ length ds
   pub few-locks : i .locks ≤ length ls
   pub few-writes : i .writes ≤ length ws

@@ -1,11 +1,11 @@
-// The checks that restore makes of one entry.
+// The checks that restore and the converter make of one entry.
 ghost use mathlib.Core.Path.{_≡_};
 ghost use mathlib.Core.Bool.{not};
 ghost use Rattle.rules.specs.declared.records.Kind.the-variants.{Rollback};
 ghost use Rattle.rules.specs.Box.{eqKind};
-ghost use Rattle.rules.specs.Restore.{ofTable, goodDefault, goodLock, goodWrite};
+ghost use Rattle.rules.specs.Restore.{ofTable, goodDefaultBy, goodLock, goodWrite};
 ghost use Rattle.images.specs.Entries.{rawOf};
-ghost use Rattle.images.specs.Good.{known, kindOf, defaultOf, keyLockOf, keyRecordOf, fits, Lies, GoodAt};
+ghost use Rattle.images.specs.Good.{known, kindOf, defaultOf, keyLockOf, keyRecordOf, formOf, headGood, fits, Lies, GoodAt};
 use crate::entries::ImageEntry;
 use crate::entries::Section;
 use crate::entries::entry_at;
@@ -13,10 +13,17 @@ use crate::entries::no_entry;
 use forms::key::key_in_form;
 use forms::number::Width;
 use forms::number::number_at;
+use forms::row::old_row_in_form;
 use forms::row::row_in_form;
 use rules::records::Kind;
 use rules::records::Record;
 use rules::records::record_sound;
+
+// The form in which an image has its rows: document 01's, for the converter, or the form of a row.
+pub enum Form {
+    Old,
+    New,
+}
 
 // "Kinds: 1 Put, 2 Delete, 3 Rollback"
 fn kind_known(n: u8) -> bool
@@ -54,22 +61,45 @@ fn of_table(key: &[u8], table: u64) -> bool
     t.value == table
 }
 
-// "default start not 0, row decodes"
-fn default_good(s: &[u8], table: u64, e: ImageEntry) -> bool
+// The key is of this table, and the number after it is not 0: a default's start, a lock's transaction.
+fn head_good(s: &[u8], table: u64, e: ImageEntry) -> bool
     requires { ⌜ Lies (now s) e ⌝ }
-    ensures { λ r. ⌜ r ≡ goodDefault table (defaultOf (rawOf (now (s .entry)) e)) ⌝ }
+    ensures { λ r. ⌜ r ≡ headGood table (rawOf (now (s .entry)) e) ⌝ }
 {
     let a = e.at;
     let b = a + e.len;
     if !of_table(&s[a..b], table) {
         return false;
     }
-    if e.first == 0 {
+    e.first != 0
+}
+
+// "a 255-byte row": no count can be added to it
+fn row_good(row: &[u8], form: Form) -> bool
+    ensures { λ r. ⌜ r ≡ formOf form (now (row .entry)) ⌝ }
+{
+    match form {
+        Form::Old => {
+            if row.len() == 255 {
+                return false;
+            }
+            old_row_in_form(row)
+        }
+        Form::New => row_in_form(row),
+    }
+}
+
+// "default start not 0, row decodes"
+fn default_good(s: &[u8], form: Form, table: u64, e: ImageEntry) -> bool
+    requires { ⌜ Lies (now s) e ⌝ }
+    ensures { λ r. ⌜ r ≡ goodDefaultBy (formOf form) table (defaultOf (rawOf (now (s .entry)) e)) ⌝ }
+{
+    if !head_good(s, table, e) {
         return false;
     }
     let c = e.pieceat;
     let d = c + e.piecelen;
-    row_in_form(&s[c..d])
+    row_good(&s[c..d], form)
 }
 
 // "kind Put or Delete"
@@ -88,12 +118,7 @@ fn lock_good(s: &[u8], table: u64, e: ImageEntry) -> bool
     requires { ⌜ Lies (now s) e ⌝ }
     ensures { λ r. ⌜ r ≡ goodLock table (keyLockOf (rawOf (now (s .entry)) e)) ⌝ }
 {
-    let a = e.at;
-    let b = a + e.len;
-    if !of_table(&s[a..b], table) {
-        return false;
-    }
-    if e.first == 0 {
+    if !head_good(s, table, e) {
         return false;
     }
     if e.second == 0 {
@@ -131,12 +156,12 @@ fn write_good(s: &[u8], table: u64, e: ImageEntry) -> bool
     record_sound(w)
 }
 
-fn entry_good(s: &[u8], section: Section, table: u64, e: ImageEntry) -> bool
+fn entry_good(s: &[u8], section: Section, form: Form, table: u64, e: ImageEntry) -> bool
     requires { ⌜ Lies (now s) e ⌝ }
-    ensures { λ r. ⌜ r ≡ fits section table (rawOf (now (s .entry)) e) ⌝ }
+    ensures { λ r. ⌜ r ≡ fits (formOf form) section table (rawOf (now (s .entry)) e) ⌝ }
 {
     match section {
-        Section::Default => default_good(s, table, e),
+        Section::Default => default_good(s, form, table, e),
         Section::Lock => {
             if !kind_known(e.kind) {
                 return false;
@@ -153,14 +178,14 @@ fn entry_good(s: &[u8], section: Section, table: u64, e: ImageEntry) -> bool
 }
 
 // An entry that is in form and good; not ok where there is none.
-pub fn good_at(s: &[u8], at: usize, section: Section, table: u64) -> ImageEntry
-    ensures { λ r. ⌜ GoodAt section table (now (s .entry)) at r ⌝ }
+pub fn good_at(s: &[u8], at: usize, section: Section, form: Form, table: u64) -> ImageEntry
+    ensures { λ r. ⌜ GoodAt (formOf form) section table (now (s .entry)) at r ⌝ }
 {
     let e = entry_at(s, at, section);
     if !e.ok {
         return no_entry();
     }
-    if !entry_good(s, section, table, e) {
+    if !entry_good(s, section, form, table, e) {
         return no_entry();
     }
     e

@@ -4,6 +4,7 @@ pub mod checks;
 pub mod entries;
 pub mod sections;
 
+pub use checks::Form;
 pub use checks::kind_of;
 pub use entries::ImageEntry;
 pub use entries::Section;

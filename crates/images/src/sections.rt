@@ -2,7 +2,9 @@
 ghost use mathlib.Core.Path.{_≡_};
 ghost use Prim.Native.Nat.{_≤_};
 ghost use lib.ListN.{length};
+ghost use Rattle.images.specs.Good.{formOf};
 ghost use Rattle.images.specs.Sections.{Enough, Room, SpanAt, noSpan, SectionsAt, noSections};
+use crate::checks::Form;
 use crate::checks::good_at;
 use crate::entries::Section;
 use forms::number::Width;
@@ -29,9 +31,16 @@ fn no_span() -> Span
 }
 
 // "2-byte count of defaults (..); 2-byte count of locks (..); 2-byte count of writes (..)"
-fn section_at(s: &[u8], at: usize, section: Section, table: u64, places: &mut [u32]) -> Span
+fn section_at(
+    s: &[u8],
+    at: usize,
+    section: Section,
+    form: Form,
+    table: u64,
+    places: &mut [u32],
+) -> Span
     requires { ⌜ Enough (now s) (length (now places)) × (at ≤ 75000000) ⌝ }
-    ensures { λ r. ⌜ SpanAt section table (now (s .entry)) at r (now (places .exit)) ⌝ }
+    ensures { λ r. ⌜ SpanAt (formOf form) section table (now (s .entry)) at r (now (places .exit)) ⌝ }
 {
     let n = number_at(s, at, Width::Two);
     if !n.ok {
@@ -42,7 +51,7 @@ fn section_at(s: &[u8], at: usize, section: Section, table: u64, places: &mut [u
     let mut bytes: usize = 0;
     let mut k: usize = 0;
     while k < count {
-        let e = good_at(s, end, section, table);
+        let e = good_at(s, end, section, form, table);
         if !e.ok {
             return no_span();
         }
@@ -85,9 +94,9 @@ pub fn no_sections() -> Sections
 
 // "4-byte table number; 2-byte count of defaults ..; 2-byte count of locks ..; 2-byte count of writes ..", "nothing may follow", and "table
 // number not zero"
-pub fn sections_of(s: &[u8], ds: &mut [u32], ls: &mut [u32], ws: &mut [u32]) -> Sections
+pub fn sections_of(s: &[u8], form: Form, ds: &mut [u32], ls: &mut [u32], ws: &mut [u32]) -> Sections
     requires { ⌜ Room (now s) (now ds) (now ls) (now ws) ⌝ }
-    ensures { λ r. ⌜ SectionsAt (now (s .entry)) r (now (ds .exit)) (now (ls .exit)) (now (ws .exit)) ⌝ }
+    ensures { λ r. ⌜ SectionsAt (formOf form) (now (s .entry)) r (now (ds .exit)) (now (ls .exit)) (now (ws .exit)) ⌝ }
 {
     let t = number_at(s, 0, Width::Four);
     if !t.ok {
@@ -96,15 +105,15 @@ pub fn sections_of(s: &[u8], ds: &mut [u32], ls: &mut [u32], ws: &mut [u32]) -> 
     if t.value == 0 {
         return no_sections();
     }
-    let d = section_at(s, 4, Section::Default, t.value, ds);
+    let d = section_at(s, 4, Section::Default, form, t.value, ds);
     if !d.ok {
         return no_sections();
     }
-    let l = section_at(s, d.end, Section::Lock, t.value, ls);
+    let l = section_at(s, d.end, Section::Lock, form, t.value, ls);
     if !l.ok {
         return no_sections();
     }
-    let w = section_at(s, l.end, Section::Write, t.value, ws);
+    let w = section_at(s, l.end, Section::Write, form, t.value, ws);
     if !w.ok {
         return no_sections();
     }

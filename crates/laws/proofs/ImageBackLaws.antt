@@ -42,7 +42,7 @@ piece-back : (s t : Bytes) → piece (pieceBytes s ++ t) ≡ readAs s t
 unfolding piece byte
 piece-back s t = then-reads _ _ _ refl (stretch-back (length s) s t refl)
 
-number-back : (w v : ℕ) (t : Bytes) → v < 256 ^ w → numberOf w (digits w v ++ t) ≡ readAs v t
+pub number-back : (w v : ℕ) (t : Bytes) → v < 256 ^ w → numberOf w (digits w v ++ t) ≡ readAs v t
 unfolding numberOf just
 number-back w v t h = then-reads _ _ _ (stretch-back w (digits w v) t (length-digits w v)) (ap (λ (n : ℕ). readAs n t) (number-digits w v h))
 
@@ -54,7 +54,7 @@ kind-back Rollback t = then-reads _ _ _ refl refl
 
 -- ---- entries
 
-default-back : (d : Default) (t : Bytes) → Word (d .start) → defaultFrom (defaultBytes d ++ t) ≡ readAs d t
+pub default-back : (d : Default) (t : Bytes) → Word (d .start) → defaultFrom (defaultBytes d ++ t) ≡ readAs d t
 unfolding defaultFrom defaultBytes just
 default-back d t h = simp append-assoc (then-reads _ _ _ (piece-back (d .key) _) (then-reads _ _ _ (number-back 8 (d .start) _ h) (then-reads _ _ _ (piece-back (d .row) t) refl)))
 
@@ -82,7 +82,7 @@ module _ {A : Type 0} (r : Reader A) (f : A → Bytes) (P : A → Type 0) (back 
   times-back [] t a = refl
   times-back (x ∷ xs) t a = simp append-assoc (then-reads _ _ _ (back x _ (a .0)) (then-reads _ _ _ (times-back xs t (a .1)) refl))
 
-  section-back : (xs : List A) (t : Bytes) → Few P xs → section (numberOf 2) r (sectionBytes f xs ++ t) ≡ readAs xs t
+  pub section-back : (xs : List A) (t : Bytes) → Few P xs → section (numberOf 2) r (sectionBytes f xs ++ t) ≡ readAs xs t
   unfolding section sectionBytes
   section-back xs t v = simp append-assoc (then-reads _ _ _ (number-back 2 (length xs) _ (v .count)) (times-back xs t (v .words)))
 

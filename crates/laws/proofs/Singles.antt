@@ -58,7 +58,7 @@ empty-row = refl
 
 long-row : (r : Row) → leb (length r) 255 ≡ false → rowForm r ≡ false
 unfolding rowForm
-long-row r h = and-false (leb 2 (length r) && leb (length r) 255) _ (and-false-right (leb 2 (length r)) _ h)
+long-row r h = and-false (leb 3 (length r) && leb (length r) 255) _ (and-false-right (leb 3 (length r)) _ h)
 
 -- ---- a refusal, whatever goes before it
 

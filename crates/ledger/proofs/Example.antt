@@ -10,7 +10,7 @@ use Rattle.forms.specs.Bytes.{cmp, eqBytes, ltBytes}
 use Rattle.forms.specs.Readers.{readOn, _>>=_, just, only, byte, stretch, piece, upTo, times, section, ended, whole}
 use Rattle.forms.specs.Numbers.{numberFrom, numberOf}
 use Rattle.forms.specs.Key.{Key, tableOf, keyForm}
-use Rattle.forms.specs.Row.{Row, integers, texts, fields, rowForm}
+use Rattle.forms.specs.Row.{Row, integers, texts, fields, maskBytes, bone, noneSet, sparesZero, bones, rowFrom, rowForm}
 use Rattle.forms.specs.Batch.{ofKind, mutation, above, ascend, ifAscend, batchOf, mutations, keys}
 use Rattle.forms.specs.Ones.{fitted, oneMutation, oneKey}
 use Rattle.rules.specs.Answers.{_▸_, need, needOwn}
@@ -32,12 +32,12 @@ keyA = 0 ∷ 0 ∷ 0 ∷ 1 ∷ 97 ∷ []
 keyB : Key
 keyB = 0 ∷ 0 ∷ 0 ∷ 1 ∷ 98 ∷ []
 
--- no integer and no text; no integer and one empty text
+-- no integer, no text and no bone; no integer, one empty text and no bone
 row₁ : Row
-row₁ = 0 ∷ 0 ∷ []
+row₁ = 0 ∷ 0 ∷ 0 ∷ []
 
 row₂ : Row
-row₂ = 0 ∷ 1 ∷ 0 ∷ []
+row₂ = 0 ∷ 1 ∷ 0 ∷ 0 ∷ []
 
 ending : CommitTerms
 ending = record { txn = 7; start = 10; commit = 12 }
@@ -45,7 +45,7 @@ ending = record { txn = 7; start = 10; commit = 12 }
 calls : List Changing
 calls =
     Changing.Prewrite (record { txn = 7; start = 10; primary = keyA; ttl = 1 }) (oneMutation (record { key = keyA; row = some row₁ })) ∷
-    Changing.OneStep ending (0 ∷ 1 ∷ 5 ∷ keyA ++ (1 ∷ 3 ∷ row₂)) ∷
+    Changing.OneStep ending (0 ∷ 1 ∷ 5 ∷ keyA ++ (1 ∷ 4 ∷ row₂)) ∷
     Changing.Rollback 7 10 (oneKey keyA) ∷
     Changing.Commit ending (0 ∷ []) ∷
     Changing.Commit ending (oneKey keyA) ∷
@@ -65,5 +65,5 @@ record Seen (p : Past) : Type 0 where
   stamp-is-no-start : named keyA 12 (p .log) ≡ false
 
 seen : Seen past
-unfolding keyA keyB row₁ row₂ ending calls past cmp eqBytes ltBytes readOn _>>=_ just only byte stretch piece upTo times section ended whole numberFrom numberOf tableOf keyForm integers texts fields rowForm ofKind mutation above ascend ifAscend batchOf mutations keys fitted oneMutation oneKey _▸_ need needOwn fresh recordsOf addRecord lockOf addLock rowOf addRow before rowBefore putIn insertBy dropLock unlessLock dropRow unlessRow allSound soundLock sumOf loadOf fits roomFor settle ofBatch zeroStep allBelow foundIf stampedAt prewriteTermsStep lockStep prewriteEntry prewriteEntries storeIf lockLine unlessLocked applyPrewrite applyPrewrites prewriteRoom prewriteSteps prewriteAll prewriteBatch commitTermsStep withStart commitLock commitStep commitKey commitKeys commitTo applyCommit applyCommits commitSteps commitAll commitBatch rollbackRecords rollbackLock rollbackStep rollbackKey rollbackKeys rollbackTo applyRollback applyRollbacks rollbackRoom rollbackSteps rollbackAll rollbackBatch argumentsStep appliedIf appliedBy appliedIn noneOther allApplied someApplied stepLock stepEntry stepEntries newestStep replaceIf applyStep applySteps stepNew stepApplied stepArguments thenApplied countIf stepDone stepAll ofCounted oneStep perform entriesIn eachNamed namedBy onto logged then after empty named rowIf orOlder lastRow sucUnless differentPairs consIf chosen
+unfolding keyA keyB row₁ row₂ ending calls past cmp eqBytes ltBytes readOn _>>=_ just only byte stretch piece upTo times section ended whole numberFrom numberOf tableOf keyForm integers texts fields maskBytes bone noneSet sparesZero bones rowFrom rowForm ofKind mutation above ascend ifAscend batchOf mutations keys fitted oneMutation oneKey _▸_ need needOwn fresh recordsOf addRecord lockOf addLock rowOf addRow before rowBefore putIn insertBy dropLock unlessLock dropRow unlessRow allSound soundLock sumOf loadOf fits roomFor settle ofBatch zeroStep allBelow foundIf stampedAt prewriteTermsStep lockStep prewriteEntry prewriteEntries storeIf lockLine unlessLocked applyPrewrite applyPrewrites prewriteRoom prewriteSteps prewriteAll prewriteBatch commitTermsStep withStart commitLock commitStep commitKey commitKeys commitTo applyCommit applyCommits commitSteps commitAll commitBatch rollbackRecords rollbackLock rollbackStep rollbackKey rollbackKeys rollbackTo applyRollback applyRollbacks rollbackRoom rollbackSteps rollbackAll rollbackBatch argumentsStep appliedIf appliedBy appliedIn noneOther allApplied someApplied stepLock stepEntry stepEntries newestStep replaceIf applyStep applySteps stepNew stepApplied stepArguments thenApplied countIf stepDone stepAll ofCounted oneStep perform entriesIn eachNamed namedBy onto logged then after empty named rowIf orOlder lastRow sucUnless differentPairs consIf chosen
 seen = record { names = refl; pairs = refl; lines = refl; last = refl; stored = refl; none-of-b = refl; stamp-is-no-start = refl }

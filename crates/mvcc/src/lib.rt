@@ -5,8 +5,9 @@
 // calls the area is the store's own, and nobody else writes to it. Every call's only premise is that our code made them (`Made`,
 // crates/store/specs/Made.antt). Each call is tied to the demands in crates/demands/src/ties.rt, by its name here.
 
-// A store, fresh or from an image, and the image of one of its tables.
+// A store, fresh or from an image; the image of one of its tables; an old image as one of today.
 pub use captures::capture_snapshot_table;
+pub use converts::convert_image;
 pub use restores::restore;
 pub use store::fresh;
 
@@ -15,6 +16,10 @@ pub use reads::intent_for_read;
 pub use reads::primary_of;
 pub use reads::read;
 pub use reads::row_of;
+
+// What a row shows of its bones.
+pub use bones::bone_shown;
+pub use bones::bones_shown;
 
 // Pages of rows, of locks, and of the locks in the way of a read.
 pub use pages::scan_conflicting_intents;
@@ -35,6 +40,8 @@ pub use figures::allocator_high_water_marks;
 pub use figures::stats;
 
 // The types that calls take and give back.
+pub use bones::BoneShown;
+pub use bones::BonesShown;
 pub use calls::Changed;
 pub use onesteps::Stepped;
 pub use reads::LockSeen;

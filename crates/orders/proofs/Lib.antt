@@ -2,3 +2,4 @@
 pub mod MarkLaws
 pub mod SortLaws
 pub mod MergeLaws
+pub mod FindLaws

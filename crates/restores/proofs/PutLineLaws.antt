@@ -32,7 +32,8 @@ use Rattle.orders.specs.Marks.{sectionIf}
 use Rattle.images.specs.Good.{kindOf}
 use Rattle.images.specs.Sections.{lineIf, lineAt}
 use Rattle.restores.specs.declared.rows.RowPlace.{RowPlace}
-use Rattle.restores.specs.Rows.{rowsAt, rowFor, keyIn, RowAsks, RowFound}
+use Rattle.orders.specs.Finds.{rowsAt, keyIn}
+use Rattle.restores.specs.Rows.{rowFor, RowAsks, RowFound}
 use Rattle.restores.specs.Fills.{Laid, sizeOf, carrying, laid, rowBytes, Comes, ComesIf, lineFrom, tailIn, OneStamp, WriteAsks, LineAsks, AsksIf}
 
 -- ---- a row's bytes
@@ -114,8 +115,8 @@ one-stamp false s e h = eqb-true (e .third) (e .first) (and-left _ _ (and-left (
 
 module _ {s : Bytes} {rows : List ℕ} {e : ImageEntry} where
   rows-ask : (b : Bool) → e .at + e .len ≤ length s → {area : Bytes} {top : ℕ} → LineAsks (entryLine b s e) (rowsAt s rows) area top → RowAsks s rows e
-  rows-ask true k a = record { sorted = a .sorted; has = a .has; key-in = k }
-  rows-ask false k a = record { sorted = a .sorted; has = a .has; key-in = k }
+  rows-ask true k a = record { place = record { sorted = a .sorted; key-in = k }; has = a .has }
+  rows-ask false k a = record { place = record { sorted = a .sorted; key-in = k }; has = a .has }
 
   module _ {row : RowPlace} (f : RowFound s rows e row) where
     found-long : length (rowFor (kindOf (e .kind)) (box.rowOf (keyIn s e) (e .second) (rowsAt s rows))) ≡ row .len

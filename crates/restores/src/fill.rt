@@ -1,9 +1,11 @@
 // A line of the image comes into the store: its stretch to the top of the area, and its slot into a place of the table.
+ghost use mathlib.Core.Path.{_≡_};
 ghost use mathlib.Core.Bool.{true, false};
+ghost use Prim.Native.Nat.{_≤_};
 ghost use Rattle.images.specs.Entries.{rawOf};
 ghost use Rattle.images.specs.Sections.{lineAt};
 ghost use Rattle.forms.specs.Bytes.{bytesAt};
-ghost use Rattle.restores.specs.Rows.{rowsAt};
+ghost use Rattle.orders.specs.Finds.{rowsAt};
 ghost use Rattle.restores.specs.Fills.{WriteAsks, lineFrom, carrying, Comes, laid, AsksIf, ComesIf};
 use crate::rows::RowPlace;
 use crate::rows::find_row;
@@ -25,6 +27,22 @@ pub struct Filled {
     pub slot: Slot,
     pub top: usize,
     pub last: usize,
+}
+
+fn fill_slot(at: usize, len: usize, line: Line, top: usize, last: usize) -> Filled
+    requires { ⌜ (at ≤ 65535) × (len ≤ 255) ⌝ }
+    ensures { λ r. ⌜ r ≡ record { slot = record { at = at; len = len; used = true; line = line }; top = top; last = last } ⌝ }
+{
+    Filled {
+        slot: Slot {
+            at: at as u16,
+            len: len as u8,
+            used: true,
+            line: line,
+        },
+        top: top,
+        last: last,
+    }
 }
 
 // "a standing intent with its kind": the entry's key and numbers, its row, its time to live and its primary.
@@ -51,20 +69,12 @@ fn write_lock(area: &mut [u8], top: usize, s: &[u8], e: ImageEntry, row: RowPlac
         ttl,
         &s[x..y],
     );
-    Filled {
-        slot: Slot {
-            at: at as u16,
-            len: e.len as u8,
-            used: true,
-            line: Line::Standing(LockSlot {
-                plen: e.piecelen as u8,
-                rowlen: row.len as u8,
-                kind: kind,
-            }),
-        },
-        top: end,
-        last: row.last,
-    }
+    let line = Line::Standing(LockSlot {
+        plen: e.piecelen as u8,
+        rowlen: row.len as u8,
+        kind: kind,
+    });
+    fill_slot(at, e.len, line, end, row.last)
 }
 
 // "a finished record": the entry's key and numbers, and its row.
@@ -79,19 +89,11 @@ fn write_record(area: &mut [u8], top: usize, s: &[u8], e: ImageEntry, row: RowPl
     let kind = kind_of(e.kind);
     let at = pairs_in(top);
     let end = append_record(area, at + at, &s[a..b], e.first, e.second, &s[c..d]);
-    Filled {
-        slot: Slot {
-            at: at as u16,
-            len: e.len as u8,
-            used: true,
-            line: Line::Finished(RecordSlot {
-                rowlen: row.len as u8,
-                kind: kind,
-            }),
-        },
-        top: end,
-        last: row.last,
-    }
+    let line = Line::Finished(RecordSlot {
+        rowlen: row.len as u8,
+        kind: kind,
+    });
+    fill_slot(at, e.len, line, end, row.last)
 }
 
 // The line at a place of the image, if it is `here`: a lock below the place of the writes, else a write. Else the empty slot.

@@ -26,21 +26,13 @@ pub fn restore(mut store: Store, area: &mut [u8; AREA], image: &[u8]) -> Changed
         let old = store.load;
         let n = load.lines;
         let d = load.defaults;
+        let w = v.writesat;
         let end = longer(n, old.lines);
         let mut top: usize = 0;
         let mut last: usize = 0;
         let mut k: usize = 0;
         while k < end {
-            let l = put_line(
-                area,
-                top,
-                image,
-                v.writesat,
-                &rows[..d],
-                k < n,
-                places[k],
-                last,
-            );
+            let l = put_line(area, top, image, w, &rows[..d], k < n, places[k], last);
             let slot = l.slot;
             store.lines[k] = slot;
             top = l.top;

@@ -6,3 +6,4 @@ pub mod Worked
 pub mod ShownRows
 pub mod ExaminedLaws
 pub mod SickImages
+pub mod BoneCases

@@ -1,5 +1,5 @@
 -- Document 02, CR 3, worked: images that 01's checks let in, and what restore says of each; the list of those which differ is empty.
--- Keys and numbers as in Worked: a = 00 00 00 01 61, row 00 00, transaction 7, primary a, time to live 1.
+-- Keys and numbers as in Worked: a = 00 00 00 01 61, row 00 00 00, transaction 7, primary a, time to live 1.
 -- Assumes nothing.
 use Prim.Native.Nat.{ℕ}
 use mathlib.Core.Path.{_≡_, refl}
@@ -8,7 +8,7 @@ use Rattle.forms.specs.Bytes.{cmp, eqBytes}
 use Rattle.forms.specs.Readers.{readOn, _>>=_, just, only, byte, stretch, piece, upTo, times, section, ended, whole}
 use Rattle.forms.specs.Numbers.{numberFrom, numberOf}
 use Rattle.forms.specs.Key.{tableOf, keyForm}
-use Rattle.forms.specs.Row.{integers, texts, fields, rowForm}
+use Rattle.forms.specs.Row.{integers, texts, fields, maskBytes, bone, noneSet, sparesZero, bones, rowFrom, rowForm}
 use Rattle.rules.specs.declared.records.Kind.{Kind}
 use Rattle.rules.specs.declared.records.Kind.the-variants.{Put, Delete, Rollback}
 use Rattle.rules.specs.Answers.{number, _▸_, need}
@@ -57,5 +57,5 @@ sickTable =
     []
 
 pub sick-worked : differing sickTable ≡ []
-unfolding stored locked written saw max sickTable keyA row nameUnless differing cmp eqBytes readOn _>>=_ just only byte stretch piece upTo times section ended whole numberFrom numberOf tableOf keyForm integers texts fields rowForm _▸_ need rowOf addRow before rowBefore putIn insertBy soundLock sumOf loadOf fits roomFor allGood noneLike noSecond goodImage pointedTo healthyImage placeDefaults placeWrites placeLocks boxOf restoreSteps
+unfolding stored locked written saw max sickTable keyA row nameUnless differing cmp eqBytes readOn _>>=_ just only byte stretch piece upTo times section ended whole numberFrom numberOf tableOf keyForm integers texts fields maskBytes bone noneSet sparesZero bones rowFrom rowForm _▸_ need rowOf addRow before rowBefore putIn insertBy soundLock sumOf loadOf fits roomFor allGood noneLike noSecond goodImage pointedTo healthyImage placeDefaults placeWrites placeLocks boxOf restoreSteps
 sick-worked = refl

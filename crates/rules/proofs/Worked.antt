@@ -2,6 +2,7 @@
 -- numbers that a caller sees, the holder as document 02, CR 9, has it; the claim is that the list of rows which differ is empty, so that a
 -- wrong row is named.
 -- "Table 1, key a = 00 00 00 01 61 (b ends in 62), row 00 00, transaction 7; where unsaid, primary a, time to live 1, row limit 1, no bounds."
+-- Document 02, CR 4: "the smallest row is 00 00 00, and 01's row cases gain that byte, so the byte limits of W9 and W10 become 8 and 7."
 -- Assumes nothing.
 use Prim.Native.Nat.{ℕ, zero, suc, _-_}
 use Prim.Native.String.{String}
@@ -14,7 +15,7 @@ use Rattle.forms.specs.Bytes.{Bytes, cmp, eqBytes, ltBytes}
 use Rattle.forms.specs.Readers.{readOn, _>>=_, just, only, byte, stretch, piece, upTo, times, section, ended, whole}
 use Rattle.forms.specs.Numbers.{numberFrom, digits, numberOf}
 use Rattle.forms.specs.Key.{Key, tableOf, keyForm}
-use Rattle.forms.specs.Row.{Row, integers, texts, fields, rowForm}
+use Rattle.forms.specs.Row.{Row, integers, texts, fields, maskBytes, bone, noneSet, sparesZero, bones, rowFrom, rowForm}
 use Rattle.forms.specs.Batch.{Mutation, ofKind, mutation, above, ascend, ifAscend, batchOf, mutations, keys}
 use Rattle.forms.specs.Ones.{fitted, oneMutation, oneKey}
 use Rattle.rules.specs.declared.answers.Answer.{Answer}
@@ -101,7 +102,7 @@ keyB : Key
 keyB = 0 ∷ 0 ∷ 0 ∷ 1 ∷ 0x62 ∷ []
 
 unfoldable pub row : Row
-row = 0 ∷ 0 ∷ []
+row = 0 ∷ 0 ∷ 0 ∷ []
 
 put : Key → Mutation
 put k = record { key = k; row = some row }
@@ -123,10 +124,10 @@ rollbackA start b = rollback 7 start keyA b
 
 -- a mutation batch of Puts, as bytes
 batchA : Bytes
-batchA = 0 ∷ 1 ∷ 5 ∷ 0 ∷ 0 ∷ 0 ∷ 1 ∷ 0x61 ∷ 1 ∷ 2 ∷ 0 ∷ 0 ∷ []
+batchA = 0 ∷ 1 ∷ 5 ∷ 0 ∷ 0 ∷ 0 ∷ 1 ∷ 0x61 ∷ 1 ∷ 3 ∷ 0 ∷ 0 ∷ 0 ∷ []
 
 batchAB : Bytes
-batchAB = 0 ∷ 2 ∷ 5 ∷ 0 ∷ 0 ∷ 0 ∷ 1 ∷ 0x61 ∷ 1 ∷ 2 ∷ 0 ∷ 0 ∷ 5 ∷ 0 ∷ 0 ∷ 0 ∷ 1 ∷ 0x62 ∷ 1 ∷ 2 ∷ 0 ∷ 0 ∷ []
+batchAB = 0 ∷ 2 ∷ 5 ∷ 0 ∷ 0 ∷ 0 ∷ 1 ∷ 0x61 ∷ 1 ∷ 3 ∷ 0 ∷ 0 ∷ 0 ∷ 5 ∷ 0 ∷ 0 ∷ 0 ∷ 1 ∷ 0x62 ∷ 1 ∷ 3 ∷ 0 ∷ 0 ∷ 0 ∷ []
 
 noBounds : Bounds
 noBounds = record { from = none; to = none; resume = none }
@@ -158,7 +159,7 @@ table =
     record { name = "W1 read at 10 answer 7 with 7, 10, time to live 1, Put"; got = sawRead (examine keyA 10 box1); wanted = 7 ∷ 7 ∷ 10 ∷ 1 ∷ 1 ∷ 0 ∷ 0 ∷ [] } ∷
     record { name = "W2 then commit at 12"; got = sawDone (commitA 10 12 box1); wanted = plain 0 [] } ∷
     record { name = "W2 read at 11 nothing"; got = sawRead (examine keyA 11 box2); wanted = plain 0 (0 ∷ 0 ∷ []) } ∷
-    record { name = "W2 read at 12 the row"; got = sawRead (examine keyA 12 box2); wanted = plain 0 (1 ∷ 1 ∷ 0 ∷ 0 ∷ []) } ∷
+    record { name = "W2 read at 12 the row"; got = sawRead (examine keyA 12 box2); wanted = plain 0 (1 ∷ 1 ∷ row) } ∷
     record { name = "W3 then rollback of start 12: 9"; got = sawDone (rollbackA 12 box2); wanted = plain 9 [] } ∷
     record { name = "W4 after W2, rollback of start 10: 8"; got = sawDone (rollbackA 10 box2); wanted = plain 8 [] } ∷
     record { name = "W5 after W2, prewrite start 12: 8"; got = sawDone (prewriteA 12 box2); wanted = plain 8 [] } ∷
@@ -166,17 +167,17 @@ table =
     record { name = "W6 fresh, rollback start 5: 0, one line"; got = saw (rollbackA 5 fresh .answer) (length (box6 .lines) ∷ []); wanted = plain 0 (1 ∷ []) } ∷
     record { name = "W6 again: 0, same state"; got = saw (rollbackA 5 box6 .answer) (flat (rollbackA 5 box6 .box)); wanted = plain 0 (flat box6) } ∷
     record { name = "02, CR 6: then read at 5, a Rollback passed over"; got = sawRead (examine keyA 5 box6); wanted = plain 0 (1 ∷ 0 ∷ []) } ∷
-    record { name = "02, CR 6: after W2 and a rollback of start 14, read at 14"; got = sawRead (examine keyA 14 (rollbackA 14 box2 .box)); wanted = plain 0 (2 ∷ 1 ∷ 0 ∷ 0 ∷ []) } ∷
+    record { name = "02, CR 6: after W2 and a rollback of start 14, read at 14"; got = sawRead (examine keyA 14 (rollbackA 14 box2 .box)); wanted = plain 0 (2 ∷ 1 ∷ row) } ∷
     record { name = "W7 then prewrite start 5: 8"; got = sawDone (prewriteA 5 box6); wanted = plain 8 [] } ∷
     record { name = "W8 after W2, one-step (10, 12) of a alone with that row: 0, count 1"; got = sawCount (oneStep (ending 10 12) batchA box2); wanted = plain 0 (1 ∷ []) } ∷
     record { name = "W8 of a and b: 9"; got = sawCount (oneStep (ending 10 12) batchAB box2); wanted = plain 9 (0 ∷ []) } ∷
     record {
-      name = "W9 after W2, page at 12, byte limit 7";
-      got = sawPage (pageAt12 7 box2);
-      wanted = plain 0 (12 ∷ 0x00 ∷ 0x01 ∷ 0x05 ∷ 0x00 ∷ 0x00 ∷ 0x00 ∷ 0x01 ∷ 0x61 ∷ 0x02 ∷ 0x00 ∷ 0x00 ∷ 0x00 ∷ 238 ∷ 238 ∷ []);
+      name = "W9 after W2, page at 12, byte limit 8";
+      got = sawPage (pageAt12 8 box2);
+      wanted = plain 0 (13 ∷ 0x00 ∷ 0x01 ∷ 0x05 ∷ 0x00 ∷ 0x00 ∷ 0x00 ∷ 0x01 ∷ 0x61 ∷ 0x03 ∷ 0x00 ∷ 0x00 ∷ 0x00 ∷ 0x00 ∷ 238 ∷ []);
     } ∷
-    record { name = "W10 byte limit 6: 10"; got = sawPage (pageAt12 6 box2); wanted = plain 10 (0 ∷ buffer) } ∷
-    record { name = "W11 a shown, b locked by the moment, row limit 1: 7"; got = sawPage (pageAt12 7 box11); wanted = 7 ∷ 7 ∷ 11 ∷ 1 ∷ 1 ∷ 0 ∷ buffer } ∷
+    record { name = "W10 byte limit 7: 10"; got = sawPage (pageAt12 7 box2); wanted = plain 10 (0 ∷ buffer) } ∷
+    record { name = "W11 a shown, b locked by the moment, row limit 1: 7"; got = sawPage (pageAt12 8 box11); wanted = 7 ∷ 7 ∷ 11 ∷ 1 ∷ 1 ∷ 0 ∷ buffer } ∷
     []
 
 -- ---- "Room": the load that a caller could count, and 11 only after every earlier refusal
@@ -195,8 +196,8 @@ full = record { lines = record { key = keyA; line = Finished (recordFor 10 12 De
 
 pub roomTable : List Case
 roomTable =
-    record { name = "a lock counts key plus primary, a default key plus row"; got = sawLoad box1; wanted = 1 ∷ 1 ∷ 1 ∷ 17 ∷ [] } ∷
-    record { name = "a record counts its key"; got = sawLoad box2; wanted = 1 ∷ 0 ∷ 1 ∷ 12 ∷ [] } ∷
+    record { name = "a lock counts key plus primary, a default key plus row"; got = sawLoad box1; wanted = 1 ∷ 1 ∷ 1 ∷ 18 ∷ [] } ∷
+    record { name = "a record counts its key"; got = sawLoad box2; wanted = 1 ∷ 0 ∷ 1 ∷ 13 ∷ [] } ∷
     record { name = "256 locks of 10 bytes each, and a record"; got = sawLoad full; wanted = 257 ∷ 256 ∷ 0 ∷ 2565 ∷ [] } ∷
     record { name = "no room for one lock more: 11"; got = sawDone (prewriteA 13 full); wanted = plain 11 [] } ∷
     record { name = "no room, and history forbids it: 8 goes before 11"; got = sawDone (prewriteA 12 full); wanted = plain 8 [] } ∷
@@ -204,7 +205,7 @@ roomTable =
 
 -- no row of either table differs
 both : (differing table ≡ []) × (differing roomTable ≡ [])
-unfolding sawLoad locks full roomTable nameUnless differing saw plain sawDone sawRow sawRead sawCount sawPage flatLine flatLines flatDefaults flat keyA keyB row put head ending prewriteA commitA rollbackA batchA batchAB noBounds buffer pageAt12 box1 box2 box6 box11 table cmp eqBytes ltBytes readOn _>>=_ just only byte stretch piece upTo times section ended whole numberFrom digits numberOf tableOf keyForm integers texts fields rowForm ofKind mutation above ascend ifAscend batchOf mutations keys fitted oneMutation oneKey _▸_ need needOwn ifPassed fresh recordsOf addRecord lockOf addLock rowOf addRow before rowBefore putIn insertBy dropLock unlessLock dropRow unlessRow allSound soundLock sumOf loadOf fits roomFor lockLets keepIf atOrBelow newestFirst showIf showRow oneRecord walk readSteps examine read boundsStep pageArguments keysOf keysWithin onPage tooLarge costStep limitStep onJudged pageWalk unlessPast readKey page keyRowBytes allBytes pageBytes writeIf written scanPage settle ofBatch zeroStep allBelow foundIf stampedAt prewriteTermsStep lockStep prewriteEntry prewriteEntries storeIf lockLine unlessLocked applyPrewrite applyPrewrites prewriteRoom prewriteSteps prewriteAll prewriteBatch prewrite commitTermsStep withStart commitLock commitStep commitKey commitKeys commitTo applyCommit applyCommits commitSteps commitAll commitBatch commit rollbackRecords rollbackLock rollbackStep rollbackKey rollbackKeys rollbackTo applyRollback applyRollbacks rollbackRoom rollbackSteps rollbackAll rollbackBatch rollback argumentsStep appliedIf appliedBy appliedIn noneOther allApplied someApplied stepLock stepEntry stepEntries newestStep replaceIf applyStep applySteps stepNew stepApplied stepArguments thenApplied countIf stepDone stepAll ofCounted oneStep
+unfolding sawLoad locks full roomTable nameUnless differing saw plain sawDone sawRow sawRead sawCount sawPage flatLine flatLines flatDefaults flat keyA keyB row put head ending prewriteA commitA rollbackA batchA batchAB noBounds buffer pageAt12 box1 box2 box6 box11 table cmp eqBytes ltBytes readOn _>>=_ just only byte stretch piece upTo times section ended whole numberFrom digits numberOf tableOf keyForm integers texts fields maskBytes bone noneSet sparesZero bones rowFrom rowForm ofKind mutation above ascend ifAscend batchOf mutations keys fitted oneMutation oneKey _▸_ need needOwn ifPassed fresh recordsOf addRecord lockOf addLock rowOf addRow before rowBefore putIn insertBy dropLock unlessLock dropRow unlessRow allSound soundLock sumOf loadOf fits roomFor lockLets keepIf atOrBelow newestFirst showIf showRow oneRecord walk readSteps examine read boundsStep pageArguments keysOf keysWithin onPage tooLarge costStep limitStep onJudged pageWalk unlessPast readKey page keyRowBytes allBytes pageBytes writeIf written scanPage settle ofBatch zeroStep allBelow foundIf stampedAt prewriteTermsStep lockStep prewriteEntry prewriteEntries storeIf lockLine unlessLocked applyPrewrite applyPrewrites prewriteRoom prewriteSteps prewriteAll prewriteBatch prewrite commitTermsStep withStart commitLock commitStep commitKey commitKeys commitTo applyCommit applyCommits commitSteps commitAll commitBatch commit rollbackRecords rollbackLock rollbackStep rollbackKey rollbackKeys rollbackTo applyRollback applyRollbacks rollbackRoom rollbackSteps rollbackAll rollbackBatch rollback argumentsStep appliedIf appliedBy appliedIn noneOther allApplied someApplied stepLock stepEntry stepEntries newestStep replaceIf applyStep applySteps stepNew stepApplied stepArguments thenApplied countIf stepDone stepAll ofCounted oneStep
 both = (refl, refl)
 
 pub worked : differing table ≡ []

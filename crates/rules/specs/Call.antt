@@ -4,6 +4,7 @@
 use Prim.Native.Nat.{ℕ}
 use Rattle.forms.specs.Bytes.{Bytes}
 use Rattle.forms.specs.Key.{Key}
+use Rattle.forms.specs.Row.{Row}
 use Rattle.rules.specs.Box.{Box}
 use Rattle.rules.specs.Page.{Bounds, Limits}
 use Rattle.rules.specs.Calls.{Done}
@@ -41,3 +42,8 @@ pub data Call : Type 0 where
   Marks : Call
   -- document 02, CR 1: "From a store and a table number, write that table's image"
   Capture : (table : ℕ) → Call
+  -- document 02, CR 4: "A converter adds a zero count to each row of an old image"
+  Convert : (image : Bytes) → Call
+  -- document 02, CR 4: "whether bone n is shown, and how many bones are shown"
+  Bone : Row → (n : ℕ) → Call
+  Bones : Row → Call

@@ -19,3 +19,5 @@ pub mod Restore
 pub mod Figures
 pub mod Call
 pub mod Capture
+pub mod Convert
+pub mod Bones

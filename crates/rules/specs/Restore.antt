@@ -11,7 +11,7 @@ use mathlib.Core.Option.{Option, none, some}
 use lib.Dec.{eqb}
 use Rattle.forms.specs.Bytes.{Bytes, eqBytes}
 use Rattle.forms.specs.Key.{Key, keyForm, tableOf}
-use Rattle.forms.specs.Row.{rowForm}
+use Rattle.forms.specs.Row.{Row, rowForm}
 use Rattle.forms.specs.Readers.{isSome}
 use Rattle.rules.specs.declared.answers.Answer.{Answer}
 use Rattle.rules.specs.declared.answers.Answer.the-variants.{No}
@@ -29,9 +29,12 @@ use Rattle.rules.specs.Image.{Image, KeyRecord, image}
 abbrev pub ofTable : ℕ → Key → Bool
 ofTable t k = keyForm k && eqb (tableOf k) t
 
--- "default start not 0, row decodes"
+-- "default start not 0, row decodes", in a form of rows
+abbrev pub goodDefaultBy : (Row → Bool) → ℕ → Default → Bool
+goodDefaultBy form t d = ofTable t (d .key) && not (eqb (d .start) 0) && form (d .row)
+
 abbrev pub goodDefault : ℕ → Default → Bool
-goodDefault t d = ofTable t (d .key) && not (eqb (d .start) 0) && rowForm (d .row)
+goodDefault t d = goodDefaultBy rowForm t d
 
 -- "lock sound"
 abbrev pub goodLock : ℕ → KeyLock → Bool
@@ -73,17 +76,20 @@ kindHasDefault Rollback has = true
 abbrev pub hasDefault : List Default → KeyRecord → Bool
 hasDefault ds x = kindHasDefault (x .write .kind) (isSome (rowOf (x .key) (x .write .start) ds))
 
--- "table number not zero, then each entry, in any order: .. Any fault 13"
-unfoldable pub goodImage : Image → Bool
-goodImage i =
+-- "table number not zero, then each entry, in any order: .. Any fault 13", in a form of rows: document 01's own, or that of document 02, CR 4
+abbrev pub goodImageBy : (Row → Bool) → Image → Bool
+goodImageBy form i =
     not (eqb (i .table) 0) &&
-    allGood (goodDefault (i .table)) (i .defaults) &&
+    allGood (goodDefaultBy form (i .table)) (i .defaults) &&
     allGood (goodLock (i .table)) (i .locks) &&
     allGood (goodWrite (i .table)) (i .writes) &&
     noSecond likeDefault (i .defaults) &&
     noSecond likeLock (i .locks) &&
     noSecond likeWrite (i .writes) &&
     allGood (hasDefault (i .defaults)) (i .writes)
+
+unfoldable pub goodImage : Image → Bool
+goodImage i = goodImageBy rowForm i
 
 -- ---- document 02, CR 3
 

@@ -1,4 +1,4 @@
--- Pages and the image, told: that the answer carries the definition's buffer, how long that is, and that the lent buffer is the front of a longer
+-- Pages and images, told: that the answer carries the definition's buffer, how long that is, and that the lent buffer is the front of a longer
 -- one.
 -- Assumes nothing.
 use Prim.Native.Nat.{ℕ, _+_, _-_, _≤_, _<_}
@@ -15,7 +15,9 @@ use Rattle.rules.specs.Answers.{Reply, nothing, shown, refused}
 use Rattle.rules.specs.Box.{Box}
 use Rattle.rules.specs.Page.{Bounds, Page, page, intentPage, conflictPage}
 use Rattle.rules.specs.Written.{Written, writeIf, written, pageBytes, keyRowBytes, keyLockBytes, scanPage, scanIntentPage, scanConflictingIntents, WroteAs}
+use Rattle.rules.specs.Image.{image}
 use Rattle.rules.specs.Capture.{imageOf, captureIf, captureImage}
+use Rattle.rules.specs.Convert.{convertedBytes, convertible, convertIf, convertImage}
 use Rattle.rules.specs.Call.{Call}
 use Rattle.rules.specs.declared.written.Wrote.{Wrote}
 use Rattle.bounds.specs.Bounds.{boundsOf}
@@ -64,7 +66,7 @@ module _ (a : Bounds) (first second third : ℕ) (b : Box) (buffer : Bytes) wher
   scanned-long Which.Intents = same-length keyLockBytes (intentPage a first b) buffer
   scanned-long Which.Conflicts = same-length keyLockBytes (conflictPage a first (record { rows = second; bytes = third }) b) buffer
 
--- of the image
+-- of an image, written from a table or converted
 captured-long : (t : ℕ) (b : Box) (buffer : Bytes) → length (captureImage t b buffer .buffer) ≡ length buffer
 unfolding captureImage captureIf
 captured-long t b buffer = by-table (not (eqb t 0))
@@ -72,6 +74,14 @@ captured-long t b buffer = by-table (not (eqb t 0))
     by-table : (some : Bool) → length (captureIf some (imageOf t b) buffer .buffer) ≡ length buffer
     by-table true = write-long (imageOf t b) buffer
     by-table false = refl
+
+pub converted-long : (s buffer : Bytes) → length (convertImage s buffer .buffer) ≡ length buffer
+unfolding convertImage convertIf
+converted-long s buffer = by-image (convertible (image s))
+  where
+    by-image : (good : Bool) → length (convertIf good (convertedBytes s) buffer .buffer) ≡ length buffer
+    by-image true = write-long (convertedBytes s) buffer
+    by-image false = refl
 
 -- ---- what was written to the front of a longer buffer, shown
 
@@ -88,19 +98,27 @@ front-shown w b n buffer {out = out} v e =
       box-is = refl;
     }
 
--- the image, in a buffer of the call's length
+-- an image, in a buffer of the call's length
+module _ (w : Bytes → Written) (same-long : (buffer : Bytes) → length (w buffer .buffer) ≡ length buffer) (n : ℕ) (b : Box) {buffer : Bytes} {done : Wrote} {out : Bytes} (lent-is : buffer ≡ lent 262144) (small : n < 262145) (v : WroteAs (w (take n buffer)) done out) where
+  pub image-shown : ShownTold (paging (w (lent n)) b) b (record { answer = done .answer; count = done .count; len = n }) (out ++ drop n buffer)
+  image-shown =
+      let e : take n buffer ≡ lent n = ap (take n) lent-is ∙ front n 262144 238 (omega arith) in
+      front-shown (w (lent n)) b n buffer (subst (λ (x : Bytes). WroteAs (w x) done out) e v) (same-long (lent n) ∙ length-replicate {A = ℕ} n 238)
+
+  pub image-room : length (out ++ drop n buffer) ≤ 262144
+  image-room =
+      let l : length buffer ≡ 262144 = ap length lent-is ∙ length-replicate {A = ℕ} 262144 238 in
+      let k : length out ≡ n = ap length (v .out-is) ∙ same-long (take n buffer) ∙ length-take-le n buffer (omega arith) in
+      omega (arith, length-append out (drop n buffer), length-drop n buffer)
+
+-- that of a table
 module _ (t n : ℕ) (b : Box) {buffer : Bytes} {done : Wrote} {out : Bytes} (lent-is : buffer ≡ lent 262144) (small : n < 262145) (v : WroteAs (captureImage t b (take n buffer)) done out) where
   pub capture-shown : ShownTold (told (Call.Capture t) n b) b (record { answer = done .answer; count = done .count; len = n }) (out ++ drop n buffer)
   unfolding told
-  capture-shown =
-      let e : take n buffer ≡ lent n = ap (take n) lent-is ∙ front n 262144 238 (omega arith) in
-      front-shown (captureImage t b (lent n)) b n buffer (subst (λ (x : Bytes). WroteAs (captureImage t b x) done out) e v) (captured-long t b (lent n) ∙ length-replicate {A = ℕ} n 238)
+  capture-shown = image-shown (captureImage t b) (captured-long t b) n b lent-is small v
 
   pub capture-room : length (out ++ drop n buffer) ≤ 262144
-  capture-room =
-      let l : length buffer ≡ 262144 = ap length lent-is ∙ length-replicate {A = ℕ} 262144 238 in
-      let k : length out ≡ n = ap length (v .out-is) ∙ captured-long t b (take n buffer) ∙ length-take-le n buffer (omega arith) in
-      omega (arith, length-append out (drop n buffer), length-drop n buffer)
+  capture-room = image-room (captureImage t b) (captured-long t b) n b lent-is small v
 
 pub fits-long : (n : ℕ) → n < 262145 → n ≤ length (lent 262144)
 fits-long n h = omega (arith, length-replicate {A = ℕ} 262144 238)

@@ -15,7 +15,7 @@ use Rattle.rules.specs.Intent.{intentAt}
 use Rattle.traces.specs.declared.args.Args.{Args}
 use Rattle.traces.specs.declared.op.ShowOp.{ShowOp}
 use Rattle.traces.specs.declared.op.Op.{Op}
-use Rattle.traces.specs.Ops.{isCapture}
+use Rattle.traces.specs.Ops.{isLong}
 use Rattle.traces.specs.Places.{bufferBelow}
 use Rattle.traces.specs.Args.{callAs}
 use Rattle.traces.specs.Payloads.{readPayload, intentPayload}
@@ -25,27 +25,36 @@ use Rattle.store.specs.declared.table.Store.{Store}
 use Rattle.store.specs.View.{boxOf}
 use Rattle.store.specs.Made.{Made}
 use Rattle.showing.specs.Told.{Told, told, toldBytes, Writes}
-use Rattle.showing.specs.Ran.{RanAs, ShownReply, ShownTold, longest}
+use Rattle.showing.specs.Ran.{RanAs, ShownAs, ShownReply, ShownTold, longest}
 use Rattle.showing.specs.declared.ran.Shown.{Shown}
 use Rattle.showing.proofs.TellLaws.{written, written-count}
 
--- what is shown, once it is told, is what running the call promises
+-- what is shown is told
+pub told-as : {a : Answer} {count : ℕ} {payload : Bytes} {r : Shown} {buffer out out′ : Bytes} {n : ℕ} → ShownAs a count payload r buffer → Writes (answerBytes (r .answer) (r .count) (take (r .len) buffer)) out n out′
+    → Writes (answerBytes a count payload) out n out′
+told-as {a} {count} {r = r} {buffer = buffer} {out = out} {out′ = out′} {n = n} p w =
+    let x : Writes (answerBytes a (r .count) (take (r .len) buffer)) out n out′ = subst (λ (x : Answer). Writes (answerBytes x (r .count) (take (r .len) buffer)) out n out′) (p .answer-is) w in
+    let y : Writes (answerBytes a count (take (r .len) buffer)) out n out′ = subst (λ (x : ℕ). Writes (answerBytes a x (take (r .len) buffer)) out n out′) (p .count-is) x in
+    subst (λ (x : Bytes). Writes (answerBytes a count x) out n out′) (p .payload-is) y
+
+-- what is told, with the store after it, is what running the call promises
+pub ran-told : (t : Told) {st : Store} {area out out′ : Bytes} {n : ℕ} → Made st area → boxOf st area ≡ t .box → length (t .payload) ≤ 262144 → longest ≤ length out → Writes (toldBytes t) out n out′ → RanAs t out (record { store = st; len = n }) area out′
+ran-told t {out = out} m e short length-is w =
+    let h : length (toldBytes t) ≤ length out = omega (arith, length-answer (number (t .answer)) (holder (t .answer)) (t .count) (t .payload)) in
+    record { made = m; shown = e; put = written h w; within = omega (arith, written-count h w) }
+
+-- what is shown, once it is told
 pub showed : (t : Told) {st : Store} {area : Bytes} {r : Shown} {buffer out out′ : Bytes} {n : ℕ} → Made st area → ShownTold t (boxOf st area) r buffer → length buffer ≤ 262144 → longest ≤ length out → Writes (answerBytes (r .answer) (r .count) (take (r .len) buffer)) out n out′
     → RanAs t out (record { store = st; len = n }) area out′
-showed t {r = r} {buffer = buffer} {out = out} {out′ = out′} {n = n} m v short length-is w =
+showed t {r = r} {buffer = buffer} m v short length-is w =
     let p = v .told in
-    let a : Writes (answerBytes (t .answer) (r .count) (take (r .len) buffer)) out n out′ = subst (λ (x : Answer). Writes (answerBytes x (r .count) (take (r .len) buffer)) out n out′) (p .answer-is) w in
-    let c : Writes (answerBytes (t .answer) (t .count) (take (r .len) buffer)) out n out′ = subst (λ (x : ℕ). Writes (answerBytes (t .answer) x (take (r .len) buffer)) out n out′) (p .count-is) a in
-    let u : Writes (toldBytes t) out n out′ = subst (λ (x : Bytes). Writes (answerBytes (t .answer) (t .count) x) out n out′) (p .payload-is) c in
-    let g : length (t .payload) ≤ 262144 = omega (arith, ap length (p .payload-is), length-take-le (r .len) buffer (p .within), p .within) in
-    let h : length (toldBytes t) ≤ length out = omega (arith, length-answer (number (t .answer)) (holder (t .answer)) (t .count) (t .payload)) in
-    record { made = m; shown = v .box-is; put = written h u; within = omega (arith, written-count h u) }
+    ran-told t m (v .box-is) (omega (arith, ap length (p .payload-is), length-take-le (r .len) buffer (p .within), p .within)) length-is (told-as p w)
 
 -- ---- by the op
 
 -- the buffer of a call that shows something has a 2-byte length
-pub shown-small : (a : Args) {op : ShowOp} → a .op ≡ Op.Shows op → a .buffer < bufferBelow (isCapture (a .op)) → a .buffer < 65536
-shown-small a e h = subst (λ (x : Op). a .buffer < bufferBelow (isCapture x)) e h
+pub shown-small : (a : Args) {op : ShowOp} → a .op ≡ Op.Shows op → a .buffer < bufferBelow (isLong (a .op)) → a .buffer < 65536
+shown-small a e h = subst (λ (x : Op). a .buffer < bufferBelow (isLong x)) e h
 
 -- a call of this op, shown
 pub by-show : (s : Bytes) (a : Args) (b : Box) (o op : ShowOp) {r : Shown} {buffer : Bytes} → o ≡ op → ShownTold (told (callAs (Op.Shows op) s a) (a .buffer) b) b r buffer → ShownTold (told (callAs (Op.Shows o) s a) (a .buffer) b) b r buffer

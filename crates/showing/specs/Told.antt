@@ -14,6 +14,8 @@ use Rattle.rules.specs.Read.{examine}
 use Rattle.rules.specs.Intent.{intentAt}
 use Rattle.rules.specs.Written.{Written, scanPage, scanIntentPage, scanConflictingIntents}
 use Rattle.rules.specs.Capture.{captureImage}
+use Rattle.rules.specs.Bones.{Due, boneShown, bonesShown}
+use Rattle.rules.specs.Convert.{convertImage}
 use Rattle.rules.specs.Prewrite.{prewriteBatch}
 use Rattle.rules.specs.Commit.{commitBatch}
 use Rattle.rules.specs.Rollback.{rollbackBatch}
@@ -23,7 +25,7 @@ use Rattle.rules.specs.Figures.{stats, marks}
 use Rattle.rules.specs.Call.{Changing, Call}
 use Rattle.traces.specs.Calls.{TraceCall}
 use Rattle.traces.specs.Put as put
-use Rattle.traces.specs.Payloads.{readPayload, intentPayload, statsPayload, marksPayload}
+use Rattle.traces.specs.Payloads.{readPayload, intentPayload, bonePayload, bonesPayload, statsPayload, marksPayload}
 use Rattle.traces.specs.Answers.{answerBytes, notInForm}
 
 -- an answer, with its number and holder, a count and a payload; and the box after the call
@@ -41,6 +43,10 @@ toldBytes t = answerBytes (t .answer) (t .count) (t .payload)
 abbrev pub showing : Answer → Bytes → Box → Told
 showing a payload b = record { answer = a; count = 0; payload = payload; box = b }
 
+-- what a question about a row tells: its answer, and what it shows
+abbrev pub asking : {A : Type 0} → (A → Bytes) → Due A → Box → Told
+asking payload d b = showing (d .answer) (payload (d .shown)) b
+
 -- what a reply tells: its answer, a count, and what it shows
 abbrev pub replying : {A : Type 0} → (Reply A → Bytes) → ℕ → Reply A → Box → Told
 replying payload count r b = record { answer = answerOf r; count = count; payload = payload r; box = b }
@@ -57,7 +63,7 @@ counting d = record { answer = d .done .answer; count = d .count; payload = []; 
 abbrev pub lent : ℕ → Bytes
 lent n = replicate n 238
 
--- "Count: .. the bytes written for an accepted page of any kind, or for the image"; "Payload of a page of any kind, or of the image: the whole
+-- "Count: .. the bytes written for an accepted page of any kind, or for an image"; "Payload of a page of any kind, or of an image: the whole
 -- lent buffer as it stands after the call, refused or not"
 abbrev pub paging : Written → Box → Told
 paging w b = record { answer = w .answer; count = w .count; payload = w .buffer; box = b }
@@ -81,6 +87,9 @@ told (Call.Restore s) n b = changing (restore s b)
 told Call.Statistics n b = showing Accepted (statsPayload (stats b)) b
 told Call.Marks n b = showing Accepted (marksPayload (marks b)) b
 told (Call.Capture t) n b = paging (captureImage t b (lent n)) b
+told (Call.Bone r k) n b = asking bonePayload (boneShown r k) b
+told (Call.Bones r) n b = asking bonesPayload (bonesShown r) b
+told (Call.Convert s) n b = paging (convertImage s (lent n)) b
 
 abbrev pub toldIn : TraceCall → Box → Told
 toldIn c b = told (c .call) (c .buffer) b

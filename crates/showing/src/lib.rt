@@ -13,4 +13,5 @@ pub use capturing::run_capture;
 pub use parts::part;
 pub use ran::Ran;
 pub use shows::run_shown;
+pub use telling::tell;
 pub use telling::tell_plain;

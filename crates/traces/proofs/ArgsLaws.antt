@@ -19,6 +19,7 @@ use Rattle.rules.specs.declared.records.Kind.{Kind}
 use Rattle.rules.specs.declared.records.Kind.the-variants.{Delete}
 use Rattle.traces.specs.declared.op.ShowOp.{ShowOp}
 use Rattle.traces.specs.declared.op.ChangeOp.{ChangeOp}
+use Rattle.traces.specs.declared.op.AskOp.{AskOp}
 use Rattle.traces.specs.declared.op.Op.{Op}
 use Rattle.traces.specs.declared.shape.Shape.{Shape}
 use Rattle.traces.specs.declared.args.Args.{Args}
@@ -27,7 +28,7 @@ use Rattle.traces.specs.declared.argument.Text.{Text}
 use Rattle.traces.specs.declared.groups.Numbers.{Numbers}
 use Rattle.traces.specs.declared.groups.Texts.{Texts}
 use Rattle.traces.specs.declared.groups.Bounds.{Bounds}
-use Rattle.traces.specs.Ops.{knownOp, opOf, isCapture}
+use Rattle.traces.specs.Ops.{knownOp, opOf, isLong}
 use Rattle.traces.specs.Arguments.{number, kind, text, bound, remaining}
 use Rattle.traces.specs.Calls as calls
 use Rattle.traces.specs.Calls.{TraceCall, lending, call}
@@ -50,8 +51,8 @@ pub record Walked (s : Bytes) (w : Shape) (ok : Bool) (x : TraceCall) (end : ℕ
   pub is : shaped w (drop 1 s) ≡ goOn (just x) s ok end
   pub within : end ≤ length s
 
-module _ {s : Bytes} (w : Shape) {capture : Bool} (is-capture : capture ≡ isCapture (w .op))
-    {ok1 : Bool} {a n1 : ℕ} (v1 : Goes (ltb 0 (w .numbers)) (numberOf (firstWidth capture)) 0 s true 1 ok1 a n1)
+module _ {s : Bytes} (w : Shape) {long : Bool} (is-long : long ≡ isLong (w .op))
+    {ok1 : Bool} {a n1 : ℕ} (v1 : Goes (ltb 0 (w .numbers)) (numberOf (firstWidth long)) 0 s true 1 ok1 a n1)
     {ok2 : Bool} {b n2 : ℕ} (v2 : Goes (ltb 1 (w .numbers)) number 0 s ok1 n1 ok2 b n2)
     {ok3 : Bool} {c n3 : ℕ} (v3 : Goes (ltb 2 (w .numbers)) number 0 s ok2 n2 ok3 c n3)
     {ok4 : Bool} {d : Kind} {n4 : ℕ} (v4 : Goes (w .kind) kind Delete s ok3 n3 ok4 d n4)
@@ -61,13 +62,13 @@ module _ {s : Bytes} (w : Shape) {capture : Bool} (is-capture : capture ≡ isCa
     {ok8 : Bool} {f : Option Key} {n8 : ℕ} (v8 : Goes (w .page) bound none s ok7 n7 ok8 f n8)
     {ok9 : Bool} {t : Option Key} {n9 : ℕ} (v9 : Goes (w .page) bound none s ok8 n8 ok9 t n9)
     {oka : Bool} {u : Option Key} {na : ℕ} (va : Goes (w .page) bound none s ok9 n9 oka u na)
-    {okb : Bool} {n nb : ℕ} (vb : Goes true (bufferBy capture (w .page)) 0 s oka na okb n nb)
+    {okb : Bool} {n nb : ℕ} (vb : Goes true (bufferBy long (w .page)) 0 s oka na okb n nb)
     {ok : Bool} {m : Bytes} {end : ℕ} (vc : Goes (w .rest) remaining [] s okb nb ok m end) where
   pub walked : Walked s w ok (lending n (callBy (w .op) a b c d p k r f t u m)) end
   unfolding shaped
   walked =
-      let x1 : Goes (ltb 0 (w .numbers)) (numberOf (firstWidth (isCapture (w .op)))) 0 s true 1 ok1 a n1 = subst (λ (x : Bool). Goes (ltb 0 (w .numbers)) (numberOf (firstWidth x)) 0 s true 1 ok1 a n1) is-capture v1 in
-      let xb : Goes true (bufferBy (isCapture (w .op)) (w .page)) 0 s oka na okb n nb = subst (λ (x : Bool). Goes true (bufferBy x (w .page)) 0 s oka na okb n nb) is-capture vb in
+      let x1 : Goes (ltb 0 (w .numbers)) (numberOf (firstWidth (isLong (w .op)))) 0 s true 1 ok1 a n1 = subst (λ (x : Bool). Goes (ltb 0 (w .numbers)) (numberOf (firstWidth x)) 0 s true 1 ok1 a n1) is-long v1 in
+      let xb : Goes true (bufferBy (isLong (w .op)) (w .page)) 0 s oka na okb n nb = subst (λ (x : Bool). Goes true (bufferBy x (w .page)) 0 s oka na okb n nb) is-long vb in
       record { within = vc .within; is = next x1 _ (next v2 _ (next v3 _ (next v4 _ (next v5 _ (next v6 _ (next v7 _ (next v8 _ (next v9 _ (next va _ (next xb _ (next vc _ refl))))))))))) }
 
 -- ---- to the end of the call
@@ -97,15 +98,15 @@ unfolding whole ended just
 args-end {s} {ok = true} {x = x} {end = end} v = ap ended (v .is) ∙ ended-at x s end (v .within)
 args-end {ok = false} v = ap ended (v .is)
 
-module _ {s : Bytes} (w : Shape) {capture : Bool} (is-capture : capture ≡ isCapture (w .op))
-    {n : Numbers} (vn : NumbersAt capture (w .numbers) s n)
+module _ {s : Bytes} (w : Shape) {long : Bool} (is-long : long ≡ isLong (w .op))
+    {n : Numbers} (vn : NumbersAt long (w .numbers) s n)
     {t : Texts} (vt : TextsAt (w .kind) (w .primary) (w .key) (w .row) s (n .third .ok) (n .third .next) t)
     {b : Bounds} (vb : BoundsAt (w .page) s (t .row .ok) (t .row .next) b)
-    {buffer : Value} (vl : BufferAt capture (w .page) s (b .resume .ok) (b .resume .next) buffer)
+    {buffer : Value} (vl : BufferAt long (w .page) s (b .resume .ok) (b .resume .next) buffer)
     {rest : Text} (vr : TextAt (w .rest) remaining s (buffer .ok) (buffer .next) rest) where
   pub args-all : {ok : Bool} → ok ≡ endsCall s rest → ArgsFor s w (argsRead ok (w .op) n t b (buffer .value) rest)
   args-all {ok} e = record {
-    is = args-end (walked w is-capture (vn .first .goes) (vn .second .goes) (vn .third .goes) (vt .kind) (vt .primary .goes) (vt .key .goes) (vt .row .goes) (vb .from .goes) (vb .to .goes) (vb .resume .goes) (vl .goes) (vr .goes)) ∙ ap (λ (f : Bool). when f (callOf s (argsRead ok (w .op) n t b (buffer .value) rest))) (sym e);
+    is = args-end (walked w is-long (vn .first .goes) (vn .second .goes) (vn .third .goes) (vt .kind) (vt .primary .goes) (vt .key .goes) (vt .row .goes) (vb .from .goes) (vb .to .goes) (vb .resume .goes) (vl .goes) (vr .goes)) ∙ ap (λ (f : Bool). when f (callOf s (argsRead ok (w .op) n t b (buffer .value) rest))) (sym e);
     places = record {
       primary = vt .primary .within;
       key = vt .key .within;
@@ -114,8 +115,8 @@ module _ {s : Bytes} (w : Shape) {capture : Bool} (is-capture : capture ≡ isCa
       to = vb .to .within;
       resume = vb .resume .within;
       rest = vr .within;
-      first = subst (λ (x : Bool). n .first .value < 256 ^ firstWidth x) is-capture (vn .first .small);
-      buffer = subst (λ (x : Bool). buffer .value < bufferBelow x) is-capture (vl .small);
+      first = subst (λ (x : Bool). n .first .value < 256 ^ firstWidth x) is-long (vn .first .small);
+      buffer = subst (λ (x : Bool). buffer .value < bufferBelow x) is-long (vl .small);
     };
   }
 
@@ -136,7 +137,7 @@ no-places s = record {
 
 -- the arguments of a call are those that its shape names
 ops-shaped : (op : Op) (t : Bytes) → shaped (shapeOf op) t ≡ calls.argumentsOf op t
-unfolding shaped calls.argumentsOf _>>=_ readOn just calls.readArguments calls.pageArguments calls.intentPageArguments calls.conflictingIntentsArguments calls.oneIntentArguments calls.prewriteArguments calls.prewriteBatchArguments calls.commitArguments calls.commitBatchArguments calls.rollbackArguments calls.rollbackBatchArguments calls.oneStepArguments calls.restoreArguments calls.statisticsArguments calls.marksArguments calls.captureArguments
+unfolding shaped calls.argumentsOf _>>=_ readOn just calls.readArguments calls.pageArguments calls.intentPageArguments calls.conflictingIntentsArguments calls.oneIntentArguments calls.prewriteArguments calls.prewriteBatchArguments calls.commitArguments calls.commitBatchArguments calls.rollbackArguments calls.rollbackBatchArguments calls.oneStepArguments calls.restoreArguments calls.statisticsArguments calls.marksArguments calls.captureArguments calls.boneArguments calls.bonesArguments calls.convertArguments
 ops-shaped (Op.Shows ShowOp.Read) t = refl
 ops-shaped (Op.Shows ShowOp.Page) t = refl
 ops-shaped (Op.Shows ShowOp.IntentPage) t = refl
@@ -149,10 +150,13 @@ ops-shaped (Op.Changes ChangeOp.CommitBatch) t = refl
 ops-shaped (Op.Changes ChangeOp.Rollback) t = refl
 ops-shaped (Op.Changes ChangeOp.RollbackBatch) t = refl
 ops-shaped Op.OneStep t = refl
+ops-shaped (Op.Asks AskOp.Bone) t = refl
+ops-shaped (Op.Asks AskOp.Bones) t = refl
 ops-shaped (Op.Changes ChangeOp.Restore) t = refl
 ops-shaped (Op.Shows ShowOp.Statistics) t = refl
 ops-shaped (Op.Shows ShowOp.Marks) t = refl
 ops-shaped Op.Capture t = refl
+ops-shaped Op.Convert t = refl
 
 begin : (s : Bytes) → 0 < length s → calls.callFrom s ≡ calls.ofOp (knownOp (getD s 0 0)) (opOf (getD s 0 0)) (drop 1 s)
 unfolding calls.callFrom _>>=_ readOn
@@ -189,10 +193,13 @@ module _ {s : Bytes} where
           good (Op.Changes ChangeOp.Rollback) = refl
           good (Op.Changes ChangeOp.RollbackBatch) = refl
           good Op.OneStep = refl
+          good (Op.Asks AskOp.Bone) = refl
+          good (Op.Asks AskOp.Bones) = refl
           good (Op.Changes ChangeOp.Restore) = refl
           good (Op.Shows ShowOp.Statistics) = refl
           good (Op.Shows ShowOp.Marks) = refl
           good Op.Capture = refl
+          good Op.Convert = refl
 
           go : (o : Option Op) → opOf (getD s 0 0) ≡ o → calls.ofOp true o (drop 1 s) ≡ none
           go none p = refl

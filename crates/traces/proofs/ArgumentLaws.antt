@@ -69,7 +69,7 @@ number-in w v good = omega (arith, number-long v good, width-some w)
 -- ---- `first_from` and `buffer_from`
 
 -- whether the call writes the image is known
-pub first-by : {capture : Bool} (b : Bool) {wanted : Bool} {s : Bytes} {r : Value} → capture ≡ b → ValueAt wanted (firstWidth b) s true 1 r → ValueAt wanted (firstWidth capture) s true 1 r
+pub first-by : {long : Bool} (b : Bool) {wanted : Bool} {s : Bytes} {r : Value} → long ≡ b → ValueAt wanted (firstWidth b) s true 1 r → ValueAt wanted (firstWidth long) s true 1 r
 first-by b {wanted} {s} {r} e v = subst (λ (x : Bool). ValueAt wanted (firstWidth x) s true 1 r) (sym e) v
 
 long-over : {s : Bytes} {before : Bool} {at : ℕ} {ok : Bool} {n next : ℕ} → Goes true (numberOf 4) 0 s before at ok n next → 262144 < n → Goes true longBuffer 0 s before at false 0 0
@@ -84,15 +84,15 @@ long-fits {before = false} v h = record { is = v .is; within = v .within }
 long-fits {before = true} {ok = true} {n = n} v h = record { is = after (λ m. longIf (leb m 262144) m) (v .is) ∙ rw (le-leb n 262144 h); within = v .within }
 long-fits {before = true} {ok = false} v h = record { is = after (λ m. longIf (leb m 262144) m) (v .is); within = v .within }
 
-module _ {capture page : Bool} {s : Bytes} {before : Bool} {at : ℕ} {r : Value} where
-  pub buffer-short : capture ≡ false → ValueAt page 2 s before at r → BufferAt capture page s before at r
+module _ {long page : Bool} {s : Bytes} {before : Bool} {at : ℕ} {r : Value} where
+  pub buffer-short : long ≡ false → ValueAt page 2 s before at r → BufferAt long page s before at r
   buffer-short e v = subst (λ (b : Bool). BufferAt b page s before at r) (sym e) (record { goes = record { is = v .goes .is; within = v .goes .within }; small = v .small })
 
-  module _ (e : capture ≡ true) (v : ValueAt true 4 s before at r) where
-    pub buffer-over : 262144 < r .value → BufferAt capture page s before at (noValue false 0)
+  module _ (e : long ≡ true) (v : ValueAt true 4 s before at r) where
+    pub buffer-over : 262144 < r .value → BufferAt long page s before at (noValue false 0)
     buffer-over h = subst (λ (b : Bool). BufferAt b page s before at (noValue false 0)) (sym e) (record { goes = long-over (v .goes) h; small = omega arith })
 
-    pub buffer-long : r .value ≤ 262144 → BufferAt capture page s before at r
+    pub buffer-long : r .value ≤ 262144 → BufferAt long page s before at r
     buffer-long h = subst (λ (b : Bool). BufferAt b page s before at r) (sym e) (record { goes = long-fits (v .goes) h; small = omega arith })
 
 -- ---- `kind_from`

@@ -17,6 +17,7 @@ use Rattle.rules.specs.declared.records.Kind.the-variants.{Delete}
 use Rattle.rules.specs.Call.{Changing, Call}
 use Rattle.traces.specs.declared.op.ShowOp.{ShowOp}
 use Rattle.traces.specs.declared.op.ChangeOp.{ChangeOp}
+use Rattle.traces.specs.declared.op.AskOp.{AskOp}
 use Rattle.traces.specs.declared.op.Op.{Op}
 use Rattle.traces.specs.declared.shape.Shape.{Shape}
 use Rattle.traces.specs.declared.args.Args.{Args}
@@ -24,7 +25,7 @@ use Rattle.traces.specs.declared.argument.Text.{Text}
 use Rattle.traces.specs.declared.groups.Numbers.{Numbers}
 use Rattle.traces.specs.declared.groups.Texts.{Texts}
 use Rattle.traces.specs.declared.groups.Bounds.{Bounds}
-use Rattle.traces.specs.Ops.{isCapture}
+use Rattle.traces.specs.Ops.{isLong}
 use Rattle.traces.specs.Arguments.{number, kind, text, bound, remaining}
 use Rattle.traces.specs.Calls.{TraceCall, lending, oneEntry, call}
 use Rattle.traces.specs.Places.{given, firstWidth, bufferBy, bufferBelow, kindOf, noValue, noFlag, noText, noBound}
@@ -43,15 +44,18 @@ callBy (Op.Changes ChangeOp.CommitBatch) a b c d p k r f t u s = Call.Change (Ch
 callBy (Op.Changes ChangeOp.Rollback) a b c d p k r f t u s = Call.Change (Changing.Rollback a b (oneKey k))
 callBy (Op.Changes ChangeOp.RollbackBatch) a b c d p k r f t u s = Call.Change (Changing.Rollback a b s)
 callBy Op.OneStep a b c d p k r f t u s = Call.Change (Changing.OneStep (record { txn = a; start = b; commit = c }) s)
+callBy (Op.Asks AskOp.Bone) a b c d p k r f t u s = Call.Bone r a
+callBy (Op.Asks AskOp.Bones) a b c d p k r f t u s = Call.Bones r
 callBy (Op.Changes ChangeOp.Restore) a b c d p k r f t u s = Call.Restore s
 callBy (Op.Shows ShowOp.Statistics) a b c d p k r f t u s = Call.Statistics
 callBy (Op.Shows ShowOp.Marks) a b c d p k r f t u s = Call.Marks
 callBy Op.Capture a b c d p k r f t u s = Call.Capture a
+callBy Op.Convert a b c d p k r f t u s = Call.Convert s
 
 -- the arguments that a shape names, in their order
 unfoldable pub shaped : Shape → Reader TraceCall
 shaped w = do
-  a ← given (ltb 0 (w .numbers)) (numberOf (firstWidth (isCapture (w .op)))) 0
+  a ← given (ltb 0 (w .numbers)) (numberOf (firstWidth (isLong (w .op)))) 0
   b ← given (ltb 1 (w .numbers)) number 0
   c ← given (ltb 2 (w .numbers)) number 0
   d ← given (w .kind) kind Delete
@@ -61,7 +65,7 @@ shaped w = do
   f ← given (w .page) bound none
   t ← given (w .page) bound none
   u ← given (w .page) bound none
-  n ← bufferBy (isCapture (w .op)) (w .page)
+  n ← bufferBy (isLong (w .op)) (w .page)
   s ← given (w .rest) remaining []
   just (lending n (callBy (w .op) a b c d p k r f t u s))
 
@@ -94,8 +98,8 @@ pub record ArgsIn (s : Bytes) (a : Args) : Type 0 where
   pub to : a .toat + a .tolen ≤ length s
   pub resume : a .resumeat + a .resumelen ≤ length s
   pub rest : a .restat + a .restlen ≤ length s
-  pub first : a .first < 256 ^ firstWidth (isCapture (a .op))
-  pub buffer : a .buffer < bufferBelow (isCapture (a .op))
+  pub first : a .first < 256 ^ firstWidth (isLong (a .op))
+  pub buffer : a .buffer < bufferBelow (isLong (a .op))
 
 pub record ArgsFor (s : Bytes) (w : Shape) (r : Args) : Type 0 where
   pub is : whole (shaped w) (drop 1 s) ≡ when (r .ok) (callOf s r)

@@ -13,6 +13,7 @@ use Rattle.rules.specs.declared.records.Kind.the-variants.{Put, Delete, Rollbac
 use Rattle.rules.specs.Call.{Changing, Call}
 use Rattle.traces.specs.declared.op.ShowOp.{ShowOp}
 use Rattle.traces.specs.declared.op.ChangeOp.{ChangeOp}
+use Rattle.traces.specs.declared.op.AskOp.{AskOp}
 use Rattle.traces.specs.declared.op.Op.{Op}
 use Rattle.traces.specs.Ops.{knownOp, opOf}
 use Rattle.traces.specs.Arguments.{number, kind, text, bound, buffer, table, longBuffer, remaining}
@@ -151,6 +152,19 @@ oneStepArguments = do
   b ← remaining
   just (lentNone (Call.Change (Changing.OneStep (record { txn = t; start = s; commit = c }) b)))
 
+-- "17 | is bone n shown | bone number, row"
+unfoldable pub boneArguments : Reader TraceCall
+boneArguments = do
+  n ← number
+  r ← text
+  just (lentNone (Call.Bone r n))
+
+-- "18 | how many bones are shown | row"
+unfoldable pub bonesArguments : Reader TraceCall
+bonesArguments = do
+  r ← text
+  just (lentNone (Call.Bones r))
+
 -- "32 | restore | image"
 unfoldable pub restoreArguments : Reader TraceCall
 restoreArguments = do
@@ -172,6 +186,13 @@ captureArguments = do
   n ← longBuffer
   just (lending n (Call.Capture t))
 
+-- "36 | convert an old image | long buffer, image"
+unfoldable pub convertArguments : Reader TraceCall
+convertArguments = do
+  n ← longBuffer
+  i ← remaining
+  just (lending n (Call.Convert i))
+
 unfoldable pub argumentsOf : Op → Reader TraceCall
 argumentsOf (Op.Shows ShowOp.Read) = readArguments
 argumentsOf (Op.Shows ShowOp.Page) = pageArguments
@@ -185,10 +206,13 @@ argumentsOf (Op.Changes ChangeOp.CommitBatch) = commitBatchArguments
 argumentsOf (Op.Changes ChangeOp.Rollback) = rollbackArguments
 argumentsOf (Op.Changes ChangeOp.RollbackBatch) = rollbackBatchArguments
 argumentsOf Op.OneStep = oneStepArguments
+argumentsOf (Op.Asks AskOp.Bone) = boneArguments
+argumentsOf (Op.Asks AskOp.Bones) = bonesArguments
 argumentsOf (Op.Changes ChangeOp.Restore) = restoreArguments
 argumentsOf (Op.Shows ShowOp.Statistics) = statisticsArguments
 argumentsOf (Op.Shows ShowOp.Marks) = marksArguments
 argumentsOf Op.Capture = captureArguments
+argumentsOf Op.Convert = convertArguments
 
 -- the arguments of a known op; "Not in form: .. an unknown op"
 unfoldable pub ofOp : Bool → Option Op → Reader TraceCall

@@ -7,6 +7,7 @@ use mathlib.Core.Option.{Option, none, some}
 use lib.Dec.{eqb}
 use Rattle.traces.specs.declared.op.ShowOp.{ShowOp}
 use Rattle.traces.specs.declared.op.ChangeOp.{ChangeOp}
+use Rattle.traces.specs.declared.op.AskOp.{AskOp}
 use Rattle.traces.specs.declared.op.Op.{Op}
 
 abbrev pub knownOps : List ℕ
@@ -23,10 +24,13 @@ knownOps =
     10 ∷  -- rollback
     11 ∷  -- rollback of a key batch
     12 ∷  -- one-step batch
+    17 ∷  -- is bone n shown
+    18 ∷  -- how many bones are shown
     32 ∷  -- restore
     33 ∷  -- statistics
     34 ∷  -- high-water marks
     35 ∷  -- write the image
+    36 ∷  -- convert an old image
     []
 
 unfoldable pub isIn : ℕ → List ℕ → Bool
@@ -57,16 +61,21 @@ opOf b =
     eqb b 10 ⇒ Op.Changes ChangeOp.Rollback else
     eqb b 11 ⇒ Op.Changes ChangeOp.RollbackBatch else
     eqb b 12 ⇒ Op.OneStep else
+    eqb b 17 ⇒ Op.Asks AskOp.Bone else
+    eqb b 18 ⇒ Op.Asks AskOp.Bones else
     eqb b 32 ⇒ Op.Changes ChangeOp.Restore else
     eqb b 33 ⇒ Op.Shows ShowOp.Statistics else
     eqb b 34 ⇒ Op.Shows ShowOp.Marks else
     eqb b 35 ⇒ Op.Capture else
+    eqb b 36 ⇒ Op.Convert else
     none
 
--- ---- the call that writes the image
+-- ---- the calls that have a long buffer
 
-abbrev pub isCapture : Op → Bool
-isCapture (Op.Shows op) = false
-isCapture (Op.Changes op) = false
-isCapture Op.OneStep = false
-isCapture Op.Capture = true
+abbrev pub isLong : Op → Bool
+isLong (Op.Shows op) = false
+isLong (Op.Changes op) = false
+isLong Op.OneStep = false
+isLong (Op.Asks op) = false
+isLong Op.Capture = true
+isLong Op.Convert = true

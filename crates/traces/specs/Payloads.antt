@@ -1,6 +1,7 @@
 -- docs/TRACE.md, "Answers": the payload of each call that has one.
 -- Assumes nothing.
 use Prim.Native.Nat.{ℕ}
+use mathlib.Core.Bool.{Bool, true, false}
 use mathlib.Core.List.{List, [], _∷_}
 use Rattle.forms.specs.Bytes.{Bytes}
 use Rattle.forms.specs.Numbers.{digits}
@@ -36,6 +37,15 @@ unfoldable pub intentPayload : Reply Lock → Bytes
 intentPayload nothing = nothingPayload
 intentPayload (shown l) = lockPayload (l .txn) (l .primary) (l .start) (l .ttl) (l .kind)
 intentPayload (refused a) = nothingPayload
+
+-- "one byte, 1 if shown, else 0; 0 on a refusal"
+abbrev pub bonePayload : Bool → Bytes
+bonePayload true = 1 ∷ []
+bonePayload false = 0 ∷ []
+
+-- "one byte, how many; 0 on a refusal"
+abbrev pub bonesPayload : ℕ → Bytes
+bonesPayload n = n ∷ []
 
 -- numbers of 8 bytes, one after the other
 abbrev pub numbersBytes : List ℕ → Bytes

@@ -47,22 +47,22 @@ abbrev pub noValue : Bool → ℕ → Value
 noValue ok next = record { ok = ok; value = 0; next = next }
 
 -- the first number of a call, or the table of the image that it writes
-abbrev pub firstWidth : (capture : Bool) → ℕ
+abbrev pub firstWidth : (long : Bool) → ℕ
 firstWidth true = 4
 firstWidth false = 8
 
 -- the buffer of the image that a call writes, or of its page if it has one
-abbrev pub bufferBy : (capture page : Bool) → Reader ℕ
+abbrev pub bufferBy : (long page : Bool) → Reader ℕ
 bufferBy true page = longBuffer
 bufferBy false page = given page buffer 0
 
-abbrev pub bufferBelow : (capture : Bool) → ℕ
+abbrev pub bufferBelow : (long : Bool) → ℕ
 bufferBelow true = 262145
 bufferBelow false = 65536
 
-pub record BufferAt (capture page : Bool) (s : Bytes) (before : Bool) (at : ℕ) (r : Value) : Type 0 where
-  pub goes : Goes true (bufferBy capture page) 0 s before at (r .ok) (r .value) (r .next)
-  pub small : r .value < bufferBelow capture
+pub record BufferAt (long page : Bool) (s : Bytes) (before : Bool) (at : ℕ) (r : Value) : Type 0 where
+  pub goes : Goes true (bufferBy long page) 0 s before at (r .ok) (r .value) (r .next)
+  pub small : r .value < bufferBelow long
 
 abbrev pub kindOf : Bool → Kind
 kindOf true = Put
@@ -87,8 +87,8 @@ noBound ok next = record { ok = ok; present = false; at = 0; len = 0; next = nex
 
 -- ---- several arguments, each where the one before it ended
 
-pub record NumbersAt (capture : Bool) (count : ℕ) (s : Bytes) (r : Numbers) : Type 0 where
-  pub first : ValueAt (ltb 0 count) (firstWidth capture) s true 1 (r .first)
+pub record NumbersAt (long : Bool) (count : ℕ) (s : Bytes) (r : Numbers) : Type 0 where
+  pub first : ValueAt (ltb 0 count) (firstWidth long) s true 1 (r .first)
   pub second : ValueAt (ltb 1 count) 8 s (r .first .ok) (r .first .next) (r .second)
   pub third : ValueAt (ltb 2 count) 8 s (r .second .ok) (r .second .next) (r .third)
 

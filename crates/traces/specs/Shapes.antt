@@ -5,6 +5,7 @@ use mathlib.Core.Bool.{Bool, true, false}
 use mathlib.Core.Option.{Option, none, some}
 use Rattle.traces.specs.declared.op.ShowOp.{ShowOp}
 use Rattle.traces.specs.declared.op.ChangeOp.{ChangeOp}
+use Rattle.traces.specs.declared.op.AskOp.{AskOp}
 use Rattle.traces.specs.declared.op.Op.{Op}
 use Rattle.traces.specs.declared.shape.Shape.{Shape}
 
@@ -16,6 +17,9 @@ withKey op n prewrite = record { ok = true; op = op; numbers = n; kind = prewrit
 
 abbrev pub withNumbers : Op → ℕ → Shape
 withNumbers op n = record { ok = true; op = op; numbers = n; kind = false; primary = false; key = false; row = false; page = false; rest = false }
+
+abbrev pub withRow : Op → ℕ → Shape
+withRow op n = record { ok = true; op = op; numbers = n; kind = false; primary = false; key = false; row = true; page = false; rest = false }
 
 abbrev pub withPage : Op → ℕ → Shape
 withPage op n = record { ok = true; op = op; numbers = n; kind = false; primary = false; key = false; row = false; page = true; rest = false }
@@ -36,10 +40,13 @@ shapeOf (Op.Changes ChangeOp.CommitBatch) = withRest (Op.Changes ChangeOp.Commit
 shapeOf (Op.Changes ChangeOp.Rollback) = withKey (Op.Changes ChangeOp.Rollback) 2 false
 shapeOf (Op.Changes ChangeOp.RollbackBatch) = withRest (Op.Changes ChangeOp.RollbackBatch) 2 false
 shapeOf Op.OneStep = withRest Op.OneStep 3 false
+shapeOf (Op.Asks AskOp.Bone) = withRow (Op.Asks AskOp.Bone) 1
+shapeOf (Op.Asks AskOp.Bones) = withRow (Op.Asks AskOp.Bones) 0
 shapeOf (Op.Changes ChangeOp.Restore) = withRest (Op.Changes ChangeOp.Restore) 0 false
 shapeOf (Op.Shows ShowOp.Statistics) = withNumbers (Op.Shows ShowOp.Statistics) 0
 shapeOf (Op.Shows ShowOp.Marks) = withNumbers (Op.Shows ShowOp.Marks) 0
 shapeOf Op.Capture = withNumbers Op.Capture 1
+shapeOf Op.Convert = withRest Op.Convert 0 false
 
 abbrev pub shapeBy : Option Op → Shape
 shapeBy none = noShape

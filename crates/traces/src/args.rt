@@ -14,7 +14,7 @@ use crate::groups::numbers_from;
 use crate::groups::texts_from;
 use crate::op::Op;
 use crate::op::ShowOp;
-use crate::op::is_capture;
+use crate::op::is_long;
 use crate::op::known_op;
 use crate::shape::Shape;
 use crate::shape::shape_of;
@@ -126,8 +126,8 @@ fn args_for(call: &[u8], shape: Shape) -> Args
     ensures { λ r. ⌜ ArgsFor (now (call .entry)) shape r ⌝ }
 {
     let op = shape.op;
-    let capture = is_capture(op);
-    let n = numbers_from(call, capture, shape.numbers);
+    let long = is_long(op);
+    let n = numbers_from(call, long, shape.numbers);
     let t = texts_from(
         call,
         n.third.ok,
@@ -138,7 +138,7 @@ fn args_for(call: &[u8], shape: Shape) -> Args
         shape.row,
     );
     let b = bounds_from(call, t.row.ok, t.row.next, shape.page);
-    let buffer = buffer_from(call, b.resume.ok, b.resume.next, capture, shape.page);
+    let buffer = buffer_from(call, b.resume.ok, b.resume.next, long, shape.page);
     let rest = rest_from(call, buffer.ok, buffer.next, shape.rest);
     let ok = ends_call(call, rest);
     args_read(ok, op, n, t, b, buffer.value as usize, rest)

@@ -47,12 +47,12 @@ pub(crate) fn number_from(s: &[u8], before: bool, at: usize, width: Width, wante
     }
 }
 
-// The first number, after the op byte; "table | 4" if the call writes the image.
-pub(crate) fn first_from(s: &[u8], capture: bool, wanted: bool) -> Value
+// The first number, after the op byte; "table | 4" if the call has a long buffer.
+pub(crate) fn first_from(s: &[u8], long: bool, wanted: bool) -> Value
     requires { ⌜ 1 ≤ length (now s) ⌝ }
-    ensures { λ r. ⌜ ValueAt wanted (firstWidth capture) (now (s .entry)) true 1 r ⌝ }
+    ensures { λ r. ⌜ ValueAt wanted (firstWidth long) (now (s .entry)) true 1 r ⌝ }
 {
-    if capture {
+    if long {
         return number_from(s, true, 1, Width::Four, wanted);
     }
     number_from(s, true, 1, Width::Eight, wanted)
@@ -61,12 +61,12 @@ pub(crate) fn first_from(s: &[u8], capture: bool, wanted: bool) -> Value
 // "a 4-byte length, at most 262,144"
 const LONG: u64 = 262144;
 
-// The length of the long buffer, if the call writes the image; else that of the page's buffer, if it has one.
-pub(crate) fn buffer_from(s: &[u8], before: bool, at: usize, capture: bool, page: bool) -> Value
+// The length of the long buffer, if the call has one; else that of the page's buffer, if it has one.
+pub(crate) fn buffer_from(s: &[u8], before: bool, at: usize, long: bool, page: bool) -> Value
     requires { ⌜ at ≤ length (now s) ⌝ }
-    ensures { λ r. ⌜ BufferAt capture page (now (s .entry)) before at r ⌝ }
+    ensures { λ r. ⌜ BufferAt long page (now (s .entry)) before at r ⌝ }
 {
-    if capture {
+    if long {
         let n = number_from(s, before, at, Width::Four, true);
         if LONG < n.value {
             return no_value(false, 0);

@@ -20,11 +20,11 @@ pub struct Numbers {
 }
 
 // So many numbers, after the op byte.
-pub(crate) fn numbers_from(s: &[u8], capture: bool, count: u8) -> Numbers
+pub(crate) fn numbers_from(s: &[u8], long: bool, count: u8) -> Numbers
     requires { ⌜ 1 ≤ length (now s) ⌝ }
-    ensures { λ r. ⌜ NumbersAt capture count (now (s .entry)) r ⌝ }
+    ensures { λ r. ⌜ NumbersAt long count (now (s .entry)) r ⌝ }
 {
-    let first = first_from(s, capture, 0 < count);
+    let first = first_from(s, long, 0 < count);
     let second = number_from(s, first.ok, first.next, Width::Eight, 1 < count);
     let third = number_from(s, second.ok, second.next, Width::Eight, 2 < count);
     Numbers {

@@ -13,6 +13,7 @@ pub mod trace;
 pub use answer::put_answer;
 pub use args::Args;
 pub use args::args_of;
+pub use op::AskOp;
 pub use op::ChangeOp;
 pub use op::Op;
 pub use op::ShowOp;

@@ -1,7 +1,7 @@
 // The op bytes of the table of calls. An op byte without a line in known_op, here and in specs/Ops.antt, is unknown, and a trace that holds it is
 // out of form.
 ghost use mathlib.Core.Path.{_≡_};
-ghost use Rattle.traces.specs.Ops.{knownOp, isIn, isCapture};
+ghost use Rattle.traces.specs.Ops.{knownOp, isIn, isLong};
 
 // The calls that show something and leave the store as it was, by their names in the table.
 pub enum ShowOp {
@@ -25,23 +25,33 @@ pub enum ChangeOp {
     Restore,
 }
 
-// Every call. The one that writes the image shows it in a long buffer, and stands apart from those whose payload is short.
+// The calls that ask about a row, and need no store.
+pub enum AskOp {
+    Bone,
+    Bones,
+}
+
+// Every call. Those that write an image show it in a long buffer, and stand apart from those whose payload is short.
 pub enum Op {
     Shows(ShowOp),
     Changes(ChangeOp),
     OneStep,
+    Asks(AskOp),
     Capture,
+    Convert,
 }
 
-// Whether the call has a table and a long buffer.
-pub(crate) fn is_capture(op: Op) -> bool
-    ensures { λ r. ⌜ r ≡ isCapture op ⌝ }
+// Whether the call has a long buffer; its number, if it has one, is then a table.
+pub(crate) fn is_long(op: Op) -> bool
+    ensures { λ r. ⌜ r ≡ isLong op ⌝ }
 {
     match op {
         Op::Shows(_) => false,
         Op::Changes(_) => false,
         Op::OneStep => false,
+        Op::Asks(_) => false,
         Op::Capture => true,
+        Op::Convert => true,
     }
 }
 
@@ -75,10 +85,13 @@ pub fn known_op(byte: u8) -> bool
         10, // rollback
         11, // rollback of a key batch
         12, // one-step batch
+        17, // is bone n shown
+        18, // how many bones are shown
         32, // restore
         33, // statistics
         34, // high-water marks
         35, // write the image
+        36, // convert an old image
     ];
     is_in(byte, &known)
 }

@@ -1,8 +1,10 @@
 // Which arguments each call has. Where a call has several, they stand in the order of the fields here: numbers, kind, primary, key, row,
-// the three bounds and the buffer's length, the rest. The call that writes the image has its table as its one number, and a long buffer.
+// the three bounds and the buffer's length, the rest. A call that writes an image has a long buffer, and its
+// number, if it has one, is a table.
 ghost use mathlib.Core.Path.{_≡_};
 ghost use Rattle.traces.specs.Ops.{opOf};
-ghost use Rattle.traces.specs.Shapes.{shapeBy, noShape, withKey, withNumbers, withPage, withRest};
+ghost use Rattle.traces.specs.Shapes.{shapeBy, noShape, withKey, withNumbers, withRow, withPage, withRest};
+use crate::op::AskOp;
 use crate::op::ChangeOp;
 use crate::op::Op;
 use crate::op::ShowOp;
@@ -63,6 +65,15 @@ fn with_key(op: Op, numbers: u8, prewrite: bool) -> Shape
     }
 }
 
+// Numbers, then a row.
+fn with_row(op: Op, numbers: u8) -> Shape
+    ensures { λ r. ⌜ r ≡ withRow op numbers ⌝ }
+{
+    let mut shape = with_numbers(op, numbers);
+    shape.row = true;
+    shape
+}
+
 // Numbers, then the bounds and the buffer of a page.
 fn with_page(op: Op, numbers: u8) -> Shape
     ensures { λ r. ⌜ r ≡ withPage op numbers ⌝ }
@@ -99,10 +110,13 @@ pub(crate) fn shape_of(byte: u8) -> Shape
         10 => with_key(Op::Changes(ChangeOp::Rollback), 2, false),
         11 => with_rest(Op::Changes(ChangeOp::RollbackBatch), 2, false),
         12 => with_rest(Op::OneStep, 3, false),
+        17 => with_row(Op::Asks(AskOp::Bone), 1),
+        18 => with_row(Op::Asks(AskOp::Bones), 0),
         32 => with_rest(Op::Changes(ChangeOp::Restore), 0, false),
         33 => with_numbers(Op::Shows(ShowOp::Statistics), 0),
         34 => with_numbers(Op::Shows(ShowOp::Marks), 0),
         35 => with_numbers(Op::Capture, 1),
+        36 => with_rest(Op::Convert, 0, false),
         _ => no_shape(),
     }
 }

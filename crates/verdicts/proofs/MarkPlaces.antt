@@ -9,6 +9,7 @@ use lib.ListN.{drop}
 use lib.Dec.{ltb}
 use borrow.Author.Tests.{le-ltb, lt-ltb}
 use Rattle.forms.specs.Bytes.{Bytes}
+use Rattle.forms.specs.Row.{Row}
 use Rattle.forms.specs.Readers.{Read, Reader, readOn, _>>=_, just, piece, isSome}
 use Rattle.forms.specs.Numbers.{numberOf}
 use Rattle.forms.specs.Places.{found}
@@ -54,15 +55,15 @@ heads section s =
 
 -- ---- marks
 
-pub head-is : {section : Section} {t : ℕ} {s : Bytes} {a b p : ℕ} → Stands section t s a b p → headOr (headFrom (drop p s)) ≡ first (rawAt section s p)
+pub head-is : {form : Row → Bool} {section : Section} {t : ℕ} {s : Bytes} {a b p : ℕ} → Stands form section t s a b p → headOr (headFrom (drop p s)) ≡ first (rawAt section s p)
 unfolding rawAt goodFrom pass
-head-is {section} {t} {s} {p = p} v = go (entryFrom section (drop p s)) (v .is) (heads section (drop p s))
+head-is {form} {section} {t} {s} {p = p} v = go (entryFrom section (drop p s)) (v .is) (heads section (drop p s))
   where
-    go : (o : Option (Read Raw)) → pass (fits section t) o ≡ found s true (rawAt section s p) (v .next) → Heads (headOr (headFrom (drop p s))) o → headOr (headFrom (drop p s)) ≡ first (rawOr o)
+    go : (o : Option (Read Raw)) → pass (fits form section t) o ≡ found s true (rawAt section s p) (v .next) → Heads (headOr (headFrom (drop p s))) o → headOr (headFrom (drop p s)) ≡ first (rawOr o)
     go none e h = absurd (false≢true (ap isSome e))
     go (some q) e h = h
 
-pub mark-default : {t : ℕ} {s : Bytes} {a b p : ℕ} → Stands Default t s a b p → markAt Rows s p ≡ ranked (rowAt s p .key) false (rowAt s p .start)
+pub mark-default : {form : Row → Bool} {t : ℕ} {s : Bytes} {a b p : ℕ} → Stands form Default t s a b p → markAt Rows s p ≡ ranked (rowAt s p .key) false (rowAt s p .start)
 unfolding markAt
 mark-default v = ap (rankedBy false) (head-is v)
 
@@ -74,11 +75,11 @@ rank (Finished w) = rankOf false (w .stamp)
 abbrev pub Marked : ℕ → Bytes → ℕ → Type 0
 Marked w s p = markAt (Lines w) s p ≡ record { key = lineAt s w p .key; line = rank (lineAt s w p .line) }
 
-pub mark-lock : {t : ℕ} {s : Bytes} {a w p : ℕ} → Stands Lock t s a w p → Marked w s p
+pub mark-lock : {form : Row → Bool} {t : ℕ} {s : Bytes} {a w p : ℕ} → Stands form Lock t s a w p → Marked w s p
 unfolding markAt
 mark-lock {w = w} {p = p} v = rw (lt-ltb p w (v .high)) (ap (rankedBy true) (head-is v))
 
-pub mark-write : {t : ℕ} {s : Bytes} {w b p : ℕ} → Stands Write t s w b p → Marked w s p
+pub mark-write : {form : Row → Bool} {t : ℕ} {s : Bytes} {w b p : ℕ} → Stands form Write t s w b p → Marked w s p
 unfolding markAt
 mark-write {w = w} {p = p} v = rw (le-ltb p w (v .low)) (ap (rankedBy false) (head-is v))
 

@@ -9,6 +9,7 @@ use borrow.Author.Tests.{le-ltb, lt-ltb}
 use Rattle.seqs.specs.Tables.{All}
 use Rattle.seqs.proofs.Alls.{all-append, all-weaken, map-same}
 use Rattle.forms.specs.Bytes.{Bytes, cmp, eqBytes}
+use Rattle.forms.specs.Row.{Row}
 use Rattle.rules.specs.Box as box
 use Rattle.rules.specs.Box.{Line, Standing, Finished, KeyLine, byOrder, lineBefore, before, rowBefore, insertBy, ordered}
 use Rattle.rules.specs.Page.{KeyLock}
@@ -36,8 +37,8 @@ rows-sorted (x ∷ xs) = ap (insertBy rowBefore x) (rows-sorted xs)
 pub likes-rows : Likes rowBefore likeDefault
 likes-rows = record { trans = rowBefore-trans; other = rowBefore-else; apart = rowBefore-apart; apart′ = rowBefore-apart′ }
 
-module _ (t : ℕ) (s : Bytes) (a b : ℕ) (ds : List ℕ) (h : All (Stands Default t s a b) ds) where
-  row-same : (p q : ℕ) → Stands Default t s a b p → Stands Default t s a b q → beforeAt Rows s p q ≡ rowBefore (rowAt s p) (rowAt s q)
+module _ (form : Row → Bool) (t : ℕ) (s : Bytes) (a b : ℕ) (ds : List ℕ) (h : All (Stands form Default t s a b) ds) where
+  row-same : (p q : ℕ) → Stands form Default t s a b p → Stands form Default t s a b q → beforeAt Rows s p q ≡ rowBefore (rowAt s p) (rowAt s q)
   unfolding before rowBefore
   row-same p q u v = ap₂ before (mark-default u) (mark-default v)
 
@@ -48,13 +49,13 @@ module _ (t : ℕ) (s : Bytes) (a b : ℕ) (ds : List ℕ) (h : All (Stands Defa
   rows-are = sym (map-map defaultOf (rawAt Default s) ds)
 
   pub rows-in-order : map (rowAt s) (sorted (beforeAt Rows s) ds) ≡ sorted rowBefore rows
-  rows-in-order = sorted-map (beforeAt Rows s) rowBefore (rowAt s) (Stands Default t s a b) row-same ds h ∙ ap (sorted rowBefore) rows-are
+  rows-in-order = sorted-map (beforeAt Rows s) rowBefore (rowAt s) (Stands form Default t s a b) row-same ds h ∙ ap (sorted rowBefore) rows-are
 
   pub rows-placed : map (rowAt s) (sorted (beforeAt Rows s) ds) ≡ placeDefaults rows
   rows-placed = rows-in-order ∙ rows-sorted rows
 
   pub rows-once : ordered (beforeAt Rows s) (sorted (beforeAt Rows s) ds) ≡ noSecond likeDefault rows
-  rows-once = map-once (beforeAt Rows s) rowBefore (rowAt s) (Stands Default t s a b) row-same likes-rows ds h ∙ ap (noSecond likeDefault) rows-are
+  rows-once = map-once (beforeAt Rows s) rowBefore (rowAt s) (Stands form Default t s a b) row-same likes-rows ds h ∙ ap (noSecond likeDefault) rows-are
 
 -- ---- locks and writes
 
@@ -96,7 +97,7 @@ likes-pairs = record {
   apart′ = λ x y. rowBefore-apart′ (linePair x) (linePair y);
 }
 
-module _ (t : ℕ) (s : Bytes) (a w b : ℕ) (ls ws : List ℕ) (h : All (Stands Lock t s a w) ls) (g : All (Stands Write t s w b) ws) where
+module _ (form : Row → Bool) (t : ℕ) (s : Bytes) (a w b : ℕ) (ls ws : List ℕ) (h : All (Stands form Lock t s a w) ls) (g : All (Stands form Write t s w b) ws) where
   abbrev locks : List KeyLock
   locks = map keyLockOf (map (rawAt Lock s) ls)
 
@@ -104,7 +105,7 @@ module _ (t : ℕ) (s : Bytes) (a w b : ℕ) (ls ws : List ℕ) (h : All (Stands
   writes = map keyRecordOf (map (rawAt Write s) ws)
 
   marked : All (Marked w s) (ls ++ ws)
-  marked = all-append (Marked w s) ls ws (all-weaken (Stands Lock t s a w) (Marked w s) ls (λ p v. mark-lock v) h) (all-weaken (Stands Write t s w b) (Marked w s) ws (λ p v. mark-write v) g)
+  marked = all-append (Marked w s) ls ws (all-weaken (Stands form Lock t s a w) (Marked w s) ls (λ p v. mark-lock v) h) (all-weaken (Stands form Write t s w b) (Marked w s) ws (λ p v. mark-write v) g)
 
   thrice : {A : Type 0} (f : A → KeyLine) (e : Raw → A) (r : ℕ → Raw) (l : List ℕ) → map (λ (p : ℕ). f (e (r p))) l ≡ map f (map e (map r l))
   thrice f e r l = sym (ap (map f) (map-map e r l) ∙ map-map f (λ (p : ℕ). e (r p)) l)
@@ -113,8 +114,8 @@ module _ (t : ℕ) (s : Bytes) (a w b : ℕ) (ls ws : List ℕ) (h : All (Stands
   lines-are =
       map-append (lineAt s w) ls ws
       ∙ ap₂ _++_
-      (map-same (lineAt s w) (λ (p : ℕ). lockLine (keyLockOf (rawAt Lock s p))) (Stands Lock t s a w) (λ p v. ap (λ (b : Bool). lineIf b s p) (lt-ltb p w (v .high))) ls h ∙ thrice lockLine keyLockOf (rawAt Lock s) ls)
-      (map-same (lineAt s w) (λ (p : ℕ). writeLine (keyRecordOf (rawAt Write s p))) (Stands Write t s w b) (λ p v. ap (λ (b : Bool). lineIf b s p) (le-ltb p w (v .low))) ws g ∙ thrice writeLine keyRecordOf (rawAt Write s) ws)
+      (map-same (lineAt s w) (λ (p : ℕ). lockLine (keyLockOf (rawAt Lock s p))) (Stands form Lock t s a w) (λ p v. ap (λ (b : Bool). lineIf b s p) (lt-ltb p w (v .high))) ls h ∙ thrice lockLine keyLockOf (rawAt Lock s) ls)
+      (map-same (lineAt s w) (λ (p : ℕ). writeLine (keyRecordOf (rawAt Write s p))) (Stands form Write t s w b) (λ p v. ap (λ (b : Bool). lineIf b s p) (le-ltb p w (v .low))) ws g ∙ thrice writeLine keyRecordOf (rawAt Write s) ws)
 
   line-same : (p q : ℕ) → Marked w s p → Marked w s q → beforeAt (Lines w) s p q ≡ before (lineAt s w p) (lineAt s w q)
   unfolding before

@@ -10,6 +10,7 @@ use lib.ListN.{length, take, drop, replicate, length-append, length-replicate}
 use lib.Seq.{length-take-le, take-at}
 use borrow.Author.Tests.{ne-eqb, not-true, not-false}
 use Rattle.forms.specs.Bytes.{Bytes}
+use Rattle.forms.specs.Row.{Row, rowForm}
 use Rattle.rules.specs.declared.answers.Answer.the-variants.{Accepted, No}
 use Rattle.rules.specs.declared.room.Load.{Load}
 use Rattle.rules.specs.Answers.{_▸_, need}
@@ -30,7 +31,7 @@ use Rattle.images.specs.declared.sections.Sections.{Sections}
 use Rattle.images.specs.Sections.{Enough, isGood, imageOf, rowAt, lineAt, Listed, SectionsAt, noSections}
 use Rattle.images.proofs.TestLaws.{fails, holds, and-out}
 use Rattle.verdicts.specs.Puts.{putsOf, samePairs, putsMatch}
-use Rattle.verdicts.specs.Verdicts.{isSound, AlikeAsk, Alike, loadFrom, Judged, DecideAsk, VerdictAsk, Decided}
+use Rattle.verdicts.specs.Verdicts.{isSound, AlikeAsk, Alike, JudgeAsk, loadFrom, Judged, DecideAsk, VerdictAsk, Decided}
 use Rattle.verdicts.proofs.SortedLaws.{and-cross, sorted-once}
 use Rattle.verdicts.proofs.SortedPlaceLaws.{likes-rows, likes-pairs, rows-in-order, rows-placed, rows-once, pairs-in-order, pairs-once, lines-placed, lines-once}
 use Rattle.verdicts.proofs.EntryPairLaws.{lineHas, lines-have, pairs-match}
@@ -48,7 +49,7 @@ in-turn true true w hw hl p n = and-cross w hw (hl && p) n ∙ ap₂ _&&_ (and-c
     go w hw false p n = sym (and-false n)
     go w hw true p n = and-comm (p && w) (n && hw) ∙ and-assoc n hw (p && w) ∙ ap (λ (b : Bool). n && b) (sym (and-assoc hw p w))
 
-module _ {s : Bytes} {i : Sections} {ds ls ws : List ℕ} (v : Listed s i ds ls ws) where
+module _ {s : Bytes} {i : Sections} {ds ls ws : List ℕ} (v : Listed rowForm s i ds ls ws) where
   abbrev img : Image
   img = imageOf s (v .table) ds ls ws
 
@@ -81,14 +82,14 @@ module _ {s : Bytes} {i : Sections} {ds ls ws : List ℕ} (v : Listed s i ds ls 
 
   module _ {d : Bool} {ds′ : List ℕ} (dv : Sorted (beforeAt Rows s) ds d ds′) where
     d-is : d ≡ once
-    d-is = dv .ascends ∙ ap (ordered (beforeAt Rows s)) (dv .is) ∙ rows-once (v .table) s 4 (v .lat) ds (v .defaults)
+    d-is = dv .ascends ∙ ap (ordered (beforeAt Rows s)) (dv .is) ∙ rows-once rowForm (v .table) s 4 (v .lat) ds (v .defaults)
 
     pub alike-rows : {ps′ : List ℕ} → not d ≡ true → Alike s i ds ls ws false ds′ ps′
     alike-rows h = bad (sound-is ∙ ap (λ (b : Bool). b && (paired && (pointed && apart))) (fails d-is h))
 
     module _ (dg : not d ≡ false) {p : Bool} {ps : List ℕ} (pv : Sorted (beforeAt (Pairs (i .writesat)) s) (ls ++ ws) p ps) where
       p-is : p ≡ paired
-      p-is = pv .ascends ∙ ap (ordered (beforeAt (Pairs (i .writesat)) s)) (pv .is) ∙ pairs-once (v .table) s (v .lat) (i .writesat) (length s) ls ws (v .locks) (v .writes)
+      p-is = pv .ascends ∙ ap (ordered (beforeAt (Pairs (i .writesat)) s)) (pv .is) ∙ pairs-once rowForm (v .table) s (v .lat) (i .writesat) (length s) ls ws (v .locks) (v .writes)
 
       left-two : isSound (image s) ≡ paired && (pointed && apart)
       left-two = sound-is ∙ ap (λ (b : Bool). b && (paired && (pointed && apart))) (holds d-is dg)
@@ -100,8 +101,8 @@ module _ {s : Bytes} {i : Sections} {ds ls ws : List ℕ} (v : Listed s i ds ls 
         m-is : m ≡ pointed
         m-is =
             mv
-            ∙ ap₂ (λ (a : List KeyLine) (b : List Default). samePairs (putsOf a) b) (ap (map (lineAt s (i .writesat))) (pv .is) ∙ pairs-in-order (v .table) s (v .lat) (i .writesat) (length s) ls ws (v .locks) (v .writes))
-            (ap (map (rowAt s)) (dv .is) ∙ rows-in-order (v .table) s 4 (v .lat) ds (v .defaults))
+            ∙ ap₂ (λ (a : List KeyLine) (b : List Default). samePairs (putsOf a) b) (ap (map (lineAt s (i .writesat))) (pv .is) ∙ pairs-in-order rowForm (v .table) s (v .lat) (i .writesat) (length s) ls ws (v .locks) (v .writes))
+            (ap (map (rowAt s)) (dv .is) ∙ rows-in-order rowForm (v .table) s 4 (v .lat) ds (v .defaults))
             ∙ pairs-match lines (img .defaults) (sorted-once likes-pairs lines ∙ holds p-is pg) (sorted-once likes-rows (img .defaults) ∙ holds d-is dg)
 
         left-one : isSound (image s) ≡ pointed && apart
@@ -113,7 +114,7 @@ module _ {s : Bytes} {i : Sections} {ds ls ws : List ℕ} (v : Listed s i ds ls 
         pub alike-end : not m ≡ false → {l : Bool} {ps′ : List ℕ} → Sorted (beforeAt (Lines (i .writesat)) s) (ls ++ ws) l ps′ → Alike s i ds ls ws l ds′ ps′
         alike-end h lv = record {
           is =
-              lv .ascends ∙ ap (ordered (beforeAt (Lines (i .writesat)) s)) (lv .is) ∙ lines-once (v .table) s (v .lat) (i .writesat) (length s) ls ws (v .locks) (v .writes)
+              lv .ascends ∙ ap (ordered (beforeAt (Lines (i .writesat)) s)) (lv .is) ∙ lines-once rowForm (v .table) s (v .lat) (i .writesat) (length s) ls ws (v .locks) (v .writes)
               ∙ sym (left-one ∙ ap (λ (b : Bool). b && apart) (holds m-is h));
           rows = λ e. dv .is;
           lines = λ e. lv .is;
@@ -121,7 +122,8 @@ module _ {s : Bytes} {i : Sections} {ds ls ws : List ℕ} (v : Listed s i ds ls 
 
 -- ---- the ways out of `judge`
 
-not-sound : (o : Option Image) → isGood o ≡ false → isSound o ≡ false
+not-sound : (o : Option Image) → isGood rowForm o ≡ false → isSound o ≡ false
+unfolding goodImage
 not-sound none e = refl
 not-sound (some i) e = and-out _ _ e
 
@@ -132,7 +134,17 @@ part lt n l y x h e = take-at y (drop n l) n (ap length e ∙ sorted-length lt x
 part-few : (lt : ℕ → ℕ → Bool) (n : ℕ) (l y x : List ℕ) → length x ≡ n → y ≡ sorted lt x → n ≤ length (y ++ drop n l)
 part-few lt n l y x h e = omega (arith, ap length e, sorted-length lt x, length-append y (drop n l))
 
-module _ {s : Bytes} {i : Sections} {ds ls ws : List ℕ} (v : SectionsAt s i ds ls ws) where
+module _ {form : Row → Bool} {s : Bytes} {i : Sections} {ds ls ws : List ℕ} (v : SectionsAt form s i ds ls ws) where
+  pub judge-asks : not (i .ok) ≡ false → (ps room : List ℕ) → length ls + length ws ≤ length ps → length ds ≤ length room → length ps ≤ length room
+      → AlikeAsk form s i (take (i .defaults) ds) (take (i .locks) ls) (take (i .writes) ws) (take (i .locks + i .writes) ps) room
+  judge-asks ok ps room a b c =
+      let d = length-take-le (i .defaults) ds (v .few-defaults) in
+      let l = length-take-le (i .locks) ls (v .few-locks) in
+      let w = length-take-le (i .writes) ws (v .few-writes) in
+      let m = length-take-le (i .locks + i .writes) ps (omega (arith, v .few-locks, v .few-writes)) in
+      record { listed = v .good ok; lines = omega arith; rows-room = omega (arith, v .few-defaults); lines-room = omega (arith, v .few-locks, v .few-writes) }
+
+module _ {s : Bytes} {i : Sections} {ds ls ws : List ℕ} (v : SectionsAt rowForm s i ds ls ws) where
   abbrev n : ℕ
   n = i .locks + i .writes
 
@@ -146,15 +158,6 @@ module _ {s : Bytes} {i : Sections} {ds ls ws : List ℕ} (v : SectionsAt s i ds
 
   length-is : length (take (i .locks) ls ++ take (i .writes) ws) ≡ n
   length-is = omega (arith, length-append (take (i .locks) ls) (take (i .writes) ws), length-take-le (i .locks) ls (v .few-locks), length-take-le (i .writes) ws (v .few-writes))
-
-  pub judge-asks : not (i .ok) ≡ false → (ps room : List ℕ) → length ls + length ws ≤ length ps → length ds ≤ length room → length ps ≤ length room
-      → AlikeAsk s i (take (i .defaults) ds) (take (i .locks) ls) (take (i .writes) ws) (take n ps) room
-  judge-asks ok ps room a b c =
-      let d = length-take-le (i .defaults) ds (v .few-defaults) in
-      let l = length-take-le (i .locks) ls (v .few-locks) in
-      let w = length-take-le (i .writes) ws (v .few-writes) in
-      let m = length-take-le n ps (omega (arith, v .few-locks, v .few-writes)) in
-      record { listed = v .good ok; lines = omega arith; rows-room = omega (arith, v .few-defaults); lines-room = omega (arith, v .few-locks, v .few-writes) }
 
   module _ (ok : not (i .ok) ≡ false) {r : Bool} {ds′ ps′ : List ℕ} (a : Alike s i (take (i .defaults) ds) (take (i .locks) ls) (take (i .writes) ws) r ds′ ps′) where
     pub judged-bad : (xs ys : List ℕ) → not r ≡ true → Judged s noSections xs ys
@@ -178,9 +181,9 @@ module _ {s : Bytes} {i : Sections} {ds ls ws : List ℕ} (v : SectionsAt s i ds
             good = and-left _ _ both;
             healthy = and-right (goodImage (imageOf s (w .table) d l m)) _ both;
             load-is = load-eq (loadFrom i) _ (omega (arith, w .bytes-is, length-take-le (i .locks) ls (v .few-locks), length-take-le (i .writes) ws (v .few-writes))) ∙ load-at s (w .table) d l m;
-            rows-are = ap (map (rowAt s)) (part (beforeAt Rows s) (i .defaults) ds ds′ d dl (a .rows t)) ∙ rows-placed (w .table) s 4 (w .lat) d (w .defaults);
+            rows-are = ap (map (rowAt s)) (part (beforeAt Rows s) (i .defaults) ds ds′ d dl (a .rows t)) ∙ rows-placed rowForm (w .table) s 4 (w .lat) d (w .defaults);
             lines-are =
-                ap (map (lineAt s (i .writesat))) (part (beforeAt (Lines (i .writesat)) s) n ps ps′ (l ++ m) length-is (a .lines t)) ∙ lines-placed (w .table) s (w .lat) (i .writesat) (length s) l m (w .locks) (w .writes);
+                ap (map (lineAt s (i .writesat))) (part (beforeAt (Lines (i .writesat)) s) n ps ps′ (l ++ m) length-is (a .lines t)) ∙ lines-placed rowForm (w .table) s (w .lat) (i .writesat) (length s) l m (w .locks) (w .writes);
           };
           few-rows = part-few (beforeAt Rows s) (i .defaults) ds ds′ d dl (a .rows t);
           few-lines = part-few (beforeAt (Lines (i .writesat)) s) n ps ps′ (l ++ m) length-is (a .lines t);
@@ -273,13 +276,13 @@ module _ {s : Bytes} {i : Sections} {ds ps rows lines : List ℕ} (v : DecideAsk
 abbrev blank : ℕ → List ℕ
 blank n = replicate n 0
 
-pub room-for : (n m : ℕ) {s : Bytes} {rows lines : List ℕ} → Enough s n → n + n ≤ m → 1024 ≤ length rows → 1024 ≤ length lines
-    → VerdictAsk s (blank n) (blank n) (blank n) (blank m) (blank m) rows lines
-room-for n m e f r l =
+pub judge-room : (n m : ℕ) {s : Bytes} → Enough s n → n + n ≤ m → JudgeAsk s (blank n) (blank n) (blank n) (blank m) (blank m)
+judge-room n m e f =
     let z : length (blank n) ≡ n = length-replicate n 0 in
     let y : length (blank m) ≡ m = length-replicate m 0 in
     let h = rw (sym z) at e in
-    record {
-      judge = record { enough = record { defaults = h; locks = h; writes = h }; lines = omega arith; rows-room = omega arith; lines-room = omega arith };
-      wide = record { some-rows = r; some-lines = l };
-    }
+    record { enough = record { defaults = h; locks = h; writes = h }; lines = omega arith; rows-room = omega arith; lines-room = omega arith }
+
+pub room-for : (n m : ℕ) {s : Bytes} {rows lines : List ℕ} → Enough s n → n + n ≤ m → 1024 ≤ length rows → 1024 ≤ length lines
+    → VerdictAsk s (blank n) (blank n) (blank n) (blank m) (blank m) rows lines
+room-for n m e f r l = record { judge = judge-room n m e f; wide = record { some-rows = r; some-lines = l } }

@@ -7,6 +7,7 @@ use mathlib.Core.Option.{Option, none, some}
 use Prim.Native.Nat.{ℕ, _+_, _≤_}
 use lib.ListN.{length, take}
 use Rattle.forms.specs.Bytes.{Bytes}
+use Rattle.forms.specs.Row.{Row}
 use Rattle.rules.specs.declared.answers.Answer.the-variants.{Accepted}
 use Rattle.rules.specs.declared.room.Load.{Load}
 use Rattle.rules.specs.Box.{Box}
@@ -28,8 +29,8 @@ isSound none = false
 isSound (some i) = goodImage i && healthyImage i
 
 -- the places of an image whose entries are good, each by itself, with room for those of all lines, and to sort them
-pub record AlikeAsk (s : Bytes) (i : Sections) (ds ls ws ps room : List ℕ) : Type 0 where
-  pub listed : Listed s i ds ls ws
+pub record AlikeAsk (form : Row → Bool) (s : Bytes) (i : Sections) (ds ls ws ps room : List ℕ) : Type 0 where
+  pub listed : Listed form s i ds ls ws
   pub lines : length ps ≡ length ls + length ws
   pub rows-room : length ds ≤ length room
   pub lines-room : length ps ≤ length room

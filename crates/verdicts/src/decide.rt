@@ -1,4 +1,5 @@
 // Restore's verdict from the image's bytes alone: "Any fault 13, then 11"; and of an image that has room, its places in order.
+ghost use mathlib.Core.Path.{_≡_};
 ghost use Prim.Native.Nat.{_*_, _≤_};
 ghost use lib.ListN.{length};
 ghost use Rattle.verdicts.specs.Verdicts.{DecideAsk, VerdictAsk, Decided};
@@ -9,6 +10,16 @@ use orders::copy;
 use rules::Answer;
 use rules::Load;
 use rules::load_fits;
+
+fn refusal(number: u8, load: Load, writesat: usize) -> ImageVerdict
+    ensures { λ v. ⌜ v ≡ record { answer = Answer.No number; load = load; writesat = writesat } ⌝ }
+{
+    ImageVerdict {
+        answer: Answer::No(number),
+        load: load,
+        writesat: writesat,
+    }
+}
 
 // The verdict on an image s that was judged; of an accepted one the places of its defaults and of its lines, in order.
 fn decide(
@@ -33,18 +44,10 @@ fn decide(
         bytes: i.bytes,
     };
     if !i.ok {
-        return ImageVerdict {
-            answer: Answer::No(13),
-            load: load,
-            writesat: writesat,
-        };
+        return refusal(13, load, writesat);
     }
     if !load_fits(load) {
-        return ImageVerdict {
-            answer: Answer::No(11),
-            load: load,
-            writesat: writesat,
-        };
+        return refusal(11, load, writesat);
     }
     copy(ds, &mut rows[..d]);
     copy(ps, &mut lines[..n]);
@@ -81,17 +84,8 @@ fn verdict_small(s: &[u8], rows: &mut [u32], lines: &mut [u32]) -> ImageVerdict
     let mut ls = [0u32; 1024];
     let mut ws = [0u32; 1024];
     let mut ps = [0u32; 2048];
-    let mut room = [0u32; 2048];
-    verdict_with(
-        s,
-        &mut ds,
-        &mut ls,
-        &mut ws,
-        &mut ps,
-        &mut room,
-        rows,
-        lines,
-    )
+    let mut rs = [0u32; 2048];
+    verdict_with(s, &mut ds, &mut ls, &mut ws, &mut ps, &mut rs, rows, lines)
 }
 
 fn verdict_large(s: &[u8], rows: &mut [u32], lines: &mut [u32]) -> ImageVerdict
@@ -102,17 +96,8 @@ fn verdict_large(s: &[u8], rows: &mut [u32], lines: &mut [u32]) -> ImageVerdict
     let mut ls = [0u32; 65536];
     let mut ws = [0u32; 65536];
     let mut ps = [0u32; 131072];
-    let mut room = [0u32; 131072];
-    verdict_with(
-        s,
-        &mut ds,
-        &mut ls,
-        &mut ws,
-        &mut ps,
-        &mut room,
-        rows,
-        lines,
-    )
+    let mut rs = [0u32; 131072];
+    verdict_with(s, &mut ds, &mut ls, &mut ws, &mut ps, &mut rs, rows, lines)
 }
 
 // A small image does not pay for the places of a large one: an entry has at least 9 bytes.

@@ -1,6 +1,8 @@
 // An image judged whole: each entry by itself, and then its entries held against each other.
+ghost use Rattle.forms.specs.Row.{rowForm};
 ghost use Rattle.verdicts.specs.Verdicts.{AlikeAsk, Alike, JudgeAsk, Judged};
 use crate::puts::puts_match;
+use images::Form;
 use images::sections::Sections;
 use images::sections::no_sections;
 use images::sections::sections_of;
@@ -20,7 +22,7 @@ fn entries_agree(
     ps: &mut [u32],
     room: &mut [u32],
 ) -> bool
-    requires { ⌜ AlikeAsk (now s) i (now ds) (now ls) (now ws) (now ps) (now room) ⌝ }
+    requires { ⌜ AlikeAsk rowForm (now s) i (now ds) (now ls) (now ws) (now ps) (now room) ⌝ }
     ensures { λ r. ⌜ Alike (now (s .entry)) i (now (ds .entry)) (now (ls .entry)) (now (ws .entry)) r (now (ds .exit)) (now (ps .exit)) ⌝ }
 {
     let writesat = i.writesat;
@@ -48,7 +50,7 @@ pub fn judge(
     requires { ⌜ JudgeAsk (now s) (now ds) (now ls) (now ws) (now ps) (now room) ⌝ }
     ensures { λ r. ⌜ Judged (now (s .entry)) r (now (ds .exit)) (now (ps .exit)) ⌝ }
 {
-    let i = sections_of(s, ds, ls, ws);
+    let i = sections_of(s, Form::New, ds, ls, ws);
     if !i.ok {
         return i;
     }

@@ -13,7 +13,7 @@ use images::entry_at;
 use orders::section_of;
 
 // Whether a line is of the key and start of the default at a place.
-fn points_to(s: &[u8], e: ImageEntry, place: u32) -> bool
+pub fn points_to(s: &[u8], e: ImageEntry, place: u32) -> bool
     requires { ⌜ e .at + e .len ≤ length (now s) ⌝ }
     ensures { λ r. ⌜ r ≡ likeDefault (rawPair (rawOf (now (s .entry)) e)) (rowAt (now (s .entry)) place) ⌝ }
 {

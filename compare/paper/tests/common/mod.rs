@@ -8,7 +8,8 @@ use paper::run::run_trace;
 use paper::store::Kind;
 use paper::trace::{Call, write_trace};
 
-pub const ROW: [u8; 2] = [0, 0];
+/// "the smallest row is 00 00 00".
+pub const ROW: [u8; 3] = [0, 0, 0];
 pub const TRANSACTION: u64 = 7;
 
 /// Key of table 1: `key(b"a")` is 00 00 00 01 61.
@@ -74,13 +75,13 @@ pub fn page(moment: u64, byte_limit: u64, buffer: u16) -> Call {
     Call::Page { moment, row_limit: 1, byte_limit, bounds: Bounds::default(), buffer }
 }
 
-/// A batch that puts the row 00 00 at each key.
+/// A batch that puts the smallest row at each key.
 pub fn puts(keys: &[Vec<u8>]) -> Vec<u8> {
     let mut batch = (keys.len() as u16).to_be_bytes().to_vec();
     for key in keys {
         batch.push(key.len() as u8);
         batch.extend_from_slice(key);
-        batch.extend_from_slice(&[1, 2, 0, 0]);
+        batch.extend_from_slice(&[1, 3, 0, 0, 0]);
     }
     batch
 }

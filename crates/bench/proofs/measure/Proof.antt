@@ -12,7 +12,7 @@ restore-requires : tie.Need-restore-requires
 restore-requires c κs = (c .before .before .fresh) .ensures _ (length-replicate {A = ℕ} 131072 0) .made
 
 many-turns-requires : tie.Need-many-turns-requires
-many-turns-requires c κs = record { made = (c .before .before .before .before .before .before .restore) .ensures .made; length-is = length-replicate {A = ℕ} 131072 0 }
+many-turns-requires c κs = record { made = (c .before .before .before .before .before .restore) .ensures .made; length-is = length-replicate {A = ℕ} 131072 0 }
 
 slice-aggregate-write-all : tie.Need-slice-aggregate-write-all
 slice-aggregate-write-all c = sym (length-take-le 8 (c .before .before .put-digits .last .0) (omega (arith, c .before .before .put-digits .ensures .length-is, length-replicate {A = ℕ} 64 0)))
@@ -28,7 +28,6 @@ measure-spec =
     (λ c. search needs)
     (λ c. search needs)
     restore-requires
-    (λ c. search needs)
     (λ c. search needs)
     (λ c. search needs)
     (λ c. search needs)

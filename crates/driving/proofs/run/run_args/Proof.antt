@@ -23,26 +23,13 @@ returns-3 : tie.Need-returns-3
 returns-3 c = by-op ((c .before .before .before .before .before .before .before .before .before .args) .call .now) ((c .before .before .before .before .before .before .before .before .before .args) .args) _ Op.OneStep ((c .before .before .before .before .before .enum-told) .given .1) ((c .before .before .run-step) .ensures)
 
 returns-4 : tie.Need-returns-4
-returns-4 c = by-op ((c .before .before .before .before .before .before .before .before .before .before .args) .call .now) ((c .before .before .before .before .before .before .before .before .before .before .args) .args) _ Op.Capture ((c .before .before .before .before .before .before .enum-told2) .given .1) ((c .before .before .run-capture) .ensures)
+returns-4 c = by-op ((c .before .before .before .before .before .before .before .before .before .before .args) .call .now) ((c .before .before .before .before .before .before .before .before .before .before .args) .args) _ (Op.Asks _) ((c .before .before .before .before .before .before .op3) .given .1) ((c .before .before .run-ask) .ensures)
+
+returns-5 : tie.Need-returns-5
+returns-5 c = by-op ((c .before .before .before .before .before .before .before .before .before .before .args) .call .now) ((c .before .before .before .before .before .before .before .before .before .before .args) .args) _ Op.Capture ((c .before .before .before .before .before .before .enum-told2) .given .1) ((c .before .before .run-capture) .ensures)
+
+returns-6 : tie.Need-returns-6
+returns-6 c = by-op ((c .before .before .before .before .before .before .before .before .before .args) .call .now) ((c .before .before .before .before .before .before .before .before .before .args) .args) _ Op.Convert ((c .before .before .before .before .before .enum-told3) .given .1) ((c .before .before .run-convert) .ensures)
 
 pub run-args-spec : {M : Type 1} → statement M
-run-args-spec =
-    tie.close
-    (tie.spec
-    (λ c. search needs)
-    (λ c κs. search needs)
-    (λ c. search needs)
-    (λ c κs. search needs)
-    (λ c. search needs)
-    (λ c κs. search needs)
-    (λ c. search needs)
-    cast-run-capture
-    run-capture-requires
-    (λ c. search needs)
-    returns
-    (λ c. search needs)
-    returns-2
-    (λ c. search needs)
-    returns-3
-    (λ c. search needs)
-    returns-4)
+run-args-spec = tie.close (tie.spec (λ c. search needs) (λ c κs. search needs) (λ c. search needs) (λ c κs. search needs) (λ c. search needs) (λ c κs. search needs) (λ c. search needs) (λ c κs. search needs) (λ c. search needs) cast-run-capture run-capture-requires (λ c. search needs) (λ c κs. search needs) (λ c. search needs) returns (λ c. search needs) returns-2 (λ c. search needs) returns-3 (λ c. search needs) returns-4 (λ c. search needs) returns-5 (λ c. search needs) returns-6)

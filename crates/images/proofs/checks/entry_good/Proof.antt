@@ -14,19 +14,19 @@ use Rattle.images.proofs.checks.lock_good.Reads as lock-good-reads
 use Rattle.images.proofs.checks.write_good.Reads as write-good-reads
 
 returns : tie.Need-returns
-returns c = lock-unknown _ _ (rawOf ((c .before .before .before .before .before .args) .s .now) ((c .before .before .before .before .before .args) .e)) ((c .before .kind-known) .ensures) ((c .before .before .enum-told2) .given .1) ((c .if1) .taken)
+returns c = lock-unknown _ _ _ (rawOf ((c .before .before .before .before .before .args) .s .now) ((c .before .before .before .before .before .args) .e)) ((c .before .kind-known) .ensures) ((c .before .before .enum-told2) .given .1) ((c .if1) .taken)
 
 returns-2 : tie.Need-returns-2
-returns-2 c = write-unknown _ _ (rawOf ((c .before .before .before .before .before .args) .s .now) ((c .before .before .before .before .before .args) .e)) ((c .before .kind-known2) .ensures) ((c .before .before .enum-told3) .given .1) ((c .if2) .taken)
+returns-2 c = write-unknown _ _ _ (rawOf ((c .before .before .before .before .before .args) .s .now) ((c .before .before .before .before .before .args) .e)) ((c .before .kind-known2) .ensures) ((c .before .before .enum-told3) .given .1) ((c .if2) .taken)
 
 returns-3 : tie.Need-returns-3
-returns-3 c = fits-default _ _ (rawOf ((c .before .before .before .before .args) .s .now) ((c .before .before .before .before .args) .e)) ((c .before .enum-told) .given .1) ((c .default-good) .ensures)
+returns-3 c = fits-default _ _ _ (rawOf ((c .before .before .before .before .args) .s .now) ((c .before .before .before .before .args) .e)) ((c .before .enum-told) .given .1) ((c .default-good) .ensures)
 
 returns-4 : tie.Need-returns-4
-returns-4 c = fits-lock _ _ (rawOf ((c .before .before .before .before .before .before .args) .s .now) ((c .before .before .before .before .before .before .args) .e)) ((c .before .before .kind-known) .ensures) ((c .before .before .before .enum-told2) .given .1) ((c .before .if1) .left) ((c .lock-good) .ensures)
+returns-4 c = fits-lock _ _ _ (rawOf ((c .before .before .before .before .before .before .args) .s .now) ((c .before .before .before .before .before .before .args) .e)) ((c .before .before .kind-known) .ensures) ((c .before .before .before .enum-told2) .given .1) ((c .before .if1) .left) ((c .lock-good) .ensures)
 
 returns-5 : tie.Need-returns-5
-returns-5 c = fits-write _ _ (rawOf ((c .before .before .before .before .before .before .args) .s .now) ((c .before .before .before .before .before .before .args) .e)) ((c .before .before .kind-known2) .ensures) ((c .before .before .before .enum-told3) .given .1) ((c .before .if2) .left) ((c .write-good) .ensures)
+returns-5 c = fits-write _ _ _ (rawOf ((c .before .before .before .before .before .before .args) .s .now) ((c .before .before .before .before .before .before .args) .e)) ((c .before .before .kind-known2) .ensures) ((c .before .before .before .enum-told3) .given .1) ((c .before .if2) .left) ((c .write-good) .ensures)
 
 pub entry-good-spec : {M : Type 1} → statement M
 entry-good-spec =

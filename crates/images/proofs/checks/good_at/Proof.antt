@@ -12,16 +12,16 @@ use Rattle.images.proofs.no_entry.Reads as no-entry-reads
 use Rattle.images.proofs.checks.entry_good.Reads as entry-good-reads
 
 returns : tie.Need-returns
-returns c = rw ((c .no-entry) .ensures) (good-none _ _ ((c .before .before .before .entry-at) .ensures) ((c .before .if1) .taken))
+returns c = rw ((c .no-entry) .ensures) (good-none _ _ _ ((c .before .before .before .entry-at) .ensures) ((c .before .if1) .taken))
 
 entry-good-requires : tie.Need-entry-good-requires
 entry-good-requires c κs = record { key-in = (c .before .before .entry-at) .ensures .key-in; piece-in = (c .before .before .entry-at) .ensures .piece-in }
 
 returns-2 : tie.Need-returns-2
-returns-2 c = rw ((c .no-entry2) .ensures) (good-bad _ _ ((c .before .before .before .before .before .entry-at) .ensures) ((c .before .before .before .if1) .left) ((c .before .before .entry-good) .ensures) ((c .before .if2) .taken))
+returns-2 c = rw ((c .no-entry2) .ensures) (good-bad _ _ _ ((c .before .before .before .before .before .entry-at) .ensures) ((c .before .before .before .if1) .left) ((c .before .before .entry-good) .ensures) ((c .before .if2) .taken))
 
 returns-3 : tie.Need-returns-3
-returns-3 c = good-good _ _ ((c .before .before .before .before .entry-at) .ensures) ((c .before .before .if1) .left) ((c .before .entry-good) .ensures) ((c .if2) .left)
+returns-3 c = good-good _ _ _ ((c .before .before .before .before .entry-at) .ensures) ((c .before .before .if1) .left) ((c .before .entry-good) .ensures) ((c .if2) .left)
 
 pub good-at-spec : {M : Type 1} → statement M
 good-at-spec =

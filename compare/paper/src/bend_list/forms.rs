@@ -1,0 +1,154 @@
+//! The bends of forms, of what is sound, of answers and of the room.
+
+macro_rules! of_forms {
+    ([$($before:tt)*] $next:ident $($rest:ident)*) => {
+        $next! { [$($before)*
+            // Key, row, batch
+            KeyOfFour "a key of 4 bytes is in form";
+            KeyFromSix "a key of 5 bytes is not in form";
+            KeyOfFortyNine "a key of 49 bytes is in form";
+            KeyToFortySeven "a key of 48 bytes is not in form";
+            KeyTableZero "a key of table 0 is in form";
+            RowOfAnyLength "a row above 255 bytes is in form if its sections read";
+            RowTo254 "a row of 255 bytes is not in form";
+            RowNineIntegers "nine integers are in form";
+            RowIntegersOfFour "integers have 4 bytes";
+            RowNineTexts "nine texts are in form";
+            RowTextsUtf8 "texts must be UTF-8";
+            RowTrailing "bytes may follow a row's sections";
+            // The row's third section (row.rs)
+            OldRowTaken "a row without the third section is in form";
+            OldRowInPrewriteTaken "a row without the third section is taken in a prewrite" of 6;
+            OldRowInPrewriteBatchTaken "a row without the third section is taken in a prewrite of a batch" of 7;
+            OldRowInOneStepTaken "a row without the third section is taken in a one-step batch" of 12;
+            OldRowInImageTaken "a row without the third section is taken in an image" of 32;
+            BonesBeforeTexts "the third section stands before the texts";
+            BonesTo254 "255 bones are not in form";
+            BonesTo127 "more than 127 bones are not in form";
+            BonesToEight "more than 8 bones are not in form";
+            BonesBeyondLength "the third section does not count for a row's length";
+            MaskOfWholeBytesAlone "a mask has a byte for each 8 bones and none for the rest";
+            MaskOneByteMore "a mask has a byte more where the count is a multiple of 8";
+            MaskOf32Bytes "a mask has 32 bytes whatever the count";
+            MaskOneByteABone "a mask has a byte a bone";
+            MaskByteMoreInPrewrite "bytes may follow a row's sections in a prewrite" of 6;
+            MaskByteMoreInPrewriteBatch "bytes may follow a row's sections in a prewrite of a batch" of 7;
+            MaskByteMoreInOneStep "bytes may follow a row's sections in a one-step batch" of 12;
+            MaskByteMoreInImage "bytes may follow a row's sections in an image" of 32;
+            MaskByteMoreOfOneBone "bytes may follow a row's sections where a bone is asked" of 17;
+            MaskByteMoreOfMany "bytes may follow a row's sections where it is asked how many are shown" of 18;
+            SpareBitsAny "spare bits may be set";
+            SpareLowestAlone "of the spare bits the lowest alone is judged";
+            SpareHighestAlone "of the spare bits the highest alone is judged";
+            SpareOfOneByteAlone "spare bits are judged in a mask of one byte alone";
+            SpareOf255Unjudged "the spare bit of 255 bones is not judged";
+            FullByteIsSpare "where the count is a multiple of 8 the last byte must be zero";
+            SpareBitsInPrewriteAny "spare bits may be set in a prewrite" of 6;
+            SpareBitsInPrewriteBatchAny "spare bits may be set in a prewrite of a batch" of 7;
+            SpareBitsInOneStepAny "spare bits may be set in a one-step batch" of 12;
+            SpareBitsInImageAny "spare bits may be set in an image" of 32;
+            SpareBitsOfOneBoneAny "spare bits may be set where a bone is asked" of 17;
+            SpareBitsOfManyAny "spare bits may be set where it is asked how many are shown" of 18;
+            BonesFromHighestBit "bone 0 is in the highest bit of the first byte";
+            BonesFromLastByte "bone 0 is in the last byte";
+            // The two questions (bones.rs)
+            AskedFromHighestBit "a bone is looked for from the highest bit of its byte" of 17;
+            AskedFromLastByte "a bone is looked for from the last byte" of 17;
+            AskedInFirstByte "a bone is looked for in the first byte, by its number modulo 8" of 17;
+            AskedFromOne "bones are numbered from 1" of 17;
+            AskedByteNotZero "a bone is shown if its byte is not zero" of 17;
+            BoneAtCountTaken "a bone number equal to the count is not refused" of 17;
+            BoneAboveIsHidden "a bone number not below the count is accepted and not shown" of 17;
+            LastBoneRefused "the last bone is 3" of 17;
+            HiddenBoneRefused "a bone that is not shown is 3" of 17;
+            BoneNumberOfOneByte "a bone number is taken by its last byte" of 17;
+            BoneNumberOfFourBytes "a bone number is taken by its last 4 bytes" of 17;
+            LargeBoneNumberFirst "a bone number above 254 is 3 before the row is judged" of 17;
+            BoneNumberBeforeSpareBits "3 comes before the 2 of spare bits and of the length" of 17;
+            BoneOfOldRowIs3 "a bone of a row without the third section is 3" of 17;
+            OldRowHasNoBones "a row without the third section has no bones, and none are shown" of 18;
+            ManyIsTheCount "how many are shown is the count" of 18;
+            ManyOfHidden "how many are shown is how many are not" of 18;
+            ManyOfFirstByte "of the first byte alone it is counted how many are shown" of 18;
+            ManyOfWholeBytes "bones of a last byte that is not full are not counted" of 18;
+            ManyOfBytes "bytes are counted that are not zero" of 18;
+            ManyTo127 "how many are shown is given by the last 7 bits" of 18;
+            QuestionsCount "a question's answer stands in the count too" of 17;
+            RefusedQuestionEmpty "a refused question has no payload" of 17;
+            BatchOf33 "a batch of 33 entries is in form";
+            BatchTo31 "a batch of 32 entries is not in form";
+            BatchKindRollback "kind 3 in a batch is taken as Delete";
+            BatchAnyOrder "a batch's keys need not ascend";
+            BatchEqualKeys "a batch may hold a key twice";
+            BatchOrderOfSoundKeys "order is asked of keys in form only";
+            BatchKeysJudgedAsForm "a key out of form makes the batch 6";
+            BatchTrailing "bytes may follow a batch";
+            // Sound
+            LockTransactionZero "a lock of transaction 0 is sound";
+            LockStartZero "a lock of start 0 is sound";
+            LockTimeToLiveZero "a lock of time to live 0 is sound";
+            LockKindRollback "a lock of kind Rollback is sound";
+            LockPrimaryAny "a lock's primary may be any bytes";
+            RecordStampAny "a record's commit may differ from its stamp";
+            RecordStartZero "a record of start 0 is sound";
+            RecordCommitEqual "a Put or Delete may have commit equal to start";
+            RollbackCommitAbove "a Rollback may have commit above start";
+            StoredRecordUnjudged "stored records are not judged" never SOUND_RECORDS;
+            LockFieldsSwapped "a lock is written with time to live before start";
+            OwnByStart "own means the same start";
+            OwnByTransaction "own means the same transaction";
+            // Answers
+            HolderSwapped "answer 7 gives start and transaction the wrong way round";
+            HolderMissing "answer 7 gives zeros";
+            HeldIsHistory "answer 7 is 8";
+            // The holder's time to live and kind (misnamed.rs)
+            HolderTimeToLiveIsStart "answer 7 gives the start for the time to live";
+            HolderStartIsTimeToLive "answer 7 gives the time to live for the start";
+            HolderNewFieldsZero "answer 7 gives zeros for time to live and kind";
+            HolderTimeToLiveZero "answer 7 gives zero for the time to live";
+            HolderTimeToLiveOf32 "answer 7 gives the last 4 bytes of the time to live";
+            HolderKindZero "answer 7 gives zero for the kind";
+            HolderKindAlwaysPut "answer 7 gives Put for any kind";
+            HolderKindFromZero "answer 7 gives 0 for Put and 1 for Delete";
+            HolderFieldsOfFirstLock "answer 7 gives time to live and kind of the store's first lock";
+            HolderKindOfNewestRecord "answer 7 gives the kind of the key's newest record, if it has one";
+            HolderKindOfEntry "answer 7 gives the kind of the entry that met the lock";
+            HolderTimeToLiveOfCall "answer 7 gives the time to live of the prewrite that met the lock";
+            HolderTimeLeft "answer 7 gives what is left of the time to live at the moment";
+            HolderShortInRead "answer 7 of a read gives zeros for time to live and kind" of 1;
+            HolderShortInPage "answer 7 of a page gives zeros for time to live and kind" of 2;
+            HolderShortInPrewrite "answer 7 of a prewrite gives zeros for time to live and kind" of 6;
+            HolderShortInPrewriteBatch "answer 7 of a prewrite of a batch gives zeros for time to live and kind" of 7;
+            HolderShortInCommit "answer 7 of a commit gives zeros for time to live and kind" of 8;
+            HolderShortInCommitBatch "answer 7 of a commit of a batch gives zeros for time to live and kind" of 9;
+            HolderShortInRollback "answer 7 of a rollback gives zeros for time to live and kind" of 10;
+            HolderShortInRollbackBatch "answer 7 of a rollback of a batch gives zeros for time to live and kind" of 11;
+            HolderShortInOneStep "answer 7 of a one-step batch gives zeros for time to live and kind" of 12;
+            AcceptedReadNamesLock "an accepted read gives time to live and kind of its key's lock";
+            OneIntentNamesLock "one intent gives time to live and kind in the holder's place too";
+            AcceptedChangeNamesLock "an accepted change gives time to live and kind of the lock that it met";
+            HistoryNamesLock "answer 8 gives time to live and kind of its key's lock";
+            ContradictionNamesLock "answer 9 gives time to live and kind of its key's lock";
+            HolderKindFirst "an answer has the holder's kind before the time to live";
+            HolderAfterCount "an answer has the holder's time to live and kind after the count";
+            HeadOf29 "an answer has no place for the holder's time to live and kind";
+            DamagedHeadOf29 "the answer to a trace not in form has no place for the holder's time to live and kind";
+            // Room
+            PrimaryTakesNoRoom "a lock's primary takes no live bytes";
+            LockKeepsASecondLine "a lock keeps a second line free for its record";
+            RecordKeyCountsOnce "a key with several records counts once";
+            LinesOneLess "1,023 lines at most";
+            LinesOneMore "1,025 lines at most";
+            LocksOneLess "255 locks at most";
+            LocksOneMore "257 locks at most";
+            DefaultsOneLess "1,023 defaults at most";
+            DefaultsOneMore "1,025 defaults at most" never "every default has a Put line of its own, so the lines are as many";
+            LiveBytesOneLess "49,151 live bytes at most";
+            LiveBytesOneMore "49,153 live bytes at most";
+            FreedRoomStaysTaken "room freed by a call counts as taken in it";
+            RoomUnjudged "11 is never given";
+            RoomPerEntry "11 comes as soon as an entry of a prewrite finds no room";
+            ReplayNeedsRoom "a call that changes nothing is 11 in a full box";
+        ] $($rest)* }
+    };
+}

@@ -1,0 +1,3 @@
+-- The definitions of `converts`, in the order in which they build on each other.
+pub mod Judged
+pub mod Grown

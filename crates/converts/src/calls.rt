@@ -1,0 +1,38 @@
+// "in the converter a fault by 01's image checks or a 255-byte row is 13, then a short buffer 12"
+ghost use Rattle.rules.specs.Convert.{convertImage};
+ghost use Rattle.rules.specs.Written.{WroteAs};
+use crate::judge::old_image;
+use crate::rows::put_converted;
+use rules::Answer;
+use rules::Wrote;
+
+// Each default grows by the one byte of its row's count.
+pub fn convert_image(image: &[u8], out: &mut [u8]) -> Wrote
+    ensures { λ r. ⌜ WroteAs (convertImage (now (image .entry)) (now (out .entry))) r (now (out .exit)) ⌝ }
+{
+    let old = old_image(image);
+    if !old.ok {
+        return Wrote {
+            answer: Answer::No(13),
+            count: 0,
+        };
+    }
+    let n = image.len();
+    if out.len() < n {
+        return Wrote {
+            answer: Answer::No(12),
+            count: 0,
+        };
+    }
+    if out.len() - n < old.defaults {
+        return Wrote {
+            answer: Answer::No(12),
+            count: 0,
+        };
+    }
+    let count = put_converted(out, image, old.defaults);
+    Wrote {
+        answer: Answer::Accepted,
+        count: count,
+    }
+}

@@ -1,0 +1,16 @@
+// What a curator, a visitor or the support desk asks of the box, and the words for what was answered. The program `session` stands on this; it is
+// apart from it for the check's time.
+pub mod curators;
+pub mod telling;
+pub mod visitors;
+
+pub use curators::commits;
+pub use curators::fills;
+pub use curators::prewrites;
+pub use curators::withdraws;
+pub use telling::tell;
+pub use visitors::asks_bones;
+pub use visitors::asks_figures;
+pub use visitors::asks_key;
+pub use visitors::asks_page;
+pub use visitors::say_effort;
