@@ -3,7 +3,7 @@
 -- Assumes nothing.
 use Prim.Native.Nat.{_+_, _≤_, _<_}
 use native.Mathlib.Omega.{arith}
-use mathlib.Core.Path.{_≡_, refl, sym, ap, _∙_}
+use mathlib.Core.Path.{_≡_, refl, sym, ap, _∙_, subst}
 use mathlib.Core.Bool.{Bool, true, false, not, _&&_, false≢true}
 use mathlib.Core.List.{List, [], _∷_}
 use lib.Dec.{ltb}
@@ -23,7 +23,7 @@ use Rattle.laws.proofs.BatchLaws.{applyAll}
 use Rattle.store.specs.Made.{Tallied}
 use Rattle.calls.specs.Settled.{isAccepted}
 use Rattle.calls.specs.Weights.{LeftAsks, Steps, AllChecked}
-use Rattle.calls.specs.Passes.{leftBy, RoomJudged, Judged}
+use Rattle.calls.specs.Passes.{leftBy, RoomJudged, refusedBy, Judged}
 use Rattle.calls.specs.declared.weights.Weight.{Weight}
 use Rattle.calls.specs.declared.judged.BatchVerdict.{BatchVerdict}
 use Rattle.calls.proofs.SettledLaws.{is-accepted, then-refused}
@@ -69,13 +69,13 @@ module _ {A : Type 0} {c : Steps A} {key : A → Key} {apply : A → Box → Box
         omega (arith, p .lines, p .locks, q .lines, q .locks, all-locks xs b)
 
     -- an entry is refused
-    pub all-refused : {t : Answer} {s : Weight} → AllChecked c b xs (record { answer = t; weight = s }) → (t ≡ Accepted → ⊥) → Judged (c .check) apply b xs (record { answer = t; moves = false })
-    all-refused {t} r n = record {
+    pub all-refused : {t : Answer} {s : Weight} → AllChecked c b xs (record { answer = t; weight = s }) → (t ≡ Accepted → ⊥) → {v : BatchVerdict} → v ≡ refusedBy t → Judged (c .check) apply b xs v
+    all-refused {t} r n e = subst (Judged (c .check) apply b xs) (sym e) (record {
       answer-is = then-refused t _ n ∙ ap (λ (x : Answer). x ▸ need (roomFor (applyAll apply xs b)) 11) (r .answer-is);
       stays = λ _ p. absurd (n p);
-      passes = λ e. absurd (false≢true e);
-      moves = λ e _. false≢true e;
-    }
+      passes = λ z. absurd (false≢true z);
+      moves = λ z _. false≢true z;
+    })
 
     -- all pass
     module _ {s : Weight} (r : AllChecked c b xs (record { answer = Accepted; weight = s })) where

@@ -31,6 +31,15 @@ then-refused Accepted v n = absurd (n refl)
 then-refused (No k) v n = refl
 then-refused (Held o) v n = refl
 
+-- a call's answer is a step: its refusal is the answer, or the steps after it are
+module _ {a s : Answer} (v : Answer) (e : a ≡ s) {t : Bool} (q : t ≡ isAccepted a) where
+  pub step-out : not t ≡ true → a ≡ s ▸ v
+  step-out n = then-refused a v (is-refusal a q n) ∙ ap (λ (x : Answer). x ▸ v) e
+
+  pub step-on : not t ≡ false → {b : Answer} → b ≡ v → b ≡ s ▸ v
+  unfolding _▸_
+  step-on n p = p ∙ sym (ap (λ (x : Answer). x ▸ v) (sym e ∙ is-accepted a q n))
+
 -- ---- the promise
 
 pub untouched : {st : Store} {area : Bytes} → Untouched st area st area

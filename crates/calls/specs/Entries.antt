@@ -1,20 +1,14 @@
 -- What the passes over the entries of a batch ask: entries in form, and a made store.
 -- Assumes nothing.
 use Prim.Native.Nat.{ℕ}
-use mathlib.Core.Bool.{Bool, true, false}
 use mathlib.Core.List.{List}
 use Rattle.forms.specs.Bytes.{Bytes, bytesAt}
+pub use Rattle.forms.specs.Numbers.{onlyIf}
 use Rattle.forms.specs.Row.{Row}
 use Rattle.forms.specs.Places.{InForm}
 use Rattle.forms.specs.declared.batch.Entry.{Entry}
-use Rattle.rules.specs.declared.terms.CommitTerms.{CommitTerms}
 use Rattle.store.specs.declared.table.Store.{Store}
 use Rattle.store.specs.Made.{Made}
-
--- as many where it is so, else none
-abbrev pub onlyIf : Bool → ℕ → ℕ
-onlyIf true n = n
-onlyIf false n = 0
 
 -- a Delete has no row
 abbrev pub rowAt : Bytes → Entry → Row

@@ -42,6 +42,10 @@ pub record RoomJudged (sum : Weight) (load : Load) (r : BatchVerdict) : Type 0 w
   pub answer-is : r .answer ≡ need (fits (leftBy load sum)) 11
   pub moves-is : r .moves ≡ isAccepted (r .answer) && ltb 0 (sum .added .lines)
 
+-- an entry is refused with this answer: it is the batch's, and the box stays
+abbrev pub refusedBy : Answer → BatchVerdict
+refusedBy a = record { answer = a; moves = false }
+
 -- "then per entry ..; Then 11"
 unfoldable pub allDone : {A : Type 0} → (Box → A → Answer) → (A → Box → Box) → List A → Box → Done
 allDone check apply xs b = settle (checkAll check b xs ▸ need (roomFor (applyAll apply xs b)) 11) (applyAll apply xs b) b

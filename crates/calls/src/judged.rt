@@ -1,6 +1,8 @@
 // What the checks of all entries come to.
+ghost use mathlib.Core.Path.{_≡_};
 ghost use Rattle.calls.specs.Weights.{LeftAsks};
-ghost use Rattle.calls.specs.Passes.{RoomJudged};
+ghost use Rattle.calls.specs.Passes.{RoomJudged, refusedBy};
+use crate::weights::Checked;
 use crate::weights::Weight;
 use crate::weights::left_load;
 use rules::Answer;
@@ -10,6 +12,17 @@ use rules::Load;
 pub struct BatchVerdict {
     pub answer: Answer,
     pub moves: bool,
+}
+
+// An entry is refused, and so is the batch.
+pub fn refused(seen: Checked) -> BatchVerdict
+    ensures { λ r. ⌜ r ≡ refusedBy (seen .answer) ⌝ }
+{
+    let answer = seen.answer;
+    BatchVerdict {
+        answer: answer,
+        moves: false,
+    }
 }
 
 // "Then 11." Where no entry adds a line each is a replay, and nothing changes.

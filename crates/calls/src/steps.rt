@@ -1,15 +1,45 @@
 // Tests that several calls make, as rules' Calls says them.
 ghost use mathlib.Core.Path.{_≡_};
+ghost use mathlib.Core.Bool.{not};
 ghost use mathlib.Core.Option.{some};
 ghost use Prim.Native.Nat.{_+_, _≤_};
+ghost use lib.Dec.{eqb};
 ghost use lib.ListN.{length};
-ghost use Rattle.forms.specs.Bytes.{bytesAt};
+ghost use Rattle.forms.specs.Bytes.{Bytes, bytesAt};
 ghost use Rattle.forms.specs.Readers.{when};
+ghost use Rattle.rules.specs.Answers.{_▸_, need};
 ghost use Rattle.rules.specs.Box.{eqKind};
 ghost use Rattle.rules.specs.Calls.{zeroStep, rowArgument, rowStands};
+ghost use Rattle.lookups.specs.KeyStates.{lockedBy};
+ghost use Rattle.changes.specs.Changes.{entryFor};
 ghost use Rattle.calls.specs.Settled.{isAccepted};
+ghost use Rattle.calls.specs.Steps.{argumentStep, ownStep};
+use lookups::Locked;
 use rules::Answer;
 use rules::Kind;
+
+// The first refusal is the answer.
+pub fn first(a: Answer, b: Answer) -> Answer
+    ensures { λ r. ⌜ r ≡ a ▸ b ⌝ }
+{
+    if accepted(a) {
+        return b;
+    }
+    a
+}
+
+// "6, 5", of a batch that was decoded, and then the steps of the call's terms
+pub fn batch_step(ok: bool, n: usize, terms: Answer) -> Answer
+    ensures { λ r. ⌜ r ≡ need ok 6 ▸ need (not (eqb n 0)) 5 ▸ terms ⌝ }
+{
+    if !ok {
+        return Answer::No(6);
+    }
+    if n == 0 {
+        return Answer::No(5);
+    }
+    terms
+}
 
 // "zero transaction, start": 3
 pub fn zero_step(txn: u64, start: u64) -> Answer
@@ -64,6 +94,34 @@ pub fn row_argument(put: bool, row: &[u8]) -> bool
         return true;
     }
     forms::row_in_form(row)
+}
+
+// "1, 2", of one entry
+pub fn argument_step(key: &[u8], put: bool, row: &[u8]) -> Answer
+    ensures { λ r. ⌜ r ≡ argumentStep (entryFor (now (key .entry)) put (now (row .entry))) ⌝ }
+{
+    if !forms::key_in_form(key) {
+        return Answer::No(1);
+    }
+    if !row_argument(put, row) {
+        return Answer::No(2);
+    }
+    Answer::Accepted
+}
+
+// "another's lock 7"
+pub fn own_step(lock: Locked, txn: u64, start: u64) -> Answer
+    ensures { λ r. ⌜ ((area : Bytes) → r ≡ ownStep txn start (lockedBy area lock)) ⌝ }
+{
+    match lock {
+        Locked::Nobody => Answer::Accepted,
+        Locked::By(l) => {
+            if !store::owns(l, txn, start) {
+                return store::held_by(l);
+            }
+            Answer::Accepted
+        }
+    }
 }
 
 // "for a Put, this row": the one that a line carries.

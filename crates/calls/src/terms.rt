@@ -1,6 +1,8 @@
 // The test that a commit and a one-step batch make of their terms.
 ghost use mathlib.Core.Path.{_≡_};
 ghost use Rattle.rules.specs.Commit.{commitTermsStep};
+use crate::steps::accepted;
+use crate::steps::zero_step;
 use rules::Answer;
 use rules::CommitTerms;
 
@@ -8,11 +10,9 @@ use rules::CommitTerms;
 pub fn commit_terms_step(terms: CommitTerms) -> Answer
     ensures { λ r. ⌜ r ≡ commitTermsStep terms ⌝ }
 {
-    if terms.txn == 0 {
-        return Answer::No(3);
-    }
-    if terms.start == 0 {
-        return Answer::No(3);
+    let zero = zero_step(terms.txn, terms.start);
+    if !accepted(zero) {
+        return zero;
     }
     if terms.commit <= terms.start {
         return Answer::No(3);

@@ -10,7 +10,7 @@ use borrow.Author.Tests.{leb-true}
 use Rattle.seqs.proofs.Tables.{part-in}
 use Rattle.forms.specs.Bytes.{Bytes, bytesAt, eqBytes}
 use Rattle.forms.specs.Key.{keyForm, tableOf}
-use Rattle.forms.specs.Numbers.{number}
+use Rattle.forms.specs.Numbers.{number, onlyIf}
 use Rattle.forms.specs.Places.{NumberAt}
 use Rattle.forms.specs.declared.number.Number.{Number}
 use Rattle.forms.proofs.NumberLaws.{number-value}
@@ -31,7 +31,7 @@ use Rattle.store.proofs.ViewLaws.{past-numbers, past-row}
 use Rattle.store.proofs.StretchLaws.{stretch}
 use Rattle.captures.specs.declared.slots.Section.{Section}
 use Rattle.captures.specs.declared.slots.Section.the-variants.{Locks, Writes}
-use Rattle.captures.specs.Lines.{belongs, isPut, ifSo, putStart, ShortLine, SlotIn}
+use Rattle.captures.specs.Lines.{belongs, isPut, putStart, ShortLine, SlotIn}
 
 pub form-long : (k : Bytes) → keyForm k ≡ true → (5 ≤ length k) × (length k ≤ 48)
 unfolding keyForm
@@ -126,6 +126,6 @@ both-same area a b {p = p} {q = q} e f g h =
 
 -- ---- what counts only where a test holds
 
-pub if-few : {r : ℕ} (n : ℕ) (b : Bool) → r ≡ ifSo b n → r ≤ n
+pub if-few : {r : ℕ} (n : ℕ) (b : Bool) → r ≡ onlyIf b n → r ≤ n
 if-few n true e = omega arith
 if-few n false e = omega arith

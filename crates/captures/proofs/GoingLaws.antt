@@ -7,13 +7,13 @@ use mathlib.Core.Bool.{Bool, true, false}
 use mathlib.Core.List.{List, [], _∷_, _++_, append-assoc, append-nil, map}
 use lib.ListN.{length, length-append}
 use Rattle.forms.specs.Bytes.{Bytes}
+use Rattle.forms.specs.Numbers.{onlyIf}
 use Rattle.forms.specs.Writers.{Laid}
 use Rattle.forms.proofs.WriterLaws.{laid-as, laid-then, laid-none}
 use Rattle.rules.specs.Read.{keepIf, those}
 use Rattle.rules.specs.Room.{sumOf}
 use Rattle.rules.specs.Written.{allBytes}
 use Rattle.laws.proofs.StepLaws.{by-test}
-use Rattle.captures.specs.Lines.{ifSo}
 
 -- of the bytes `whole`, `left` are still to come
 pub record Going (whole left s : Bytes) (at : ℕ) (out : Bytes) : Type 0 where
@@ -45,16 +45,16 @@ going-length v = (v .laid .length-is, v .laid .within)
 
 module _ {A : Type 0} (p : A → Bool) where
   -- how many they are, and how many bytes they have
-  pub those-count : (xs : List A) → sumOf (λ (x : A). ifSo (p x) 1) xs ≡ length (those p xs)
+  pub those-count : (xs : List A) → sumOf (λ (x : A). onlyIf (p x) 1) xs ≡ length (those p xs)
   unfolding those keepIf sumOf
   those-count [] = refl
-  those-count (x ∷ xs) = by-test (λ t. ifSo t 1 + sumOf (λ (x : A). ifSo (p x) 1) xs ≡ length (keepIf t x (those p xs))) (p x) (λ e. omega (arith, those-count xs)) (λ e. omega (arith, those-count xs))
+  those-count (x ∷ xs) = by-test (λ t. onlyIf t 1 + sumOf (λ (x : A). onlyIf (p x) 1) xs ≡ length (keepIf t x (those p xs))) (p x) (λ e. omega (arith, those-count xs)) (λ e. omega (arith, those-count xs))
 
-  pub those-bytes : (f : A → Bytes) (xs : List A) → sumOf (λ (x : A). ifSo (p x) (length (f x))) xs ≡ length (allBytes f (those p xs))
+  pub those-bytes : (f : A → Bytes) (xs : List A) → sumOf (λ (x : A). onlyIf (p x) (length (f x))) xs ≡ length (allBytes f (those p xs))
   unfolding those keepIf sumOf allBytes
   those-bytes f [] = refl
   those-bytes f (x ∷ xs) =
-      by-test (λ t. ifSo t (length (f x)) + sumOf (λ (x : A). ifSo (p x) (length (f x))) xs ≡ length (allBytes f (keepIf t x (those p xs)))) (p x)
+      by-test (λ t. onlyIf t (length (f x)) + sumOf (λ (x : A). onlyIf (p x) (length (f x))) xs ≡ length (allBytes f (keepIf t x (those p xs)))) (p x)
       (λ e. omega (arith, those-bytes f xs, length-append (f x) (allBytes f (those p xs)))) (λ e. omega (arith, those-bytes f xs))
 
 pub sum-map : {A B : Type 0} (g : A → B) (f : B → ℕ) (xs : List A) → sumOf f (map g xs) ≡ sumOf (λ (x : A). f (g x)) xs

@@ -10,6 +10,7 @@ use lib.Seq.{take-suc}
 use Rattle.seqs.specs.Tables.{shown}
 use Rattle.seqs.proofs.Tables.{table-at}
 use Rattle.forms.specs.Bytes.{Bytes, AllBytes}
+use Rattle.forms.specs.Numbers.{onlyIf}
 use Rattle.rules.specs.Read.{those}
 use Rattle.rules.specs.declared.records.Kind.{Kind}
 use Rattle.rules.specs.declared.records.Kind.the-variants.{Put, Delete, Rollback}
@@ -28,7 +29,7 @@ use Rattle.store.specs.View.{rowLen, keyOf, lineOf, ifPut, defaultIn, addIf, st
 use Rattle.captures.specs.declared.slots.Section.{Section}
 use Rattle.captures.specs.declared.slots.Section.the-variants.{Locks, Writes}
 use Rattle.captures.specs.declared.sizes.Sizes.{Sizes}
-use Rattle.captures.specs.Lines.{inSection, belongs, isPut, ifSo, entryBytes, rowAt, SlotIn, Lined}
+use Rattle.captures.specs.Lines.{inSection, belongs, isPut, entryBytes, rowAt, SlotIn, Lined}
 use Rattle.captures.specs.Sizes.{Small, LineAdded, RowAsks, RowAdded, CountAsks, LineCounted, SizesAre}
 use Rattle.captures.proofs.CaptureLineLaws.{row-short, if-few}
 use Rattle.captures.proofs.CaptureEntryLaws.{default-long, size-standing, size-finished, entry-small, default-small}
@@ -38,12 +39,12 @@ use Rattle.captures.proofs.GoingLaws.{those-count, those-bytes, sum-map
 
 module _ (area : Bytes) (t : ℕ) (g : box.Default → ℕ) where
   abbrev ofRow : box.Default → ℕ
-  ofRow d = ifSo (rowOfTable t d) (g d)
+  ofRow d = onlyIf (rowOfTable t d) (g d)
 
   abbrev ofSlot : Slot → ℕ
-  ofSlot s = ifSo (isPut t (lineOf area s)) (g (rowAt area s))
+  ofSlot s = onlyIf (isPut t (lineOf area s)) (g (rowAt area s))
 
-  row-of : (k : Kind) (s : Slot) (ds : List box.Default) → sumOf ofRow (addIf (ifPut k (rowAt area s)) ds) ≡ ifSo (eqKind k Put && ofTable t (keyOf area s)) (g (rowAt area s)) + sumOf ofRow ds
+  row-of : (k : Kind) (s : Slot) (ds : List box.Default) → sumOf ofRow (addIf (ifPut k (rowAt area s)) ds) ≡ onlyIf (eqKind k Put && ofTable t (keyOf area s)) (g (rowAt area s)) + sumOf ofRow ds
   unfolding addIf
   row-of Put s ds = sum-insert box.rowBefore (rowAt area s) ofRow ds
   row-of Delete s ds = omega arith
@@ -57,12 +58,12 @@ module _ (area : Bytes) (t : ℕ) (g : box.Default → ℕ) where
 -- ---- a line is a lock or a write
 
 abbrev lineSize : ℕ → box.KeyLine → ℕ
-lineSize t e = ifSo (ofTable t (e .key)) (length (entryBytes e))
+lineSize t e = onlyIf (ofTable t (e .key)) (length (entryBytes e))
 
-two-sections : (t : ℕ) (e : box.KeyLine) → lineSize t e ≡ ifSo (belongs Locks t e) (length (entryBytes e)) + ifSo (belongs Writes t e) (length (entryBytes e))
+two-sections : (t : ℕ) (e : box.KeyLine) → lineSize t e ≡ onlyIf (belongs Locks t e) (length (entryBytes e)) + onlyIf (belongs Writes t e) (length (entryBytes e))
 two-sections t e = go (e .line) (length (entryBytes e))
   where
-    go : (x : box.Line) (n : ℕ) → ifSo (ofTable t (e .key)) n ≡ ifSo (inSection Locks x && ofTable t (e .key)) n + ifSo (inSection Writes x && ofTable t (e .key)) n
+    go : (x : box.Line) (n : ℕ) → onlyIf (ofTable t (e .key)) n ≡ onlyIf (inSection Locks x && ofTable t (e .key)) n + onlyIf (inSection Writes x && ofTable t (e .key)) n
     go (box.Standing l) n = omega arith
     go (box.Finished w) n = omega arith
 
@@ -70,17 +71,17 @@ lines-sum : (t : ℕ) (es : List box.KeyLine) → sumOf (lineSize t) es ≡ leng
 unfolding sumOf
 lines-sum t es = split es ∙ ap₂ _+_ (those-bytes (belongs Locks t) entryBytes es) (those-bytes (belongs Writes t) entryBytes es)
   where
-    split : (es : List box.KeyLine) → sumOf (lineSize t) es ≡ sumOf (λ (e : box.KeyLine). ifSo (belongs Locks t e) (length (entryBytes e))) es + sumOf (λ (e : box.KeyLine). ifSo (belongs Writes t e) (length (entryBytes e))) es
+    split : (es : List box.KeyLine) → sumOf (lineSize t) es ≡ sumOf (λ (e : box.KeyLine). onlyIf (belongs Locks t e) (length (entryBytes e))) es + sumOf (λ (e : box.KeyLine). onlyIf (belongs Writes t e) (length (entryBytes e))) es
     split [] = refl
     split (e ∷ es) = omega (arith, two-sections t e, split es)
 
 -- ---- what a line brings
 
-if-and : (c d : Bool) (n : ℕ) → d ≡ true → ifSo (c && d) n ≡ ifSo c n
+if-and : (c d : Bool) (n : ℕ) → d ≡ true → onlyIf (c && d) n ≡ onlyIf c n
 if-and true d n e = rw e
 if-and false d n e = refl
 
-if-not : (c d : Bool) (n : ℕ) → d ≡ false → ifSo (c && d) n ≡ 0
+if-not : (c d : Bool) (n : ℕ) → d ≡ false → onlyIf (c && d) n ≡ 0
 if-not true d n e = rw e
 if-not false d n e = refl
 
@@ -110,7 +111,7 @@ module _ {area : Bytes} {z : Sizes} {s : Slot} (q : CountAsks area z s) where
 
   pub row-asks : {y : Sizes} → LineAdded area z s y → RowAsks y s
   row-asks v =
-      let few : (n : ℕ) (what : Section) → ifSo (inSection what (lineOf area s .line)) n ≤ n = λ n what. if-few n (inSection what (lineOf area s .line)) refl in
+      let few : (n : ℕ) (what : Section) → onlyIf (inSection what (lineOf area s .line)) n ≤ n = λ n what. if-few n (inSection what (lineOf area s .line)) refl in
       let size = entry-small (q .slot) in
       record {
         small = record {
@@ -152,11 +153,11 @@ module _ {area : Bytes} {z : Sizes} {s : Slot} (q : CountAsks area z s) where
 
 pub record Counting (lines : List Slot) (n : ℕ) (area : Bytes) (t : ℕ) (z : Sizes) (i : ℕ) : Type 0 where
   pub low : i ≤ n
-  pub defaults : z .defaults ≡ sumOf (λ (s : Slot). ifSo (isPut t (lineOf area s)) 1) (take i lines)
-  pub locks : z .locks ≡ sumOf (λ (s : Slot). ifSo (belongs Locks t (lineOf area s)) 1) (take i lines)
-  pub writes : z .writes ≡ sumOf (λ (s : Slot). ifSo (belongs Writes t (lineOf area s)) 1) (take i lines)
-  pub held : z .held ≡ sumOf (λ (s : Slot). ifSo (belongs Locks t (lineOf area s)) (length (entryBytes (lineOf area s)))) (take i lines)
-  pub bytes : z .bytes ≡ sumOf (λ (s : Slot). lineSize t (lineOf area s)) (take i lines) + sumOf (λ (s : Slot). ifSo (isPut t (lineOf area s)) (length (defaultBytes (rowAt area s)))) (take i lines)
+  pub defaults : z .defaults ≡ sumOf (λ (s : Slot). onlyIf (isPut t (lineOf area s)) 1) (take i lines)
+  pub locks : z .locks ≡ sumOf (λ (s : Slot). onlyIf (belongs Locks t (lineOf area s)) 1) (take i lines)
+  pub writes : z .writes ≡ sumOf (λ (s : Slot). onlyIf (belongs Writes t (lineOf area s)) 1) (take i lines)
+  pub held : z .held ≡ sumOf (λ (s : Slot). onlyIf (belongs Locks t (lineOf area s)) (length (entryBytes (lineOf area s)))) (take i lines)
+  pub bytes : z .bytes ≡ sumOf (λ (s : Slot). lineSize t (lineOf area s)) (take i lines) + sumOf (λ (s : Slot). onlyIf (isPut t (lineOf area s)) (length (defaultBytes (rowAt area s)))) (take i lines)
   pub few : Small (i * 800) z
 
 module _ {lines : List Slot} {n : ℕ} {area : Bytes} (v : Lined lines n area) (t : ℕ) where
@@ -184,25 +185,25 @@ module _ {lines : List Slot} {n : ℕ} {area : Bytes} (v : Lined lines n area) (
     pub counting-more : {r : Sizes} → LineCounted area t z (getD lines i noSlot) r → Counting lines n area t r (i + 1)
     counting-more {r} c =
         let s = getD lines i noSlot in
-        let a : ifSo (isPut t (lineOf area s)) 1 ≤ 1 = if-few 1 (isPut t (lineOf area s)) refl in
-        let b : ifSo (belongs Locks t (lineOf area s)) 1 ≤ 1 = if-few 1 (belongs Locks t (lineOf area s)) refl in
-        let d : ifSo (belongs Writes t (lineOf area s)) 1 ≤ 1 = if-few 1 (belongs Writes t (lineOf area s)) refl in
-        let g : ifSo (belongs Locks t (lineOf area s)) (length (entryBytes (lineOf area s))) ≤ length (entryBytes (lineOf area s)) = if-few _ (belongs Locks t (lineOf area s)) refl in
-        let e : ifSo (ofTable t (keyOf area s)) (length (entryBytes (lineOf area s))) ≤ length (entryBytes (lineOf area s)) = if-few _ (ofTable t (keyOf area s)) refl in
-        let f : ifSo (isPut t (lineOf area s)) (length (defaultBytes (rowAt area s))) ≤ length (defaultBytes (rowAt area s)) = if-few _ (isPut t (lineOf area s)) refl in
+        let a : onlyIf (isPut t (lineOf area s)) 1 ≤ 1 = if-few 1 (isPut t (lineOf area s)) refl in
+        let b : onlyIf (belongs Locks t (lineOf area s)) 1 ≤ 1 = if-few 1 (belongs Locks t (lineOf area s)) refl in
+        let d : onlyIf (belongs Writes t (lineOf area s)) 1 ≤ 1 = if-few 1 (belongs Writes t (lineOf area s)) refl in
+        let g : onlyIf (belongs Locks t (lineOf area s)) (length (entryBytes (lineOf area s))) ≤ length (entryBytes (lineOf area s)) = if-few _ (belongs Locks t (lineOf area s)) refl in
+        let e : onlyIf (ofTable t (keyOf area s)) (length (entryBytes (lineOf area s))) ≤ length (entryBytes (lineOf area s)) = if-few _ (ofTable t (keyOf area s)) refl in
+        let f : onlyIf (isPut t (lineOf area s)) (length (defaultBytes (rowAt area s))) ≤ length (defaultBytes (rowAt area s)) = if-few _ (isPut t (lineOf area s)) refl in
         record {
           low = omega arith;
-          defaults = omega (arith, c .defaults, w .defaults, next-sum (λ (s : Slot). ifSo (isPut t (lineOf area s)) 1) i h);
-          locks = omega (arith, c .locks, w .locks, next-sum (λ (s : Slot). ifSo (belongs Locks t (lineOf area s)) 1) i h);
-          writes = omega (arith, c .writes, w .writes, next-sum (λ (s : Slot). ifSo (belongs Writes t (lineOf area s)) 1) i h);
-          held = omega (arith, c .held, w .held, next-sum (λ (s : Slot). ifSo (belongs Locks t (lineOf area s)) (length (entryBytes (lineOf area s)))) i h);
+          defaults = omega (arith, c .defaults, w .defaults, next-sum (λ (s : Slot). onlyIf (isPut t (lineOf area s)) 1) i h);
+          locks = omega (arith, c .locks, w .locks, next-sum (λ (s : Slot). onlyIf (belongs Locks t (lineOf area s)) 1) i h);
+          writes = omega (arith, c .writes, w .writes, next-sum (λ (s : Slot). onlyIf (belongs Writes t (lineOf area s)) 1) i h);
+          held = omega (arith, c .held, w .held, next-sum (λ (s : Slot). onlyIf (belongs Locks t (lineOf area s)) (length (entryBytes (lineOf area s)))) i h);
           bytes =
               omega (
                 arith,
                 c .bytes,
                 w .bytes,
                 next-sum (λ (s : Slot). lineSize t (lineOf area s)) i h,
-                next-sum (λ (s : Slot). ifSo (isPut t (lineOf area s)) (length (defaultBytes (rowAt area s)))) i h,
+                next-sum (λ (s : Slot). onlyIf (isPut t (lineOf area s)) (length (defaultBytes (rowAt area s)))) i h,
               );
           few = record {
             defaults = omega (arith, c .defaults, w .few .defaults, a);
@@ -222,9 +223,9 @@ module _ {lines : List Slot} {n : ℕ} {area : Bytes} (v : Lined lines n area) (
       let at : (f : Slot → ℕ) → sumOf f (take i lines) ≡ sumOf f slots = λ f. ap (λ (k : ℕ). sumOf f (take k lines)) e in
       record {
         defaults = w .defaults ∙ at _ ∙ rows-sum area t (λ (d : box.Default). 1) slots ∙ those-count (rowOfTable t) (stored (map (defaultIn area) slots));
-        locks = w .locks ∙ at _ ∙ sym (sum-map (lineOf area) (λ (e : box.KeyLine). ifSo (belongs Locks t e) 1) slots) ∙ those-count (belongs Locks t) es;
-        writes = w .writes ∙ at _ ∙ sym (sum-map (lineOf area) (λ (e : box.KeyLine). ifSo (belongs Writes t e) 1) slots) ∙ those-count (belongs Writes t) es;
-        held = w .held ∙ at _ ∙ sym (sum-map (lineOf area) (λ (e : box.KeyLine). ifSo (belongs Locks t e) (length (entryBytes e))) slots) ∙ those-bytes (belongs Locks t) entryBytes es;
+        locks = w .locks ∙ at _ ∙ sym (sum-map (lineOf area) (λ (e : box.KeyLine). onlyIf (belongs Locks t e) 1) slots) ∙ those-count (belongs Locks t) es;
+        writes = w .writes ∙ at _ ∙ sym (sum-map (lineOf area) (λ (e : box.KeyLine). onlyIf (belongs Writes t e) 1) slots) ∙ those-count (belongs Writes t) es;
+        held = w .held ∙ at _ ∙ sym (sum-map (lineOf area) (λ (e : box.KeyLine). onlyIf (belongs Locks t e) (length (entryBytes e))) slots) ∙ those-bytes (belongs Locks t) entryBytes es;
         bytes =
             w .bytes ∙ ap₂ _+_ (at _ ∙ sym (sum-map (lineOf area) (lineSize t) slots) ∙ lines-sum t es)
             (at _ ∙ rows-sum area t (λ (d : box.Default). length (defaultBytes d)) slots ∙ those-bytes (rowOfTable t) defaultBytes (stored (map (defaultIn area) slots)));

@@ -3,12 +3,12 @@
 use Prim.Native.Nat.{ℕ, _+_, _≤_, _<_}
 use mathlib.Core.Path.{_≡_}
 use mathlib.Core.Bool.{Bool, true, false, _&&_}
-use mathlib.Core.List.{List, [], _++_}
+use mathlib.Core.List.{List, _++_}
 use lib.ListN.{length}
 use Rattle.seqs.specs.Tables.{Table, shown}
 use Rattle.forms.specs.Bytes.{Bytes, pieceBytes}
 use Rattle.forms.specs.Key.{keyForm}
-use Rattle.forms.specs.Numbers.{digits}
+use Rattle.forms.specs.Numbers.{digits, onlyIf}
 use Rattle.rules.specs.Read.{those}
 use Rattle.rules.specs.declared.records.Kind.the-variants.{Put}
 use Rattle.rules.specs.Box as box
@@ -40,13 +40,9 @@ belongs what t e = inSection what (e .line) && ofTable t (e .key)
 abbrev pub isPut : ℕ → box.KeyLine → Bool
 isPut t e = eqKind (kindIn (e .line)) Put && ofTable t (e .key)
 
-abbrev pub ifSo : Bool → ℕ → ℕ
-ifSo true n = n
-ifSo false n = 0
-
 -- its start, and 0 of any other line
 abbrev pub putStart : ℕ → box.KeyLine → ℕ
-putStart t e = ifSo (isPut t e) (startOf (e .line))
+putStart t e = onlyIf (isPut t e) (startOf (e .line))
 
 abbrev pub lineBytes : box.Line → Bytes
 lineBytes (box.Standing l) = lockBytes l
@@ -55,11 +51,6 @@ lineBytes (box.Finished w) = recordBytes w
 -- "key length, key, lock"; "key length, key, 8-byte write stamp, start, commit, kind byte"
 unfoldable pub entryBytes : box.KeyLine → Bytes
 entryBytes e = pieceBytes (e .key) ++ lineBytes (e .line)
-
--- an entry, if it belongs
-abbrev pub bytesIf : Bool → Bytes → Bytes
-bytesIf true b = b
-bytesIf false b = []
 
 -- ---- slots
 

@@ -5,6 +5,7 @@ use mathlib.Core.Path.{_≡_}
 use mathlib.Core.List.{List}
 use lib.ListN.{length}
 use Rattle.forms.specs.Bytes.{Bytes, AllBytes}
+use Rattle.forms.specs.Numbers.{onlyIf}
 use Rattle.rules.specs.declared.records.Kind.the-variants.{Put}
 use Rattle.rules.specs.Box.{kindIn, eqKind}
 use Rattle.rules.specs.Written.{allBytes}
@@ -14,7 +15,7 @@ use Rattle.store.specs.declared.table.Slot.{Slot}
 use Rattle.store.specs.View.{rowLen, keyOf, lineOf}
 use Rattle.captures.specs.declared.slots.Section.the-variants.{Locks, Writes}
 use Rattle.captures.specs.declared.sizes.Sizes.{Sizes}
-use Rattle.captures.specs.Lines.{inSection, belongs, isPut, ifSo, entryBytes, rowAt, SlotIn, linesIn, rowsIn}
+use Rattle.captures.specs.Lines.{inSection, belongs, isPut, entryBytes, rowAt, SlotIn, linesIn, rowsIn}
 
 -- so small that what one line brings does not overflow them
 pub record Small (most : ℕ) (z : Sizes) : Type 0 where
@@ -27,9 +28,9 @@ pub record Small (most : ℕ) (z : Sizes) : Type 0 where
 -- with the entry of a lock or of a write
 pub record LineAdded (area : Bytes) (z : Sizes) (s : Slot) (r : Sizes) : Type 0 where
   pub defaults : r .defaults ≡ z .defaults
-  pub locks : r .locks ≡ z .locks + ifSo (inSection Locks (lineOf area s .line)) 1
-  pub writes : r .writes ≡ z .writes + ifSo (inSection Writes (lineOf area s .line)) 1
-  pub held : r .held ≡ z .held + ifSo (inSection Locks (lineOf area s .line)) (length (entryBytes (lineOf area s)))
+  pub locks : r .locks ≡ z .locks + onlyIf (inSection Locks (lineOf area s .line)) 1
+  pub writes : r .writes ≡ z .writes + onlyIf (inSection Writes (lineOf area s .line)) 1
+  pub held : r .held ≡ z .held + onlyIf (inSection Locks (lineOf area s .line)) (length (entryBytes (lineOf area s)))
   pub bytes : r .bytes ≡ z .bytes + length (entryBytes (lineOf area s))
 
 pub record RowAsks (z : Sizes) (s : Slot) : Type 0 where
@@ -38,11 +39,11 @@ pub record RowAsks (z : Sizes) (s : Slot) : Type 0 where
 
 -- with the default that a Put carries
 pub record RowAdded (area : Bytes) (z : Sizes) (s : Slot) (r : Sizes) : Type 0 where
-  pub defaults : r .defaults ≡ z .defaults + ifSo (eqKind (kindIn (lineOf area s .line)) Put) 1
+  pub defaults : r .defaults ≡ z .defaults + onlyIf (eqKind (kindIn (lineOf area s .line)) Put) 1
   pub locks : r .locks ≡ z .locks
   pub writes : r .writes ≡ z .writes
   pub held : r .held ≡ z .held
-  pub bytes : r .bytes ≡ z .bytes + ifSo (eqKind (kindIn (lineOf area s .line)) Put) (length (defaultBytes (rowAt area s)))
+  pub bytes : r .bytes ≡ z .bytes + onlyIf (eqKind (kindIn (lineOf area s .line)) Put) (length (defaultBytes (rowAt area s)))
 
 pub record CountAsks (area : Bytes) (z : Sizes) (s : Slot) : Type 0 where
   pub slot : SlotIn area s
@@ -50,11 +51,11 @@ pub record CountAsks (area : Bytes) (z : Sizes) (s : Slot) : Type 0 where
 
 -- one line more
 pub record LineCounted (area : Bytes) (t : ℕ) (z : Sizes) (s : Slot) (r : Sizes) : Type 0 where
-  pub defaults : r .defaults ≡ z .defaults + ifSo (isPut t (lineOf area s)) 1
-  pub locks : r .locks ≡ z .locks + ifSo (belongs Locks t (lineOf area s)) 1
-  pub writes : r .writes ≡ z .writes + ifSo (belongs Writes t (lineOf area s)) 1
-  pub held : r .held ≡ z .held + ifSo (belongs Locks t (lineOf area s)) (length (entryBytes (lineOf area s)))
-  pub bytes : r .bytes ≡ z .bytes + ifSo (ofTable t (keyOf area s)) (length (entryBytes (lineOf area s))) + ifSo (isPut t (lineOf area s)) (length (defaultBytes (rowAt area s)))
+  pub defaults : r .defaults ≡ z .defaults + onlyIf (isPut t (lineOf area s)) 1
+  pub locks : r .locks ≡ z .locks + onlyIf (belongs Locks t (lineOf area s)) 1
+  pub writes : r .writes ≡ z .writes + onlyIf (belongs Writes t (lineOf area s)) 1
+  pub held : r .held ≡ z .held + onlyIf (belongs Locks t (lineOf area s)) (length (entryBytes (lineOf area s)))
+  pub bytes : r .bytes ≡ z .bytes + onlyIf (ofTable t (keyOf area s)) (length (entryBytes (lineOf area s))) + onlyIf (isPut t (lineOf area s)) (length (defaultBytes (rowAt area s)))
 
 -- the sizes of a table's image; and that the area holds bytes, as the walk over it knows
 pub record SizesAre (lines : List Slot) (n : ℕ) (area : Bytes) (t : ℕ) (z : Sizes) : Type 0 where

@@ -1,5 +1,4 @@
 // "From a store and a table number, write that table's image .. Refusals: a zero table number 3, then a short buffer 12."
-ghost use mathlib.Core.Path.{_≡_};
 ghost use Rattle.store.specs.View.{boxOf};
 ghost use Rattle.store.specs.Made.{Made};
 ghost use Rattle.captures.specs.Promise.{ImageWritten};
@@ -7,31 +6,23 @@ use crate::sections::put_image;
 use crate::sizes::sizes_of;
 use rules::Answer;
 use rules::Wrote;
+use rules::refusal;
 use store::AREA;
 use store::Store;
-
-fn refusal(number: u8) -> Wrote
-    ensures { λ r. ⌜ r ≡ record { answer = Answer.No number; count = 0 } ⌝ }
-{
-    Wrote {
-        answer: Answer::No(number),
-        count: 0,
-    }
-}
 
 pub fn capture_snapshot_table(store: Store, area: &[u8; AREA], table: u32, out: &mut [u8]) -> Wrote
     requires { ⌜ Made store (now area) ⌝ }
     ensures { λ r. ⌜ ImageWritten table (boxOf store (now (area .entry))) (now (out .entry)) r (now (out .exit)) ⌝ }
 {
     if table == 0 {
-        return refusal(3);
+        return refusal(Answer::No(3));
     }
     let lines = store.lines;
     let load = store.load;
     let n = load.lines;
     let z = sizes_of(lines, n, area, table);
     if out.len() < z.bytes + 10 {
-        return refusal(12);
+        return refusal(Answer::No(12));
     }
     let count = put_image(out, lines, n, area, table, z);
     Wrote {

@@ -70,10 +70,10 @@ module _ {h : CommitTerms} {b : Box} {s : Bytes} {n : ℕ} {es : List Entry} {i 
           new = w .new ∙ sym (or-assoc moves isNext later) ∙ ap (λ (x : Bool). x || later) (sym (e ∙ ap (λ (x : Bool). moves || x) is));
         })
 
-    pub checking-out : {t : Bool} → t ≡ isAccepted (r .answer) → not t ≡ true → Judged (commitKeys h b (shown (keyAt s) n es)) (someNew h b (shown (keyAt s) n es)) (record { answer = r .answer; moves = false })
+    pub checking-out : {t : Bool} → t ≡ isAccepted (r .answer) → not t ≡ true → Judged (commitKeys h b (shown (keyAt s) n es)) (someNew h b (shown (keyAt s) n es)) r
     checking-out e x = record {
       answer-is = walking-out (pass-here v more .walk) (k .answer-is) (is-refusal (r .answer) e x) ∙ sym (commitKeys-all h b all);
-      moves-is = sym (and-false _ _ (denied _ _ e x));
+      moves-is = k .moves-is ∙ and-false _ _ (denied _ _ e x) ∙ sym (and-false _ _ (denied _ _ e x));
     }
 
   pub checking-end : n ≤ i → Judged (commitKeys h b (shown (keyAt s) n es)) (someNew h b (shown (keyAt s) n es)) (record { answer = Accepted; moves = moves })

@@ -1,11 +1,8 @@
 // Commit of a batch of keys.
 ghost use mathlib.Core.Path.{_≡_};
-ghost use mathlib.Core.Bool.{not};
-ghost use lib.Dec.{eqb};
 ghost use Rattle.seqs.specs.Tables.{shown};
 ghost use Rattle.forms.specs.Places.{keyAt};
 ghost use Rattle.rules.specs.declared.answers.Answer.the-variants.{Accepted};
-ghost use Rattle.rules.specs.Answers.{_▸_, need};
 ghost use Rattle.rules.specs.Commit.{commitTermsStep, commitBatch};
 ghost use Rattle.store.specs.View.{boxOf};
 ghost use Rattle.store.specs.Made.{Made};
@@ -16,7 +13,6 @@ use crate::passes::check_all;
 use actions::Action;
 use calls::Changed;
 use forms::Entry;
-use rules::Answer;
 use rules::CommitTerms;
 use store::AREA;
 use store::Store;
@@ -36,31 +32,18 @@ fn commit_all(
 {
     let v = check_all(store, area, terms, batch, n, list);
     let answer = v.answer;
+    let m = calls::only_if(v.moves, n);
     let action = Action::Commit {
         txn: terms.txn,
         start: terms.start,
         commit: terms.commit,
     };
-    let m = calls::only_if(v.moves, n);
     let none = &batch[0..0];
     let applied = calls::apply_all(store, area, action, none, batch, m, list);
     Changed {
         store: applied,
         answer: answer,
     }
-}
-
-// "6, 5; 3", of a batch that was decoded
-fn head_step(ok: bool, n: usize, terms: CommitTerms) -> Answer
-    ensures { λ r. ⌜ r ≡ need ok 6 ▸ need (not (eqb n 0)) 5 ▸ commitTermsStep terms ⌝ }
-{
-    if !ok {
-        return Answer::No(6);
-    }
-    if n == 0 {
-        return Answer::No(5);
-    }
-    calls::commit_terms_step(terms)
 }
 
 // "6, 5; 3; per key: .."
@@ -82,7 +65,7 @@ pub fn commit_intents_batch(
         start: start,
         commit: commit,
     };
-    let answer = head_step(entries.ok, n, terms);
+    let answer = calls::batch_step(entries.ok, n, calls::commit_terms_step(terms));
     if !calls::accepted(answer) {
         return Changed {
             store: store,

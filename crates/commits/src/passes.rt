@@ -35,10 +35,7 @@ pub fn check_all(
         let v = check_key(store, area, terms, key);
         let answer = v.answer;
         if !calls::accepted(answer) {
-            return BatchVerdict {
-                answer: answer,
-                moves: false,
-            };
+            return v;
         }
         moves = either(moves, v.moves);
         i += 1;

@@ -5,6 +5,7 @@ use crate::judge::old_image;
 use crate::rows::put_converted;
 use rules::Answer;
 use rules::Wrote;
+use rules::refusal;
 
 // Each default grows by the one byte of its row's count.
 pub fn convert_image(image: &[u8], out: &mut [u8]) -> Wrote
@@ -12,23 +13,14 @@ pub fn convert_image(image: &[u8], out: &mut [u8]) -> Wrote
 {
     let old = old_image(image);
     if !old.ok {
-        return Wrote {
-            answer: Answer::No(13),
-            count: 0,
-        };
+        return refusal(Answer::No(13));
     }
     let n = image.len();
     if out.len() < n {
-        return Wrote {
-            answer: Answer::No(12),
-            count: 0,
-        };
+        return refusal(Answer::No(12));
     }
     if out.len() - n < old.defaults {
-        return Wrote {
-            answer: Answer::No(12),
-            count: 0,
-        };
+        return refusal(Answer::No(12));
     }
     let count = put_converted(out, image, old.defaults);
     Wrote {

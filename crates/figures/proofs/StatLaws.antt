@@ -24,11 +24,15 @@ use Rattle.store.specs.View.{placeOf, keyOf, lineIn, lineOf, rowIn, boxOf, noSl
 use Rattle.store.specs.Made.{Built}
 use Rattle.store.proofs.BuiltLaws.{slot-in}
 use Rattle.store.specs.declared.table.Line.{Line}
+use Rattle.store.specs.declared.table.Line.the-variants as slot
+use Rattle.store.specs.declared.table.LockSlot.{LockSlot}
+use Rattle.store.specs.declared.table.RecordSlot.{RecordSlot}
 use Rattle.store.specs.declared.table.Slot.{Slot}
 use Rattle.store.specs.declared.table.Store.{Store}
 use Rattle.figures.specs.declared.runs.Run.{Run}
+use Rattle.figures.specs.declared.runs.Added.{Added}
 use Rattle.figures.specs.declared.runs.Runs.{Runs}
-use Rattle.figures.specs.Walks.{noRun, ended, Few, nextRun, ifRow, rowsIn, recordsIn, Sight, addLine, keyAt, runOf, sightOf, sightIn, NextLine, LineCounted}
+use Rattle.figures.specs.Walks.{noRun, ended, Few, nextRun, ifRow, rowsIn, recordsIn, addedBy, Sight, addLine, keyAt, runOf, sightOf, sightIn, NextLine, LineCounted}
 use Rattle.figures.proofs.RunLaws.{run-figures, run-few}
 use Rattle.figures.proofs.DefaultFigureLaws.{record-keys, stored-keys}
 
@@ -43,11 +47,25 @@ record-one : (x : box.Line) → recordsIn x ≤ 1
 record-one (box.Standing l) = omega arith
 record-one (box.Finished w) = omega arith
 
-pub line-counted : {area : Bytes} {seen : Runs} {s : Slot} (v : NextLine area seen s) {x : Line} {t : Bool} {at n : ℕ} {a b : Run} → at ≡ placeOf s → s .line ≡ x
-    → t ≡ eqBytes (bytesAt area (seen .at) (seen .len)) (keyOf area s) → n ≡ rowsIn (lineIn area (placeOf s + s .len) x)
-    → a ≡ nextRun t n (seen .rows) → b ≡ nextRun t (recordsIn (lineIn area (placeOf s + s .len) x)) (seen .records)
+pub added-lock : (l : LockSlot) {n : ℕ} {x : Line} → x ≡ slot.Standing l → n ≡ ifRow (l .kind) → record { rows = n; records = 0 } ≡ addedBy x
+added-lock l e o = rw (o, e)
+
+pub added-record : (w : RecordSlot) {n : ℕ} {x : Line} → x ≡ slot.Finished w → n ≡ ifRow (w .kind) → record { rows = n; records = 1 } ≡ addedBy x
+added-record w e o = rw (o, e)
+
+rows-added : (area : Bytes) (at : ℕ) (x : Line) → addedBy x .rows ≡ rowsIn (lineIn area at x)
+rows-added area at (slot.Standing l) = refl
+rows-added area at (slot.Finished w) = refl
+
+records-added : (area : Bytes) (at : ℕ) (x : Line) → addedBy x .records ≡ recordsIn (lineIn area at x)
+records-added area at (slot.Standing l) = refl
+records-added area at (slot.Finished w) = refl
+
+pub line-counted : {area : Bytes} {seen : Runs} {s : Slot} (v : NextLine area seen s) {t : Bool} {at : ℕ} {n : Added} {a b : Run} → at ≡ placeOf s
+    → t ≡ eqBytes (bytesAt area (seen .at) (seen .len)) (keyOf area s) → n ≡ addedBy (s .line) → a ≡ nextRun t (n .rows) (seen .rows) → b ≡ nextRun t (n .records) (seen .records)
     → LineCounted area seen s (record { at = at; len = s .len; rows = a; records = b })
-line-counted v z e h o p q = record { is = rw (p, q, o, h, e, z); within = omega (arith, z, v .key-in) }
+line-counted {area} {seen} {s} v z h o p q =
+    record { is = rw (p, q, o, h, z, rows-added area (placeOf s + s .len) (s .line), records-added area (placeOf s + s .len) (s .line)); within = omega (arith, z, v .key-in) }
 
 cons : (e : box.KeyLine) (es : List box.KeyLine) → sightOf (e ∷ es) ≡ addLine e (sightOf es)
 unfolding keyAt runOf

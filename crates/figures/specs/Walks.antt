@@ -17,7 +17,10 @@ use Rattle.rules.specs.Box.{Line, Standing, Finished, KeyLine, kindIn}
 use Rattle.rules.specs.Figures.{sucIf, lineTxn, lineStamp, largest}
 use Rattle.store.specs.View.{placeOf, lineOf}
 use Rattle.store.specs.declared.table.Slot.{Slot}
+use Rattle.store.specs.declared.table.Line as table
+use Rattle.store.specs.declared.table.Line.the-variants as slot
 use Rattle.figures.specs.declared.runs.Run.{Run}
+use Rattle.figures.specs.declared.runs.Added.{Added}
 use Rattle.figures.specs.declared.runs.Runs.{Runs}
 
 -- ---- a run ends
@@ -70,6 +73,11 @@ rowsIn x = ifRow (kindIn x)
 abbrev pub recordsIn : Line → ℕ
 recordsIn (Standing l) = 0
 recordsIn (Finished w) = 1
+
+-- both, of a slot's line
+abbrev pub addedBy : table.Line → Added
+addedBy (slot.Standing l) = record { rows = ifRow (l .kind); records = 0 }
+addedBy (slot.Finished w) = record { rows = ifRow (w .kind); records = 1 }
 
 pub record Sight : Type 0 where
   pub key : Key

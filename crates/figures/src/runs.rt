@@ -7,6 +7,12 @@ pub struct Run {
     pub closed: Figures,
 }
 
+// What a line adds to the run of its key: to that of rows, and to that of records.
+pub struct Added {
+    pub rows: usize,
+    pub records: usize,
+}
+
 // The key before, which is the `len` bytes of the area from `at`, and the runs of rows and of records. Before the first key the length is 0.
 pub struct Runs {
     pub at: usize,

@@ -5,7 +5,8 @@ ghost use Prim.Native.Nat.{_≤_};
 ghost use Rattle.rules.specs.Figures.{stats};
 ghost use Rattle.store.specs.View.{boxOf};
 ghost use Rattle.store.specs.Made.{Made};
-ghost use Rattle.figures.specs.Walks.{ifRow, NextLine, LineCounted};
+ghost use Rattle.figures.specs.Walks.{ifRow, addedBy, NextLine, LineCounted};
+use crate::runs::Added;
 use crate::runs::Runs;
 use crate::walks::close;
 use crate::walks::next_run;
@@ -29,6 +30,30 @@ fn if_row(kind: Kind) -> usize
     }
 }
 
+// What a line adds.
+fn added_by(line: Line) -> Added
+    ensures { λ r. ⌜ (r ≡ addedBy line) × ((r .rows ≤ 1) × (r .records ≤ 1)) ⌝ }
+{
+    match line {
+        Line::Standing(l) => {
+            let kind = l.kind;
+            let row = if_row(kind);
+            Added {
+                rows: row,
+                records: 0,
+            }
+        }
+        Line::Finished(w) => {
+            let kind = w.kind;
+            let row = if_row(kind);
+            Added {
+                rows: row,
+                records: 1,
+            }
+        }
+    }
+}
+
 // One line more.
 fn one_line(seen: Runs, s: Slot, area: &[u8]) -> Runs
     requires { ⌜ NextLine (now area) seen s ⌝ }
@@ -43,31 +68,14 @@ fn one_line(seen: Runs, s: Slot, area: &[u8]) -> Runs
     let old_rows = seen.rows;
     let old_records = seen.records;
     let line = s.line;
-    match line {
-        Line::Standing(l) => {
-            let kind = l.kind;
-            let row = if_row(kind);
-            let rows = next_run(old_rows, same, row);
-            let records = next_run(old_records, same, 0);
-            Runs {
-                at: at,
-                len: len,
-                rows: rows,
-                records: records,
-            }
-        }
-        Line::Finished(w) => {
-            let kind = w.kind;
-            let row = if_row(kind);
-            let rows = next_run(old_rows, same, row);
-            let records = next_run(old_records, same, 1);
-            Runs {
-                at: at,
-                len: len,
-                rows: rows,
-                records: records,
-            }
-        }
+    let more = added_by(line);
+    let rows = next_run(old_rows, same, more.rows);
+    let records = next_run(old_records, same, more.records);
+    Runs {
+        at: at,
+        len: len,
+        rows: rows,
+        records: records,
     }
 }
 

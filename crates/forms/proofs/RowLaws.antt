@@ -3,7 +3,7 @@
 use Prim.Native.Nat.{ℕ, suc, _+_, _-_, _*_, _≤_, _<_}
 use native.Mathlib.Omega.{arith}
 use mathlib.Core.Path.{_≡_, refl, sym, _∙_, ap}
-use mathlib.Core.Bool.{Bool, true, false, not, _&&_}
+use mathlib.Core.Bool.{Bool, true, false, not, _&&_, true≢false}
 use mathlib.Core.List.{List, [], _∷_}
 use mathlib.Core.Option.{Option, none, some}
 use lib.ListN.{length, getD, drop}
@@ -13,8 +13,9 @@ use Rattle.seqs.proofs.Tests.{and-left, and-right}
 use Rattle.forms.specs.Bytes.{Bytes}
 use Rattle.forms.specs.Readers.{Read, readOn, _>>=_, just, when, byte, stretch, piece, upTo, times, section, ended, whole, isSome}
 use Rattle.forms.specs.Row.{Row, integers, texts, fields, oldRowForm, rowForm}
-use Rattle.forms.specs.Places.{restOf, RestAt, PartAt}
+use Rattle.forms.specs.Places.{found, CountAt, restOf, RestAt, PartAt}
 use Rattle.forms.specs.declared.part.Part.{Part}
+use Rattle.forms.specs.declared.row.Count.{Count}
 use Rattle.forms.specs.declared.row.Rest.{Rest}
 use Rattle.forms.proofs.ReaderLaws.{after, byte-none, byte-at, stretch-good, stretch-short, upTo-none, upTo-many, upTo-good, readMore, times-bad, times-more, isEmpty, end-at, reads-bad, reads-good, part-reads}
 
@@ -24,39 +25,51 @@ noRest = record { ok = false; at = 0 }
 no-rest : {A : Type 0} {s : Bytes} {o : Option (Read A)} → o ≡ none → RestAt s (restOf o) noRest
 no-rest e = record { is = ap restOf e; within = omega arith }
 
--- ---- "count byte 0 to 8"
+-- ---- `count_at`
+
+abbrev noCount : Count
+noCount = record { ok = false; n = 0 }
 
 module _ (s : Bytes) (at : ℕ) where
-  count-none : length s ≤ at → upTo 8 byte (drop at s) ≡ none
-  count-none h = upTo-none 8 byte (drop at s) (byte-none s at h)
+  no-count : upTo 8 byte (drop at s) ≡ none → CountAt s at noCount
+  no-count e = record { is = e; within = λ h. absurd (true≢false (sym h)); small = omega arith }
 
-  count-many : at < length s → 8 < getD s at 0 → upTo 8 byte (drop at s) ≡ none
-  count-many l h = upTo-many 8 byte (drop at s) (byte-at s at l) h
+  pub count-none : length s ≤ at → CountAt s at noCount
+  count-none h = no-count (upTo-none 8 byte (drop at s) (byte-none s at h))
 
-  count-at : at < length s → getD s at 0 ≤ 8 → upTo 8 byte (drop at s) ≡ some (record { got = getD s at 0; rest = drop (at + 1) s })
-  count-at l h = upTo-good 8 byte (drop at s) (byte-at s at l) h
+  pub count-many : at < length s → 8 < getD s at 0 → CountAt s at noCount
+  count-many l h = no-count (upTo-many 8 byte (drop at s) (byte-at s at l) h)
 
--- ---- `integers_end`
+  pub count-good : at < length s → getD s at 0 ≤ 8 → CountAt s at (record { ok = true; n = getD s at 0 })
+  count-good l h = record { is = upTo-good 8 byte (drop at s) (byte-at s at l) h; within = λ _. l; small = h }
 
-module _ (s : Bytes) (at : ℕ) where
-  pub integers-none : length s ≤ at → RestAt s (restOf (integers (drop at s))) noRest
+module _ {s : Bytes} {at : ℕ} {c : Count} (v : CountAt s at c) where
+  count-bad : not (c .ok) ≡ true → upTo 8 byte (drop at s) ≡ none
+  count-bad h = v .is ∙ ap (λ (b : Bool). found s b (c .n) (at + 1)) (not-true (c .ok) h)
+
+  count-read : not (c .ok) ≡ false → upTo 8 byte (drop at s) ≡ some (record { got = c .n; rest = drop (at + 1) s })
+  count-read h = v .is ∙ ap (λ (b : Bool). found s b (c .n) (at + 1)) (not-false (c .ok) h)
+
+  pub count-in : not (c .ok) ≡ false → at < length s
+  count-in h = v .within (not-false (c .ok) h)
+
+  -- ---- `integers_end`
+
+  pub integers-none : not (c .ok) ≡ true → RestAt s (restOf (integers (drop at s))) noRest
   unfolding integers _>>=_ readOn
-  integers-none h = no-rest (after (λ n. stretch (8 * n)) (count-none s at h))
+  integers-none h = no-rest (after (λ n. stretch (8 * n)) (count-bad h))
 
-  pub integers-many : at < length s → 8 < getD s at 0 → RestAt s (restOf (integers (drop at s))) noRest
-  unfolding integers _>>=_ readOn
-  integers-many l h = no-rest (after (λ n. stretch (8 * n)) (count-many s at l h))
+  module _ (h : not (c .ok) ≡ false) where
+    pub integers-short : length s - at - 1 < 8 * c .n → RestAt s (restOf (integers (drop at s))) noRest
+    unfolding integers _>>=_ readOn
+    integers-short m = no-rest (after (λ n. stretch (8 * n)) (count-read h) ∙ stretch-short s (at + 1) (8 * c .n) (omega arith))
 
-  pub integers-short : at < length s → getD s at 0 ≤ 8 → length s - at - 1 < 8 * getD s at 0 → RestAt s (restOf (integers (drop at s))) noRest
-  unfolding integers _>>=_ readOn
-  integers-short l h m = no-rest (after (λ n. stretch (8 * n)) (count-at s at l h) ∙ stretch-short s (at + 1) (8 * getD s at 0) (omega arith))
-
-  pub integers-good : at < length s → getD s at 0 ≤ 8 → 8 * getD s at 0 ≤ length s - at - 1 → RestAt s (restOf (integers (drop at s))) (record { ok = true; at = at + 1 + 8 * getD s at 0 })
-  unfolding integers _>>=_ readOn
-  integers-good l h m = record {
-    is = ap restOf (after (λ n. stretch (8 * n)) (count-at s at l h) ∙ stretch-good s (at + 1) (8 * getD s at 0) (omega arith));
-    within = omega arith;
-  }
+    pub integers-good : 8 * c .n ≤ length s - at - 1 → RestAt s (restOf (integers (drop at s))) (record { ok = true; at = at + 1 + 8 * c .n })
+    unfolding integers _>>=_ readOn
+    integers-good m = record {
+      is = ap restOf (after (λ n. stretch (8 * n)) (count-read h) ∙ stretch-good s (at + 1) (8 * c .n) (omega arith));
+      within = omega (arith, count-in h);
+    }
 
 -- ---- `pieces_end`: the pieces from `end` on are still to come
 
@@ -95,18 +108,14 @@ module _ {s : Bytes} {at count end left : ℕ} (v : Passing s at count end left)
 
 -- ---- `texts_end`
 
-module _ (s : Bytes) (at : ℕ) where
-  pub texts-none : length s ≤ at → RestAt s (restOf (texts (drop at s))) noRest
+module _ {s : Bytes} {at : ℕ} {c : Count} (v : CountAt s at c) where
+  pub texts-none : not (c .ok) ≡ true → RestAt s (restOf (texts (drop at s))) noRest
   unfolding texts section _>>=_ readOn
-  texts-none h = no-rest (after (λ n. times n piece) (count-none s at h))
+  texts-none h = no-rest (after (λ n. times n piece) (count-bad v h))
 
-  pub texts-many : at < length s → 8 < getD s at 0 → RestAt s (restOf (texts (drop at s))) noRest
+  pub texts-good : {r : Rest} → not (c .ok) ≡ false → RestAt s (restOf (times (c .n) piece (drop (at + 1) s))) r → RestAt s (restOf (texts (drop at s))) r
   unfolding texts section _>>=_ readOn
-  texts-many l h = no-rest (after (λ n. times n piece) (count-many s at l h))
-
-  pub texts-good : {r : Rest} → at < length s → getD s at 0 ≤ 8 → RestAt s (restOf (times (getD s at 0) piece (drop (at + 1) s))) r → RestAt s (restOf (texts (drop at s))) r
-  unfolding texts section _>>=_ readOn
-  texts-good l h v = record { is = ap restOf (after (λ n. times n piece) (count-at s at l h)) ∙ v .is; within = v .within }
+  texts-good h w = record { is = ap restOf (after (λ n. times n piece) (count-read v h)) ∙ w .is; within = w .within }
 
 -- ---- `fields_end`
 

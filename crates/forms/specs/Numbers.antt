@@ -1,6 +1,7 @@
--- Document 01, "Numbers are big-endian": the number that bytes say, and the bytes of a number, over every width.
+-- Document 01, "Numbers are big-endian": the number that bytes say, and the bytes of a number, over every width. And numbers that go by a test.
 -- Assumes nothing.
 use Prim.Native.Nat.{ℕ, zero, suc, _+_, _*_, _/_, _%_}
+use mathlib.Core.Bool.{Bool, true, false}
 use mathlib.Core.List.{List, [], _∷_, _++_}
 use Rattle.forms.specs.Bytes.{Bytes}
 use Rattle.forms.specs.Readers.{Reader, _>>=_, just, stretch}
@@ -31,3 +32,15 @@ abbrev pub widthOf : Width → ℕ
 widthOf Two = 2
 widthOf Four = 4
 widthOf Eight = 8
+
+-- ---- by a test
+
+-- the first where it holds, else the other
+abbrev pub eitherIf : Bool → ℕ → ℕ → ℕ
+eitherIf true a b = a
+eitherIf false a b = b
+
+-- as many where it holds, else none
+abbrev pub onlyIf : Bool → ℕ → ℕ
+onlyIf true n = n
+onlyIf false n = 0

@@ -9,13 +9,14 @@ use lib.ListN.{length, drop, replicate}
 use lib.Dec.{eqb}
 use Rattle.seqs.specs.Tables.{Table, shown}
 use Rattle.forms.specs.Bytes.{Bytes, bytesAt, ltBytes}
-use Rattle.forms.specs.Readers.{Read, Reader, when, times, piece, whole}
+use Rattle.forms.specs.Readers.{Read, Reader, when, byte, upTo, times, piece, whole}
 use Rattle.forms.specs.Numbers.{numberOf}
 use Rattle.forms.specs.Key.{Key}
 use Rattle.forms.specs.Row.{Row, Bones, maskBytes, rowForm, bonesOf}
 use Rattle.forms.specs.Batch.{Mutation, keyIn, mutation, above, ascend}
 use Rattle.forms.specs.declared.number.Number.{Number}
 use Rattle.forms.specs.declared.part.Part.{Part}
+use Rattle.forms.specs.declared.row.Count.{Count}
 use Rattle.forms.specs.declared.row.Rest.{Rest}
 use Rattle.forms.specs.declared.row.Mask.{Mask}
 use Rattle.forms.specs.declared.batch.Entry.{Entry}
@@ -42,7 +43,12 @@ pub record PartAt (s : Bytes) (at : ℕ) (r : Part) : Type 0 where
 abbrev pub noPart : Part
 noPart = record { ok = false; at = 0; len = 0 }
 
--- ---- sections of a row: where each ends
+-- ---- sections of a row: how many each has, and where it ends
+
+pub record CountAt (s : Bytes) (at : ℕ) (r : Count) : Type 0 where
+  pub is : upTo 8 byte (drop at s) ≡ found s (r .ok) (r .n) (at + 1)
+  pub within : r .ok ≡ true → at < length s
+  pub small : r .n ≤ 8
 
 -- what is left of the bytes
 abbrev pub restOf : {A : Type 0} → Option (Read A) → Option Bytes

@@ -4,11 +4,12 @@ ghost use mathlib.Core.Path.{_≡_};
 ghost use Prim.Native.Nat.{_≤_};
 ghost use lib.ListN.{length, drop};
 ghost use Rattle.forms.specs.Batch.{mutation, ifAscend, batchOf, mutations, keys};
-ghost use Rattle.forms.specs.Places.{keyAt, mutationOf, EntryIn, noEntry, noPart, noStep, stepOf, StepAt, itemAt, itemKey, itemOf, entries, Decoded, noEntries, prevOf, aboveHead};
+ghost use Rattle.forms.specs.Places.{keyAt, mutationOf, EntryIn, noEntry, noStep, stepOf, StepAt, itemAt, itemKey, itemOf, entries, Decoded, noEntries, prevOf, aboveHead};
 use crate::key::below;
 use crate::number::Width;
 use crate::number::number_at;
 use crate::part::Part;
+use crate::part::no_part;
 use crate::part::part_at;
 
 // The places of one entry: its key, and a Put's row.
@@ -46,28 +47,13 @@ fn no_entry() -> Entry
     }
 }
 
-fn no_part() -> Part
-    ensures { λ r. ⌜ r ≡ noPart ⌝ }
-{
-    Part {
-        ok: false,
-        at: 0,
-        len: 0,
-    }
-}
-
 fn no_step() -> Step
     ensures { λ r. ⌜ r ≡ noStep ⌝ }
 {
+    let none = no_entry();
     Step {
         ok: false,
-        entry: Entry {
-            at: 0,
-            len: 0,
-            put: false,
-            rowat: 0,
-            rowlen: 0,
-        },
+        entry: none,
         next: 0,
     }
 }
@@ -75,13 +61,7 @@ fn no_step() -> Step
 fn no_entries() -> Entries
     ensures { λ r. ⌜ r ≡ noEntries ⌝ }
 {
-    let none = Entry {
-        at: 0,
-        len: 0,
-        put: false,
-        rowat: 0,
-        rowlen: 0,
-    };
+    let none = no_entry();
     Entries {
         ok: false,
         count: 0,

@@ -5,7 +5,7 @@ ghost use lib.ListN.{length, drop};
 ghost use Rattle.forms.specs.Bytes.{bytesAt};
 ghost use Rattle.forms.specs.Readers.{piece, times};
 ghost use Rattle.forms.specs.Row.{integers, texts, fields, oldRowForm, maskBytes, sparesZero, bones, rowForm};
-ghost use Rattle.forms.specs.Places.{RestAt, restOf, BonesAt, noMask, RowBones};
+ghost use Rattle.forms.specs.Places.{CountAt, RestAt, restOf, BonesAt, noMask, RowBones};
 use crate::part::part_at;
 
 // Where a section ends; not ok, and 0, where the bytes are not in its form.
@@ -14,18 +14,35 @@ pub struct Rest {
     pub at: usize,
 }
 
+// How many a section has; not ok, and 0, where the bytes end before its count or it is above 8.
+pub struct Count {
+    pub ok: bool,
+    pub n: usize,
+}
+
+// "count byte 0 to 8"
+fn count_at(s: &[u8], at: usize) -> Count
+    ensures { λ r. ⌜ CountAt (now (s .entry)) at r ⌝ }
+{
+    if s.len() <= at {
+        return Count { ok: false, n: 0 };
+    }
+    let n = s[at] as usize;
+    if 8 < n {
+        return Count { ok: false, n: 0 };
+    }
+    Count { ok: true, n: n }
+}
+
 // "count byte 0 to 8, that many 8-byte signed integers"
 fn integers_end(s: &[u8], at: usize) -> Rest
     ensures { λ r. ⌜ RestAt (now (s .entry)) (restOf (integers (drop at (now (s .entry))))) r ⌝ }
 {
-    if s.len() <= at {
+    let count = count_at(s, at);
+    if !count.ok {
         return Rest { ok: false, at: 0 };
     }
-    let n = s[at] as usize;
-    if 8 < n {
-        return Rest { ok: false, at: 0 };
-    }
-    let size = 8 * n;
+    let size = 8 * count.n;
     if s.len() - at - 1 < size {
         return Rest { ok: false, at: 0 };
     }
@@ -57,14 +74,11 @@ fn pieces_end(s: &[u8], at: usize, count: usize) -> Rest
 fn texts_end(s: &[u8], at: usize) -> Rest
     ensures { λ r. ⌜ RestAt (now (s .entry)) (restOf (texts (drop at (now (s .entry))))) r ⌝ }
 {
-    if s.len() <= at {
+    let count = count_at(s, at);
+    if !count.ok {
         return Rest { ok: false, at: 0 };
     }
-    let n = s[at] as usize;
-    if 8 < n {
-        return Rest { ok: false, at: 0 };
-    }
-    pieces_end(s, at + 1, n)
+    pieces_end(s, at + 1, count.n)
 }
 
 // Document 01's two sections, one after the other.

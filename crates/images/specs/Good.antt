@@ -16,7 +16,7 @@ use Rattle.rules.specs.declared.records.Record.{Record}
 use Rattle.rules.specs.Box as box
 use Rattle.rules.specs.Page.{KeyLock}
 use Rattle.rules.specs.Image.{KeyRecord}
-use Rattle.rules.specs.Restore.{ofTable, goodDefaultBy, goodLock, goodWrite}
+use Rattle.rules.specs.Restore.{goodDefaultBy, goodLock, goodWrite}
 use Rattle.rules.specs.Convert.{mayGrow}
 use Rattle.images.specs.Entries.{Raw, entryFrom, rawOf, rawAt}
 use Rattle.images.specs.declared.entries.Section.{Section}
@@ -54,9 +54,9 @@ recordOf x = record { stamp = x .first; start = x .second; commit = x .third; ki
 abbrev pub keyRecordOf : Raw → KeyRecord
 keyRecordOf x = record { key = x .key; write = recordOf x }
 
--- "key of this table", and a default's "start not 0" or a lock's "transaction .. not 0"
-abbrev pub headGood : ℕ → Raw → Bool
-headGood t x = ofTable t (x .key) && not (eqb (x .first) 0)
+-- "default start not 0, row decodes"
+abbrev pub startAndRow : (Row → Bool) → Raw → Bool
+startAndRow form x = not (eqb (x .first) 0) && form (x .piece)
 
 -- the form in which a default's row is: that of a row, or document 01's, which a zero count can be added to
 abbrev pub formOf : Form → Row → Bool

@@ -3,9 +3,10 @@ ghost use mathlib.Core.Path.{_≡_};
 ghost use mathlib.Core.Bool.{not};
 ghost use Rattle.rules.specs.declared.records.Kind.the-variants.{Rollback};
 ghost use Rattle.rules.specs.Box.{eqKind};
-ghost use Rattle.rules.specs.Restore.{ofTable, goodDefaultBy, goodLock, goodWrite};
+ghost use Rattle.rules.specs.Sound.{soundLock, soundRecord};
+ghost use Rattle.rules.specs.Restore.{ofTable};
 ghost use Rattle.images.specs.Entries.{rawOf};
-ghost use Rattle.images.specs.Good.{known, kindOf, defaultOf, keyLockOf, keyRecordOf, formOf, headGood, fits, Lies, GoodAt};
+ghost use Rattle.images.specs.Good.{known, kindOf, keyLockOf, formOf, startAndRow, fits, Lies, GoodAt};
 use crate::entries::ImageEntry;
 use crate::entries::Section;
 use crate::entries::entry_at;
@@ -61,19 +62,6 @@ fn of_table(key: &[u8], table: u64) -> bool
     t.value == table
 }
 
-// The key is of this table, and the number after it is not 0: a default's start, a lock's transaction.
-fn head_good(s: &[u8], table: u64, e: ImageEntry) -> bool
-    requires { ⌜ Lies (now s) e ⌝ }
-    ensures { λ r. ⌜ r ≡ headGood table (rawOf (now (s .entry)) e) ⌝ }
-{
-    let a = e.at;
-    let b = a + e.len;
-    if !of_table(&s[a..b], table) {
-        return false;
-    }
-    e.first != 0
-}
-
 // "a 255-byte row": no count can be added to it
 fn row_good(row: &[u8], form: Form) -> bool
     ensures { λ r. ⌜ r ≡ formOf form (now (row .entry)) ⌝ }
@@ -90,11 +78,11 @@ fn row_good(row: &[u8], form: Form) -> bool
 }
 
 // "default start not 0, row decodes"
-fn default_good(s: &[u8], form: Form, table: u64, e: ImageEntry) -> bool
+fn default_good(s: &[u8], form: Form, e: ImageEntry) -> bool
     requires { ⌜ Lies (now s) e ⌝ }
-    ensures { λ r. ⌜ r ≡ goodDefaultBy (formOf form) table (defaultOf (rawOf (now (s .entry)) e)) ⌝ }
+    ensures { λ r. ⌜ r ≡ startAndRow (formOf form) (rawOf (now (s .entry)) e) ⌝ }
 {
-    if !head_good(s, table, e) {
+    if e.first == 0 {
         return false;
     }
     let c = e.pieceat;
@@ -114,11 +102,11 @@ fn may_stand(kind: Kind) -> bool
 }
 
 // "lock sound": "transaction, start, time to live not 0, kind Put or Delete, primary a key"
-fn lock_good(s: &[u8], table: u64, e: ImageEntry) -> bool
+fn lock_good(s: &[u8], e: ImageEntry) -> bool
     requires { ⌜ Lies (now s) e ⌝ }
-    ensures { λ r. ⌜ r ≡ goodLock table (keyLockOf (rawOf (now (s .entry)) e)) ⌝ }
+    ensures { λ r. ⌜ r ≡ soundLock (keyLockOf (rawOf (now (s .entry)) e) .lock) ⌝ }
 {
-    if !head_good(s, table, e) {
+    if e.first == 0 {
         return false;
     }
     if e.second == 0 {
@@ -137,15 +125,9 @@ fn lock_good(s: &[u8], table: u64, e: ImageEntry) -> bool
 }
 
 // "record sound"
-fn write_good(s: &[u8], table: u64, e: ImageEntry) -> bool
-    requires { ⌜ Lies (now s) e ⌝ }
-    ensures { λ r. ⌜ r ≡ goodWrite table (keyRecordOf (rawOf (now (s .entry)) e)) ⌝ }
+fn write_good(e: ImageEntry) -> bool
+    ensures { λ r. ⌜ r ≡ soundRecord (record { stamp = e .first; start = e .second; commit = e .third; kind = kindOf (e .kind) }) ⌝ }
 {
-    let a = e.at;
-    let b = a + e.len;
-    if !of_table(&s[a..b], table) {
-        return false;
-    }
     let kind = kind_of(e.kind);
     let w = Record {
         stamp: e.first,
@@ -156,23 +138,29 @@ fn write_good(s: &[u8], table: u64, e: ImageEntry) -> bool
     record_sound(w)
 }
 
+// The key is of this table, and what follows it is good.
 fn entry_good(s: &[u8], section: Section, form: Form, table: u64, e: ImageEntry) -> bool
     requires { ⌜ Lies (now s) e ⌝ }
     ensures { λ r. ⌜ r ≡ fits (formOf form) section table (rawOf (now (s .entry)) e) ⌝ }
 {
+    let a = e.at;
+    let b = a + e.len;
+    if !of_table(&s[a..b], table) {
+        return false;
+    }
     match section {
-        Section::Default => default_good(s, form, table, e),
+        Section::Default => default_good(s, form, e),
         Section::Lock => {
             if !kind_known(e.kind) {
                 return false;
             }
-            lock_good(s, table, e)
+            lock_good(s, e)
         }
         Section::Write => {
             if !kind_known(e.kind) {
                 return false;
             }
-            write_good(s, table, e)
+            write_good(e)
         }
     }
 }

@@ -10,6 +10,7 @@ use lib.Dec.{ltb, leb, eqb}
 use borrow.Author.Tests.{le-leb, lt-leb}
 use Rattle.forms.specs.Bytes.{Bytes, eqBytes}
 use Rattle.forms.specs.Key.{Key}
+use Rattle.forms.specs.Numbers.{eitherIf}
 use Rattle.rules.specs.declared.records.Kind.{Kind}
 use Rattle.rules.specs.declared.records.Kind.the-variants.{Rollback}
 use Rattle.rules.specs.declared.records.Record.{Record}
@@ -27,7 +28,7 @@ use Rattle.store.specs.declared.views.LockView.{LockView}
 use Rattle.store.specs.declared.views.LineView.{LineView}
 use Rattle.store.specs.declared.views.LineView.the-variants as view
 use Rattle.store.specs.Views.{recordIn, RowThere}
-use Rattle.lookups.specs.KeyStates.{said, isIf, firstFound, visibleAfter, examinedIf, examinedAfter, noHistory, historyAfter, either, seeLine, notRolled, examinedIn, FoundThere, HistoryAt}
+use Rattle.lookups.specs.KeyStates.{said, isIf, firstFound, examinedIf, sightAfter, noHistory, historyAfter, seeLine, notRolled, examinedIn, FoundThere, HistoryAt}
 
 -- a test of each
 module _ (t : Record → Bool) (all : List Record → Bool) (nil : all [] ≡ true) (cons : (w : Record) (ws : List Record) → all (w ∷ ws) ≡ t w && all ws) where
@@ -129,23 +130,15 @@ module _ {top : ℕ} {area : Bytes} {ds : List box.Default} {key : Key} where
       visible-row = if-there (leb (w .stamp) stamp && not (box.eqKind (w .kind) Rollback)) (h .visible) (v .visible-row);
     }
 
--- ---- `visible_after`
+-- ---- `sight_after`
 
-module _ (old : Found) (moment : ℕ) (w : RecordView) where
-  pub newer-late : moment < w .stamp → old ≡ visibleAfter old moment w
-  newer-late h = rw (lt-leb (w .stamp) moment h)
+module _ (old : Found) (n moment : ℕ) (w : RecordView) where
+  pub sight-late : moment < w .stamp → record { visible = old; examined = n } ≡ sightAfter old n moment w
+  sight-late h = rw (lt-leb (w .stamp) moment h)
 
-  pub newer-kind : {k : Kind} → w .stamp ≤ moment → w .kind ≡ k → isIf (not (box.eqKind k Rollback)) w old ≡ visibleAfter old moment w
-  newer-kind {k} h q = rw (le-leb (w .stamp) moment h, q)
-
--- ---- `examined_after`
-
-module _ (old moment : ℕ) (w : RecordView) where
-  pub examined-late : moment < w .stamp → old ≡ examinedAfter old moment w
-  examined-late h = rw (lt-leb (w .stamp) moment h)
-
-  pub examined-kind : {k : Kind} → w .stamp ≤ moment → w .kind ≡ k → examinedIf true (box.eqKind k Rollback) old ≡ examinedAfter old moment w
-  examined-kind {k} h q = rw (le-leb (w .stamp) moment h, q)
+  pub sight-kind : {k : Kind} → w .stamp ≤ moment → w .kind ≡ k
+      → record { visible = isIf (not (box.eqKind k Rollback)) w old; examined = examinedIf true (box.eqKind k Rollback) n } ≡ sightAfter old n moment w
+  sight-kind {k} h q = rw (le-leb (w .stamp) moment h, q)
 
 -- one more at most
 pub examined-few : (t r : Bool) (old : ℕ) → examinedIf t r old ≤ old + 1
@@ -160,7 +153,7 @@ module _ (start stamp next : ℕ) (seen : KeyState) {line : LineView} where
   see-standing e = rw e
 
   pub see-finished : {w : RecordView} {h : History} {t : Bool} → line ≡ view.Finished w → h ≡ historyAfter start stamp (seen .history) w → ltb (w .stamp) stamp ≡ t
-      → record { first = seen .first; place = either t next (seen .place); lock = seen .lock; history = h } ≡ seeLine start stamp next seen line
+      → record { first = seen .first; place = eitherIf t next (seen .place); lock = seen .lock; history = h } ≡ seeLine start stamp next seen line
   see-finished e p q = rw (e, p, ← q)
 
 -- ---- two lists of lines, one after the other

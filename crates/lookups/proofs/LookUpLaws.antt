@@ -18,6 +18,7 @@ use Rattle.seqs.proofs.Alls.{all-at}
 use Rattle.seqs.proofs.Tables.{shown-length, shown-at, shown-drop, shown-past}
 use Rattle.forms.specs.Bytes.{Bytes, cmp, isLess, isEqual, eqBytes, ltBytes}
 use Rattle.forms.specs.Key.{Key}
+use Rattle.forms.specs.Numbers.{eitherIf}
 use Rattle.forms.specs.declared.key.Order.the-variants.{Equal}
 use Rattle.forms.proofs.Orders.{eqBytes-sym, eqBytes-true, ltBytes-else, ltBytes-not-eq′}
 use Rattle.rules.specs.declared.records.Record.{Record}
@@ -44,7 +45,7 @@ use Rattle.lookups.specs.declared.lookup.KeyState.{KeyState}
 use Rattle.store.specs.View.{eightAt, lineIn, placeOf, past, rowLen, keyOf, lineOf, defaultIn, stored, noSlot}
 use Rattle.store.specs.Made.{SlotBelow, Built}
 use Rattle.store.specs.Views.{viewIn, viewOf, RowThere}
-use Rattle.lookups.specs.KeyStates.{lockedBy, nothingAt, either, seeLine, LockThere, HistoryAt, stampLine, recordPlace, KeyStateAt}
+use Rattle.lookups.specs.KeyStates.{lockedBy, nothingAt, seeLine, LockThere, HistoryAt, stampLine, recordPlace, KeyStateAt}
 use Rattle.store.proofs.BuiltLaws.{es, ds, slot, lines-order, same, inside, row-there}
 use Rattle.lookups.proofs.HistoryLaws.{history-none, history-more, examined-few, records-append, orLock, lock-append}
 
@@ -59,7 +60,7 @@ lesser-more h = record { before = λ _. refl; after = λ g. omega arith }
 lesser-same : {i n p : ℕ} → n ≤ i → Lesser i n p → Lesser (i + 1) n p
 lesser-same h l = record { before = λ g. absurd (omega arith); after = λ g. l .after h }
 
-lesser-either : {i n p : ℕ} (t : Bool) → t ≡ ltb i n → Lesser i n p → Lesser (i + 1) n (either t (i + 1) p)
+lesser-either : {i n p : ℕ} (t : Bool) → t ≡ ltb i n → Lesser i n p → Lesser (i + 1) n (eitherIf t (i + 1) p)
 lesser-either true e l = lesser-more (ltb-true _ _ (sym e))
 lesser-either false e l = lesser-same (ltb-false _ _ (sym e)) l
 

@@ -8,6 +8,7 @@ use Prim.Native.Nat.{ℕ, _+_, _≤_}
 use lib.Dec.{ltb, leb, eqb}
 use Rattle.forms.specs.Bytes.{Bytes}
 use Rattle.forms.specs.Key.{Key}
+use Rattle.forms.specs.Numbers.{eitherIf}
 use Rattle.rules.specs.declared.records.Kind.the-variants.{Put, Rollback}
 use Rattle.rules.specs.declared.records.Record.{Record}
 use Rattle.rules.specs.Box as box
@@ -25,6 +26,7 @@ use Rattle.store.specs.declared.views.LineView.the-variants as view
 use Rattle.lookups.specs.declared.lookup.Found.{Found}
 use Rattle.lookups.specs.declared.lookup.Found.the-variants.{Nothing, Is}
 use Rattle.lookups.specs.declared.lookup.History.{History}
+use Rattle.lookups.specs.declared.lookup.Sight.{Sight}
 use Rattle.lookups.specs.declared.lookup.Locked.{Locked}
 use Rattle.lookups.specs.declared.lookup.Locked.the-variants.{Nobody, By}
 use Rattle.lookups.specs.declared.lookup.KeyState.{KeyState}
@@ -49,17 +51,17 @@ abbrev pub firstFound : Found → Bool → RecordView → Found
 firstFound (Is v) hit w = Is v
 firstFound Nothing hit w = isIf hit w Nothing
 
-abbrev pub visibleAfter : Found → ℕ → RecordView → Found
-visibleAfter old moment w = isIf (leb (w .stamp) moment && not (box.eqKind (w .kind) Rollback)) w old
-
 -- "Rollback, go on": of records in the way of a read, a Rollback is one more, and any other begins the count anew
 abbrev pub examinedIf : Bool → Bool → ℕ → ℕ
 examinedIf true true n = n + 1
 examinedIf true false n = 1
 examinedIf false rolled n = n
 
-abbrev pub examinedAfter : ℕ → ℕ → RecordView → ℕ
-examinedAfter old moment w = examinedIf (leb (w .stamp) moment) (box.eqKind (w .kind) Rollback) old
+abbrev pub sightAfter : Found → ℕ → ℕ → RecordView → Sight
+sightAfter old n moment w = record {
+  visible = isIf (leb (w .stamp) moment && not (box.eqKind (w .kind) Rollback)) w old;
+  examined = examinedIf (leb (w .stamp) moment) (box.eqKind (w .kind) Rollback) n;
+}
 
 abbrev pub noHistory : History
 noHistory = record { below = true; above = true; started = Nothing; stamped = Nothing; visible = Nothing; examined = 0 }
@@ -70,13 +72,9 @@ historyAfter start stamp h w = record {
   above = h .above && ltb (w .stamp) stamp;
   started = firstFound (h .started) (eqb start (w .start)) w;
   stamped = firstFound (h .stamped) (eqb stamp (w .stamp)) w;
-  visible = visibleAfter (h .visible) stamp w;
-  examined = examinedAfter (h .examined) stamp w;
+  visible = sightAfter (h .visible) (h .examined) stamp w .visible;
+  examined = sightAfter (h .visible) (h .examined) stamp w .examined;
 }
-
-abbrev pub either : Bool → ℕ → ℕ → ℕ
-either true a b = a
-either false a b = b
 
 -- before the first line of the key
 abbrev pub nothingAt : ℕ → KeyState
@@ -86,7 +84,7 @@ nothingAt first = record { first = first; place = first; lock = Nobody; history 
 abbrev pub seeLine : ℕ → ℕ → ℕ → KeyState → LineView → KeyState
 seeLine start stamp next seen (view.Standing l) = record { first = seen .first; place = next; lock = By l; history = seen .history }
 seeLine start stamp next seen (view.Finished w) =
-    record { first = seen .first; place = either (ltb (w .stamp) stamp) next (seen .place); lock = seen .lock; history = historyAfter start stamp (seen .history) w }
+    record { first = seen .first; place = eitherIf (ltb (w .stamp) stamp) next (seen .place); lock = seen .lock; history = historyAfter start stamp (seen .history) w }
 
 -- ---- what stands at a key
 

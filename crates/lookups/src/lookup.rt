@@ -3,7 +3,7 @@
 ghost use mathlib.Core.Path.{_≡_};
 ghost use Prim.Native.Nat.{_<_};
 ghost use Rattle.store.specs.Made.{Built, storeOf};
-ghost use Rattle.lookups.specs.KeyStates.{firstFound, visibleAfter, examinedAfter, historyAfter, nothingAt, seeLine, KeyStateAt};
+ghost use Rattle.lookups.specs.KeyStates.{firstFound, sightAfter, historyAfter, nothingAt, seeLine, KeyStateAt};
 use forms::Order;
 use forms::both;
 use rules::Kind;
@@ -37,6 +37,12 @@ pub struct History {
     pub examined: usize,
 }
 
+// Of these, what a read sees, and how many it examines.
+pub struct Sight {
+    pub visible: Found,
+    pub examined: usize,
+}
+
 // The lock of a key, if it has one.
 pub enum Locked {
     Nobody,
@@ -66,34 +72,29 @@ fn first_found(old: Found, hit: bool, w: RecordView) -> Found
     }
 }
 
-// "from the newest at or below the moment downward: Rollback, go on"
-fn visible_after(old: Found, moment: u64, w: RecordView) -> Found
-    ensures { λ r. ⌜ r ≡ visibleAfter old moment w ⌝ }
+// What a read at the moment sees, and how many records it examines: "from the newest at or below the moment downward: Rollback, go on". The walk
+// goes upward, so each record that is no Rollback counts anew.
+fn sight_after(visible: Found, examined: usize, moment: u64, w: RecordView) -> Sight
+    requires { ⌜ examined < 1024 ⌝ }
+    ensures { λ r. ⌜ r ≡ sightAfter visible examined moment w ⌝ }
 {
     if moment < w.stamp {
-        return old;
+        return Sight { visible, examined };
     }
     let kind = w.kind;
     match kind {
-        Kind::Put => Found::Is(w),
-        Kind::Delete => Found::Is(w),
-        Kind::Rollback => old,
-    }
-}
-
-// "one more than the Rollbacks passed over": the walk goes upward, so each record that is none counts anew.
-fn examined_after(old: usize, moment: u64, w: RecordView) -> usize
-    requires { ⌜ old < 1024 ⌝ }
-    ensures { λ r. ⌜ r ≡ examinedAfter old moment w ⌝ }
-{
-    if moment < w.stamp {
-        return old;
-    }
-    let kind = w.kind;
-    match kind {
-        Kind::Put => 1,
-        Kind::Delete => 1,
-        Kind::Rollback => old + 1,
+        Kind::Put => Sight {
+            visible: Found::Is(w),
+            examined: 1,
+        },
+        Kind::Delete => Sight {
+            visible: Found::Is(w),
+            examined: 1,
+        },
+        Kind::Rollback => Sight {
+            visible: visible,
+            examined: examined + 1,
+        },
     }
 }
 
@@ -109,15 +110,15 @@ fn see_record(h: History, w: RecordView, start: u64, stamp: u64) -> History
     let old_stamped = h.stamped;
     let stamped = first_found(old_stamped, stamp == w.stamp, w);
     let old_visible = h.visible;
-    let visible = visible_after(old_visible, stamp, w);
-    let examined = examined_after(h.examined, stamp, w);
+    let sight = sight_after(old_visible, h.examined, stamp, w);
+    let visible = sight.visible;
     History {
         below: below,
         above: above,
         started: started,
         stamped: stamped,
         visible: visible,
-        examined: examined,
+        examined: sight.examined,
     }
 }
 

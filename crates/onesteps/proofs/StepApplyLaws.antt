@@ -35,7 +35,7 @@ use Rattle.calls.specs.Entries.{rowAt}
 use Rattle.calls.specs.Passes.{EntryReady, Ready, counted}
 use Rattle.calls.proofs.EntryPartLaws.{parts-are, row-fits}
 use Rattle.calls.proofs.ApplyAllLaws.{Changes, Applying, applying-passed, ready-all}
-use Rattle.onesteps.specs.Checks.{argumentStep}
+use Rattle.calls.specs.Steps.{argumentStep}
 use Rattle.onesteps.proofs.LaterLaws.{entries-check}
 
 -- ---- what one entry asks

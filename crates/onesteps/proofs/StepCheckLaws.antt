@@ -22,15 +22,15 @@ use Rattle.rules.specs.declared.answers.Answer.the-variants.{Accepted, No, Held
 use Rattle.rules.specs.declared.records.Kind.{Kind}
 use Rattle.rules.specs.declared.records.Kind.the-variants.{Put, Delete, Rollback}
 use Rattle.rules.specs.declared.room.Load.{Load}
-use Rattle.rules.specs.Answers.{_▸_, need, needOwn}
+use Rattle.rules.specs.Answers.{_▸_, need}
 use Rattle.rules.specs.Box as box
 use Rattle.rules.specs.Sound.{allSound}
-use Rattle.rules.specs.Calls.{kindOf, owns, allBelow, rowStands}
+use Rattle.rules.specs.Calls.{kindOf, allBelow, rowStands}
 use Rattle.rules.specs.declared.terms.CommitTerms.{CommitTerms}
 use Rattle.rules.specs.OneStep.{appliedIf, appliedBy, appliedIn, stepLock, stepEntry}
 use Rattle.laws.specs.Adds.{noLoad, plus, lockLoad, ofLock, ofRow, replacedBy, stepAdds, stepFrees}
 use Rattle.laws.proofs.StepLaws.{then-left, then-right, need-true, and-false}
-use Rattle.laws.proofs.ChainLaws.{own-out, own-on, last-out, last-on, call-on, denied, granted}
+use Rattle.laws.proofs.ChainLaws.{last-out, last-on, call-on, denied, granted}
 use Rattle.laws.proofs.LoadLaws.{load-fields}
 use Rattle.laws.proofs.RecordLaws.{below-started}
 use Rattle.laws.proofs.OneStepLaws.{step-own}
@@ -57,7 +57,8 @@ use Rattle.calls.specs.Weights.{AddedBy, Refused}
 use Rattle.calls.specs.declared.weights.Weight.{Weight}
 use Rattle.calls.specs.declared.weights.Checked.{Checked}
 use Rattle.calls.proofs.SettledLaws.{then-refused}
-use Rattle.onesteps.specs.Checks.{argumentStep, rowHeld, FoundIn, tallyOf, whenPassed, Asked, Weighed, CheckedAt}
+use Rattle.calls.specs.Steps.{argumentStep, ownStep}
+use Rattle.onesteps.specs.Checks.{rowHeld, FoundIn, tallyOf, kindStep, whenPassed, Asked, Weighed, CheckedAt}
 use Rattle.onesteps.specs.declared.checks.Tally.{Tally}
 
 -- ---- "An entry is applied if the record at commit has this start, this kind and, for a Put, this row"
@@ -122,28 +123,31 @@ module _ (start : ℕ) (put : Bool) (row : Row) (top : ℕ) (area : Bytes) (key 
 
 -- ---- "another's lock 7, own lock of other kind 9"
 
-module _ (h : CommitTerms) (put : Bool) {lock : Locked} (area : Bytes) (row : Row) where
-  pub lock-free : lock ≡ Nobody → Accepted ≡ stepLock h (kindOf (when put row)) (lockedBy area lock)
-  unfolding stepLock
-  lock-free e = sym (ap (λ (x : Locked). stepLock h (kindOf (when put row)) (lockedBy area x)) e)
+module _ (put : Bool) {lock : Locked} (area : Bytes) (row : Row) where
+  pub kind-free : lock ≡ Nobody → Accepted ≡ kindStep (kindOf (when put row)) (lockedBy area lock)
+  kind-free e = sym (ap (λ (x : Locked). kindStep (kindOf (when put row)) (lockedBy area x)) e)
 
-  module _ {l : LockView} (e : lock ≡ By l) {t : Bool} (o : (a : Bytes) → t ≡ owns (h .txn) (h .start) (lockIn a l)) where
-    on-lock : {a : Answer} → a ≡ needOwn (owns (h .txn) (h .start) (lockIn area l)) (box.holderOf (lockIn area l)) ▸ need (box.eqKind (l .kind) (kindOf (when put row))) 9 → a ≡ stepLock h (kindOf (when put row)) (lockedBy area lock)
-    unfolding stepLock
-    on-lock q = q ∙ sym (ap (λ (x : Locked). stepLock h (kindOf (when put row)) (lockedBy area x)) e)
+  module _ {l : LockView} (e : lock ≡ By l) {asked : Kind} (k : (r : Row) → asked ≡ kindOf (when put r)) {u : Bool} (s : u ≡ box.eqKind (l .kind) asked) where
+    lock-kind-is : u ≡ box.eqKind (l .kind) (kindOf (when put row))
+    lock-kind-is = s ∙ ap (box.eqKind (l .kind)) (k row)
 
-    pub lock-another : not t ≡ true → {a : Answer} → ((b : Bytes) → a ≡ Held (box.holderOf (lockIn b l))) → a ≡ stepLock h (kindOf (when put row)) (lockedBy area lock)
-    lock-another n q = q area ∙ on-lock (own-out _ _ _ (denied t _ (o area) n))
+    on-lock : {a : Answer} → a ≡ need (box.eqKind (l .kind) (kindOf (when put row))) 9 → a ≡ kindStep (kindOf (when put row)) (lockedBy area lock)
+    on-lock q = q ∙ sym (ap (λ (x : Locked). kindStep (kindOf (when put row)) (lockedBy area x)) e)
 
-    module _ (own : not t ≡ false) {asked : Kind} (k : (r : Row) → asked ≡ kindOf (when put r)) {u : Bool} (s : u ≡ box.eqKind (l .kind) asked) where
-      lock-kind-is : u ≡ box.eqKind (l .kind) (kindOf (when put row))
-      lock-kind-is = s ∙ ap (box.eqKind (l .kind)) (k row)
+    pub kind-differs : not u ≡ true → No 9 ≡ kindStep (kindOf (when put row)) (lockedBy area lock)
+    kind-differs n = on-lock (last-out _ 9 (denied u _ lock-kind-is n))
 
-      pub lock-kind : not u ≡ true → No 9 ≡ stepLock h (kindOf (when put row)) (lockedBy area lock)
-      lock-kind n = on-lock (own-on _ _ _ _ (granted t _ (o area) own) (last-out _ 9 (denied u _ lock-kind-is n)))
+    pub kind-same : not u ≡ false → Accepted ≡ kindStep (kindOf (when put row)) (lockedBy area lock)
+    kind-same n = on-lock (last-on _ 9 (granted u _ lock-kind-is n))
 
-      pub lock-own : not u ≡ false → Accepted ≡ stepLock h (kindOf (when put row)) (lockedBy area lock)
-      lock-own n = on-lock (own-on _ _ _ _ (granted t _ (o area) own) (last-on _ 9 (granted u _ lock-kind-is n)))
+-- one after the other
+pub lock-is : (h : CommitTerms) (kind : Kind) (o : Option box.Lock) {a b r : Answer} → a ≡ ownStep (h .txn) (h .start) o → b ≡ kindStep kind o → r ≡ a ▸ b → r ≡ stepLock h kind o
+unfolding stepLock _▸_
+lock-is h kind o p q e = e ∙ ap₂ (λ (x y : Answer). x ▸ y) p q ∙ go o
+  where
+    go : (x : Option box.Lock) → ownStep (h .txn) (h .start) x ▸ kindStep kind x ≡ stepLock h kind x
+    go none = refl
+    go (some l) = refl
 
 -- ---- the steps of an entry that is not applied, and its weight
 

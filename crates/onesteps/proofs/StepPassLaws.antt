@@ -35,7 +35,8 @@ use Rattle.calls.proofs.SettledLaws.{then-refused}
 use Rattle.calls.proofs.AnswerLaws.{then-end}
 use Rattle.calls.proofs.CheckAllLaws.{added-small, Summing, summing-start, summing-more, summing-small, summing-few, summing-end}
 use Rattle.calls.proofs.PassLaws.{Pass, pass-start, pass-more, pass-end}
-use Rattle.onesteps.specs.Checks.{argumentStep, allNew, addsOf, freesOf, CheckAsks, CheckedAt, NothingChecked, Joined, AllChecked, leftBy, unlessAll, judged}
+use Rattle.calls.specs.Steps.{argumentStep}
+use Rattle.onesteps.specs.Checks.{allNew, addsOf, freesOf, CheckAsks, CheckedAt, NothingChecked, Joined, AllChecked, leftBy, unlessAll, judged}
 use Rattle.onesteps.specs.declared.checks.Tally.{Tally}
 use Rattle.onesteps.specs.declared.checks.Checks.{Checks}
 

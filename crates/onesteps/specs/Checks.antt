@@ -7,7 +7,6 @@ use mathlib.Core.List.{List, [], _∷_}
 use mathlib.Core.Option.{Option, none, some}
 use lib.ListN.{length}
 use Rattle.forms.specs.Bytes.{Bytes, bytesAt}
-use Rattle.forms.specs.Key.{keyForm}
 use Rattle.forms.specs.Row.{Row}
 use Rattle.forms.specs.Batch.{Mutation}
 use Rattle.rules.specs.declared.answers.Answer.{Answer}
@@ -15,9 +14,8 @@ use Rattle.rules.specs.declared.answers.Answer.the-variants.{Accepted, No, Held
 use Rattle.rules.specs.declared.records.Kind.{Kind}
 use Rattle.rules.specs.declared.room.Load.{Load}
 use Rattle.rules.specs.Answers.{_▸_, need}
-use Rattle.rules.specs.Box.{Box}
+use Rattle.rules.specs.Box.{Box, Lock, eqKind}
 use Rattle.rules.specs.Room.{fits}
-use Rattle.rules.specs.Calls.{rowArgument}
 use Rattle.rules.specs.declared.terms.CommitTerms.{CommitTerms}
 use Rattle.rules.specs.OneStep.{Applied, already, notYet, otherwise, appliedIn, isAlready, argumentsStep, allApplied, stepEntry, stepEntries}
 use Rattle.laws.specs.Adds.{noLoad, plus, minus, sumLoads, stepAdds, stepFrees}
@@ -27,17 +25,12 @@ use Rattle.lookups.specs.declared.lookup.Found.the-variants.{Nothing, Is}
 use Rattle.lookups.specs.declared.lookup.Locked.{Locked}
 use Rattle.store.specs.Made.{Made}
 use Rattle.changes.specs.Loads.{recordSize, freedBy, FreedAsks}
+use Rattle.calls.specs.Steps.{argumentStep}
 use Rattle.calls.specs.Weights.{noWeight, Light}
 use Rattle.calls.specs.declared.weights.Weight.{Weight}
 use Rattle.calls.specs.declared.weights.Checked.{Checked}
 use Rattle.onesteps.specs.declared.checks.Tally.{Tally}
 use Rattle.onesteps.specs.declared.checks.Checks.{Checks}
-
--- "1, 2", of one entry
-unfoldable pub argumentStep : Mutation → Answer
-argumentStep m =
-    need (keyForm (m .key)) 1 ▸
-    need (rowArgument (m .row)) 2
 
 -- ---- the record at commit
 
@@ -62,6 +55,13 @@ tallyOf a = record { all = isAlready a; none = isNew a }
 unfoldable pub allNew : CommitTerms → Box → List Mutation → Bool
 allNew h b [] = true
 allNew h b (m ∷ ms) = isNew (appliedIn h b m) && allNew h b ms
+
+-- ---- the lock
+
+-- "own lock of other kind 9"
+abbrev pub kindStep : Kind → Option Lock → Answer
+kindStep kind none = Accepted
+kindStep kind (some l) = need (eqKind (l .kind) kind) 9
 
 -- ---- what an entry adds and frees
 

@@ -11,7 +11,7 @@ ghost use Rattle.rules.specs.OneStep.{appliedBy, stepLock};
 ghost use Rattle.store.specs.View.{boxOf};
 ghost use Rattle.lookups.specs.KeyStates.{said, lockedBy, KeyStateAt};
 ghost use Rattle.changes.specs.Changes.{entryFor};
-ghost use Rattle.onesteps.specs.Checks.{argumentStep, rowHeld, FoundIn, tallyOf, Weighed, Asked, CheckAsks, CheckedAt};
+ghost use Rattle.onesteps.specs.Checks.{rowHeld, FoundIn, tallyOf, kindStep, Weighed, Asked, CheckAsks, CheckedAt};
 use calls::Checked;
 use calls::Weight;
 use changes::freed_by;
@@ -37,19 +37,6 @@ pub struct Checks {
     pub tally: Tally,
     // the steps of an entry that is not applied, and what it would add and free
     pub seen: Checked,
-}
-
-// "each entry in turn 1, 2"
-fn argument_step(key: &[u8], put: bool, row: &[u8]) -> Answer
-    ensures { λ r. ⌜ r ≡ argumentStep (entryFor (now (key .entry)) put (now (row .entry))) ⌝ }
-{
-    if !forms::key_in_form(key) {
-        return Answer::No(1);
-    }
-    if !calls::row_argument(put, row) {
-        return Answer::No(2);
-    }
-    Answer::Accepted
 }
 
 // "An entry is applied if the record at commit has this start, this kind and, for a Put, this row; same start but other kind or row, 9."
@@ -84,16 +71,13 @@ fn tally_entry(at: Found, start: u64, put: bool, row: &[u8], area: &[u8]) -> Tal
     }
 }
 
-// "another's lock 7, own lock of other kind 9"
-fn lock_step(lock: Locked, terms: CommitTerms, put: bool) -> Answer
-    ensures { λ r. ⌜ ((area : Bytes) (row : Row) → r ≡ stepLock terms (kindOf (when put row)) (lockedBy area lock)) ⌝ }
+// "own lock of other kind 9"
+fn kind_step(lock: Locked, put: bool) -> Answer
+    ensures { λ r. ⌜ ((area : Bytes) (row : Row) → r ≡ kindStep (kindOf (when put row)) (lockedBy area lock)) ⌝ }
 {
     match lock {
         Locked::Nobody => Answer::Accepted,
         Locked::By(l) => {
-            if !store::owns(l, terms.txn, terms.start) {
-                return store::held_by(l);
-            }
             let kind = l.kind;
             let asked = kind_for(put);
             if !calls::same_kind(kind, asked) {
@@ -102,6 +86,15 @@ fn lock_step(lock: Locked, terms: CommitTerms, put: bool) -> Answer
             Answer::Accepted
         }
     }
+}
+
+// "another's lock 7, own lock of other kind 9"
+fn lock_step(lock: Locked, terms: CommitTerms, put: bool) -> Answer
+    ensures { λ r. ⌜ ((area : Bytes) (row : Row) → r ≡ stepLock terms (kindOf (when put row)) (lockedBy area lock)) ⌝ }
+{
+    let own = calls::own_step(lock, terms.txn, terms.start);
+    let kind = kind_step(lock, put);
+    calls::first(own, kind)
 }
 
 // "another's lock 7, own lock of other kind 9, ..; record at or above start 8", and what the entry adds and frees: "Each entry gets a
@@ -154,7 +147,7 @@ pub fn check_entry(
     let lock = found.lock;
     let history = found.history;
     let at = history.stamped;
-    let argument = argument_step(key, put, row);
+    let argument = calls::argument_step(key, put, row);
     let tally = tally_entry(at, terms.start, put, row, area);
     let seen = new_entry_step(lock, history.below, terms, key, put, row);
     Checks {

@@ -3,7 +3,6 @@ ghost use mathlib.Core.Path.{_≡_};
 ghost use Rattle.seqs.specs.Tables.{shown};
 ghost use Rattle.forms.specs.Places.{mutationOf};
 ghost use Rattle.rules.specs.declared.answers.Answer.the-variants.{Accepted};
-ghost use Rattle.rules.specs.Answers.{_▸_};
 ghost use Rattle.store.specs.View.{boxOf};
 ghost use Rattle.calls.specs.Entries.{AllAsks};
 ghost use Rattle.calls.specs.Weights.{Sums, LeftAsks};
@@ -21,16 +20,6 @@ use rules::Answer;
 use rules::CommitTerms;
 use rules::Load;
 use store::Store;
-
-// The first refusal is the answer.
-fn first(a: Answer, b: Answer) -> Answer
-    ensures { λ r. ⌜ r ≡ a ▸ b ⌝ }
-{
-    if calls::accepted(a) {
-        return b;
-    }
-    a
-}
 
 fn nothing_checked() -> Checks
     ensures { λ r. ⌜ NothingChecked r ⌝ }
@@ -53,7 +42,7 @@ fn join(t: Checks, m: Checks) -> Checks
 {
     let x = t.argument;
     let y = m.argument;
-    let argument = first(x, y);
+    let argument = calls::first(x, y);
     let a = t.tally;
     let b = m.tally;
     let all = both(a.all, b.all);
@@ -62,7 +51,7 @@ fn join(t: Checks, m: Checks) -> Checks
     let new = m.seen;
     let was = old.answer;
     let one = new.answer;
-    let answer = first(was, one);
+    let answer = calls::first(was, one);
     let weight = calls::plus_weight(old.weight, new.weight);
     Checks {
         argument: argument,

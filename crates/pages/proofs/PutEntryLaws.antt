@@ -15,9 +15,8 @@ use Rattle.store.specs.declared.table.Slot.{Slot}
 use Rattle.store.specs.declared.views.LineView.{LineView}
 use Rattle.store.specs.declared.views.LineView.the-variants as view
 use Rattle.store.specs.View.{placeOf, keyOf, past}
-use Rattle.store.specs.Views.{lockIn, viewIn, viewOf}
+use Rattle.store.specs.Views.{lockView, lockIn, viewIn, viewOf}
 use Rattle.walks.specs.Walked.{lineBytes, entryBytes, partLen}
-use Rattle.walks.proofs.ListedLineLaws.{intentIn}
 use Rattle.store.specs.Stretches.{StretchAsks}
 use Rattle.pages.specs.Asks.{EntryAsks}
 
@@ -40,7 +39,7 @@ module _ {area : Bytes} {s : Slot} {at : ℕ} {out : Bytes} (q : EntryAsks area 
     line-asks = go (s .line) (q .line .within) (q .line .short) (omega (arith, q .room, entry-long))
       where
         go : (x : Line) → placeOf s + s .len + past x ≤ length area → partLen x ≤ 255 → a + length (lineBytes area (viewIn area (placeOf s + s .len) x)) ≤ length t → ToldAsks area a t (viewIn area (placeOf s + s .len) x)
-        go (Standing l) f g h = record { within = omega arith; short = g; room = omega (arith, lock-long (lockIn area (intentIn area (placeOf s + s .len) l)), bytes-long area (placeOf s + s .len + 8 + 8 + l .rowlen + 8) (l .plen) (omega arith)) }
+        go (Standing l) f g h = record { within = omega arith; short = g; room = omega (arith, lock-long (lockIn area (lockView area (placeOf s + s .len) l)), bytes-long area (placeOf s + s .len + 8 + 8 + l .rowlen + 8) (l .plen) (omega arith)) }
         go (Finished w) f g h = record { within = omega arith; short = g; room = omega (arith, bytes-long area (placeOf s + s .len + 8 + 8) (w .rowlen) (omega arith)) }
 
     module _ {line : LineView} (e : line ≡ viewOf area s) where

@@ -1,5 +1,4 @@
 // The three calls: what the walk judged, "Last, 12", and then the writing. "A refusal changes nothing in store or buffers."
-ghost use mathlib.Core.Path.{_≡_};
 ghost use Rattle.rules.specs.Written.{written, scanPage, scanIntentPage, scanConflictingIntents, WroteAs};
 ghost use Rattle.store.specs.View.{boxOf};
 ghost use Rattle.store.specs.Made.{Made};
@@ -8,20 +7,12 @@ ghost use Rattle.walks.specs.Walked.{same, pageAsked, WalkAsks};
 use crate::sections::put_page;
 use rules::Answer;
 use rules::Wrote;
+use rules::refusal;
 use store::AREA;
 use store::Store;
 use walks::PageQuery;
 use walks::Scan;
 use walks::judge_page;
-
-fn refusal(answer: Answer) -> Wrote
-    ensures { λ r. ⌜ r ≡ record { answer = answer; count = 0 } ⌝ }
-{
-    Wrote {
-        answer: answer,
-        count: 0,
-    }
-}
 
 // Any of the three.
 fn scan(

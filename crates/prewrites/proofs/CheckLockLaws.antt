@@ -1,7 +1,7 @@
 -- A lock on the way of an entry: what each way out of its tests says.
 -- Assumes nothing.
 use Prim.Native.Nat.{ℕ}
-use mathlib.Core.Path.{_≡_, sym, ap, ap₂, _∙_, subst}
+use mathlib.Core.Path.{_≡_, refl, sym, ap, ap₂, _∙_, subst}
 use mathlib.Core.Bool.{Bool, true, false, not, _&&_}
 use mathlib.Core.Option.{Option, some}
 use lib.Dec.{eqb}
@@ -9,19 +9,22 @@ use borrow.Author.Tests.{eq-eqb, ne-eqb}
 use Rattle.forms.specs.Bytes.{Bytes, bytesAt, eqBytes}
 use Rattle.forms.specs.Row.{Row}
 use Rattle.rules.specs.declared.answers.Answer.{Answer}
-use Rattle.rules.specs.declared.answers.Answer.the-variants.{Accepted, No, Held}
+use Rattle.rules.specs.declared.answers.Answer.the-variants.{Accepted, No}
 use Rattle.rules.specs.declared.records.Kind.{Kind}
-use Rattle.rules.specs.Answers.{_▸_, need, needOwn}
-use Rattle.rules.specs.Box.{eqKind, holderOf}
-use Rattle.rules.specs.Calls.{kindOf, owns, rowStands}
+use Rattle.rules.specs.Answers.{_▸_, need}
+use Rattle.rules.specs.Box.{eqKind}
+use Rattle.rules.specs.Calls.{kindOf, rowStands}
 use Rattle.rules.specs.Prewrite.{PrewriteTerms, sameLock, lockStep}
 use Rattle.laws.proofs.StepLaws.{and-both, and-false, and-false-right}
-use Rattle.laws.proofs.ChainLaws.{own-out, own-on, last-out, last-on, denied, granted}
+use Rattle.laws.proofs.ChainLaws.{last-out, last-on, denied, granted}
 use Rattle.store.specs.declared.views.LockView.{LockView}
 use Rattle.lookups.specs.declared.lookup.Locked.{Locked}
 use Rattle.lookups.specs.declared.lookup.Locked.the-variants.{Nobody, By}
 use Rattle.store.specs.Views.{lockIn}
 use Rattle.lookups.specs.KeyStates.{lockedBy}
+use Rattle.calls.specs.Settled.{isAccepted}
+use Rattle.calls.specs.Steps.{ownStep}
+use Rattle.calls.proofs.SettledLaws.{step-out, step-on}
 use Rattle.prewrites.specs.Checks.{IntentIn, LockIn, rowHeld}
 
 -- ---- "own lock with any other field"
@@ -39,41 +42,40 @@ module _ (h : PrewriteTerms) (area : Bytes) (l : LockView) (kind : Kind) {f : Bo
 -- ---- the step
 
 module _ (h : PrewriteTerms) (row : Option Row) (area : Bytes) (lock : Locked) where
-  pub free : lock ≡ Nobody → Accepted ≡ lockStep h row (rowHeld area lock) (lockedBy area lock)
-  unfolding lockStep need
-  free e = sym (ap (λ (x : Locked). lockStep h row (rowHeld area x) (lockedBy area x)) e)
-
   -- primary and row of the lock lie in the area
   pub lock-within : (n : ℕ) {l : LockView} → lock ≡ By l → LockIn n lock → IntentIn n l
   lock-within n e p = subst (LockIn n) e p
 
-  module _ (l : LockView) (e : lock ≡ By l) {o : Bool} (own : (area : Bytes) → o ≡ owns (h .txn) (h .start) (lockIn area l)) where
-    abbrev stored : Option Row
-    stored = some (bytesAt area (l .rowat) (l .rowlen))
+  -- what is asked of an own lock
+  abbrev rest : Locked → Answer
+  rest Nobody = Accepted
+  rest (By l) = need (sameLock h (kindOf row) (lockIn area l) && rowStands row (some (bytesAt area (l .rowat) (l .rowlen)))) 9
 
-    abbrev rest : Answer
-    rest = need (sameLock h (kindOf row) (lockIn area l) && rowStands row stored) 9
+  own-first : (o : Locked) → ownStep (h .txn) (h .start) (lockedBy area o) ▸ rest o ≡ lockStep h row (rowHeld area o) (lockedBy area o)
+  unfolding lockStep need _▸_
+  own-first Nobody = refl
+  own-first (By l) = refl
 
-    stands : needOwn (owns (h .txn) (h .start) (lockIn area l)) (holderOf (lockIn area l)) ▸ rest ≡ lockStep h row (rowHeld area lock) (lockedBy area lock)
-    unfolding lockStep
-    stands = sym (ap (λ (x : Locked). lockStep h row (rowHeld area x) (lockedBy area x)) e)
-
+  module _ {a : Answer} (e : (area : Bytes) → a ≡ ownStep (h .txn) (h .start) (lockedBy area lock)) {t : Bool} (q : t ≡ isAccepted a) where
     -- "a lock of another transaction or start, 7"
-    pub another's : {a : Answer} → not o ≡ true → ((area : Bytes) → a ≡ Held (holderOf (lockIn area l))) → a ≡ lockStep h row (rowHeld area lock) (lockedBy area lock)
-    another's n q = q area ∙ own-out _ _ rest (denied _ _ (own area) n) ∙ stands
+    pub another's : not t ≡ true → a ≡ lockStep h row (rowHeld area lock) (lockedBy area lock)
+    another's n = step-out (rest lock) (e area) q n ∙ own-first lock
 
-    module _ (p : not o ≡ false) where
-      go-on : {a : Answer} → a ≡ rest → a ≡ lockStep h row (rowHeld area lock) (lockedBy area lock)
-      go-on q = own-on _ (holderOf (lockIn area l)) _ rest (granted _ _ (own area) p) q ∙ stands
+    module _ (p : not t ≡ false) where
+      go-on : {x : Answer} {o : Locked} → lock ≡ o → x ≡ rest o → x ≡ lockStep h row (rowHeld area lock) (lockedBy area lock)
+      go-on w z = step-on (rest lock) (e area) q p (z ∙ sym (ap rest w)) ∙ own-first lock
 
-      module _ {s : Bool} (k : s ≡ sameLock h (kindOf row) (lockIn area l)) where
+      pub free : lock ≡ Nobody → Accepted ≡ lockStep h row (rowHeld area lock) (lockedBy area lock)
+      free w = go-on w refl
+
+      module _ (l : LockView) (w : lock ≡ By l) {s : Bool} (k : s ≡ sameLock h (kindOf row) (lockIn area l)) where
         pub own-differs : not s ≡ true → No 9 ≡ lockStep h row (rowHeld area lock) (lockedBy area lock)
-        own-differs n = go-on (last-out _ 9 (and-false _ _ (denied _ _ k n)))
+        own-differs n = go-on w (last-out _ 9 (and-false _ _ (denied _ _ k n)))
 
-        module _ {t : Bool} (q : t ≡ rowStands row (some (bytesAt area (l .rowat) (l .rowlen)))) where
-          pub row-differs : not t ≡ true → No 9 ≡ lockStep h row (rowHeld area lock) (lockedBy area lock)
-          row-differs n = go-on (last-out _ 9 (and-false-right (sameLock h (kindOf row) (lockIn area l)) _ (denied _ _ q n)))
+        module _ {u : Bool} (r : u ≡ rowStands row (some (bytesAt area (l .rowat) (l .rowlen)))) where
+          pub row-differs : not u ≡ true → No 9 ≡ lockStep h row (rowHeld area lock) (lockedBy area lock)
+          row-differs n = go-on w (last-out _ 9 (and-false-right (sameLock h (kindOf row) (lockIn area l)) _ (denied _ _ r n)))
 
           -- "own equal lock, accepted and unchanged"
-          pub own-same : not s ≡ false → not t ≡ false → Accepted ≡ lockStep h row (rowHeld area lock) (lockedBy area lock)
-          own-same m n = go-on (last-on _ 9 (and-both _ _ (granted _ _ k m) (granted _ _ q n)))
+          pub own-same : not s ≡ false → not u ≡ false → Accepted ≡ lockStep h row (rowHeld area lock) (lockedBy area lock)
+          own-same m n = go-on w (last-on _ 9 (and-both _ _ (granted _ _ k m) (granted _ _ r n)))

@@ -11,7 +11,7 @@ ghost use Rattle.calls.specs.Entries.{AllAsks};
 ghost use Rattle.calls.specs.Passes.{allDone};
 ghost use Rattle.prewrites.specs.Checks.{withPrimary};
 use crate::heads::LockTerms;
-use crate::heads::head_step;
+use crate::heads::terms_step;
 use crate::passes::check_all;
 use actions::Action;
 use calls::Changed;
@@ -68,7 +68,7 @@ pub fn prewrite_batch(
         start: start,
         ttl: ttl,
     };
-    let answer = head_step(entries.ok, n, terms, primary);
+    let answer = calls::batch_step(entries.ok, n, terms_step(terms, primary));
     if !calls::accepted(answer) {
         return Changed {
             store: store,

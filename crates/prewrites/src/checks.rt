@@ -54,12 +54,13 @@ fn check_lock(
     requires { ⌜ LockIn (length (now area)) lock ⌝ }
     ensures { λ r. ⌜ r ≡ lockStep (withPrimary terms (now (primary .entry))) (when put (now (row .entry))) (rowHeld (now (area .entry)) lock) (lockedBy (now (area .entry)) lock) ⌝ }
 {
+    let own = calls::own_step(lock, terms.txn, terms.start);
+    if !calls::accepted(own) {
+        return own;
+    }
     match lock {
         Locked::Nobody => Answer::Accepted,
         Locked::By(l) => {
-            if !store::owns(l, terms.txn, terms.start) {
-                return store::held_by(l);
-            }
             if !same_lock(l, area, terms, primary, put) {
                 return Answer::No(9);
             }
@@ -85,11 +86,9 @@ fn entry_step(
     requires { ⌜ LockIn (length (now area)) lock ⌝ }
     ensures { λ r. ⌜ r ≡ entrySteps (withPrimary terms (now (primary .entry))) (entryOf (now (key .entry)) put (now (row .entry))) below (rowHeld (now (area .entry)) lock) (lockedBy (now (area .entry)) lock) ⌝ }
 {
-    if !forms::key_in_form(key) {
-        return Answer::No(1);
-    }
-    if !calls::row_argument(put, row) {
-        return Answer::No(2);
+    let argument = calls::argument_step(key, put, row);
+    if !calls::accepted(argument) {
+        return argument;
     }
     if !below {
         return Answer::No(8);

@@ -2,13 +2,14 @@
 -- Assumes nothing.
 use Prim.Native.Nat.{ℕ, _-_}
 use mathlib.Core.Path.{_≡_}
-use mathlib.Core.Bool.{Bool, true, false, _&&_}
+use mathlib.Core.Bool.{_&&_}
 use mathlib.Core.List.{[]}
 use lib.ListN.{length}
 use lib.Dec.{leb}
 use Rattle.forms.specs.Bytes.{Bytes, bytesAt}
 use Rattle.forms.specs.Key.{Key}
 use Rattle.forms.specs.Row.{Row}
+use Rattle.forms.specs.Ones.{orEmpty}
 use Rattle.rules.specs.Answers.{Reply, nothing, shown, refused}
 use Rattle.rules.specs.Box.{Lock}
 use Rattle.reads.specs.declared.seen.RowSeen.{RowSeen}
@@ -18,13 +19,9 @@ use Rattle.reads.specs.declared.seen.LockSeen.the-variants as pointed
 use Rattle.reads.specs.declared.parts.Place.{Place}
 use Rattle.reads.specs.Seen.{seenIn, SeenBelow, pointedIn, PointedBelow}
 
-abbrev pub bytesIf : Bool → Bytes → Bytes
-bytesIf true b = b
-bytesIf false b = []
-
 -- the stretch of the area, where it lies in it
 abbrev pub partOf : Bytes → ℕ → ℕ → Bytes
-partOf area at len = bytesIf (leb at (length area) && leb len (length area - at)) (bytesAt area at len)
+partOf area at len = orEmpty (leb at (length area) && leb len (length area - at)) (bytesAt area at len)
 
 -- ---- a read
 

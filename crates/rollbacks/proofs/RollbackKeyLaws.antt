@@ -50,7 +50,8 @@ use Rattle.calls.specs.declared.weights.Checked.{Checked}
 use Rattle.calls.proofs.AnswerLaws.{then-same}
 use Rattle.calls.proofs.SeenLaws.{checked-refused}
 use Rattle.calls.proofs.StoreLaws.{pair-none, freed-few, freed-is}
-use Rattle.rollbacks.specs.Checks.{stepsOf, rolledBy, ownStep, stampedStep, keySteps, weightOf}
+use Rattle.calls.specs.Steps.{ownStep}
+use Rattle.rollbacks.specs.Checks.{stepsOf, rolledBy, stampedStep, keySteps, weightOf}
 
 -- "records by ascending stamp, each sound (9), with this start and not Rollback 8": sound they are, and one at most has this start
 rolls-is : (s : ℕ) (k : Key) (es : List box.KeyLine) → allGood goodLine es ≡ true → noSecond likeLine es ≡ true → need (rolledBy (withStart s (box.recordsOf k es))) 8 ≡ rollbackRecords s (box.recordsOf k es)

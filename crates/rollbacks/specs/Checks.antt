@@ -8,12 +8,10 @@ use lib.ListN.{length}
 use Rattle.forms.specs.Bytes.{Bytes}
 use Rattle.forms.specs.Key.{Key, keyForm}
 use Rattle.rules.specs.declared.answers.Answer.{Answer}
-use Rattle.rules.specs.declared.answers.Answer.the-variants.{Accepted}
 use Rattle.rules.specs.declared.records.Kind.the-variants.{Rollback}
 use Rattle.rules.specs.declared.records.Record.{Record}
-use Rattle.rules.specs.Answers.{_▸_, need, needOwn}
-use Rattle.rules.specs.Box.{Lock, holderOf, eqKind}
-use Rattle.rules.specs.Calls.{owns}
+use Rattle.rules.specs.Answers.{_▸_, need}
+use Rattle.rules.specs.Box.{Lock, eqKind}
 use Rattle.rules.specs.Rollback.{rollbackKey}
 use Rattle.laws.specs.Adds.{rollbackAdds, rollbackFrees}
 use Rattle.store.specs.declared.table.Store.{Store}
@@ -22,6 +20,7 @@ use Rattle.lookups.specs.declared.lookup.Found.the-variants.{Nothing, Is}
 use Rattle.lookups.specs.declared.lookup.Locked.{Locked}
 use Rattle.store.specs.Made.{Built}
 use Rattle.changes.specs.Loads.{recordSize, freedBy, FreedAsks}
+use Rattle.calls.specs.Steps.{ownStep}
 use Rattle.calls.specs.Weights.{noWeight, Steps}
 use Rattle.calls.specs.declared.weights.Weight.{Weight}
 
@@ -35,11 +34,6 @@ stepsOf txn start = record { check = rollbackKey txn start; adds = rollbackAdds 
 abbrev pub rolledBy : Option Record → Bool
 rolledBy none = true
 rolledBy (some w) = eqKind (w .kind) Rollback
-
--- "another's lock 7"
-abbrev pub ownStep : ℕ → ℕ → Option Lock → Answer
-ownStep txn start none = Accepted
-ownStep txn start (some l) = needOwn (owns txn start l) (holderOf l)
 
 -- "a record stamped with this start that is not its Rollback, 9": it has another start, since with this one it would be a Rollback
 abbrev pub stampedStep : ℕ → ℕ → Option Lock → Option Record → Answer

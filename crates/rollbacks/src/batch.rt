@@ -1,11 +1,8 @@
 // Rollback of a batch of keys.
 ghost use mathlib.Core.Path.{_≡_};
-ghost use mathlib.Core.Bool.{not};
-ghost use lib.Dec.{eqb};
 ghost use Rattle.seqs.specs.Tables.{shown};
 ghost use Rattle.forms.specs.Places.{keyAt};
 ghost use Rattle.rules.specs.declared.answers.Answer.the-variants.{Accepted};
-ghost use Rattle.rules.specs.Answers.{_▸_, need};
 ghost use Rattle.rules.specs.Calls.{zeroStep};
 ghost use Rattle.rules.specs.Rollback.{rollbackKey, applyRollback, rollbackBatch};
 ghost use Rattle.store.specs.View.{boxOf};
@@ -17,7 +14,6 @@ use crate::passes::check_all;
 use actions::Action;
 use calls::Changed;
 use forms::Entry;
-use rules::Answer;
 use store::AREA;
 use store::Store;
 
@@ -37,30 +33,17 @@ fn rollback_all(
 {
     let v = check_all(store, area, txn, start, batch, n, list);
     let answer = v.answer;
+    let m = calls::only_if(v.moves, n);
     let action = Action::Rollback {
         txn: txn,
         start: start,
     };
-    let m = calls::only_if(v.moves, n);
     let none = &batch[0..0];
     let applied = calls::apply_all(store, area, action, none, batch, m, list);
     Changed {
         store: applied,
         answer: answer,
     }
-}
-
-// "6, 5; 3", of a batch that was decoded
-fn head_step(ok: bool, n: usize, txn: u64, start: u64) -> Answer
-    ensures { λ r. ⌜ r ≡ need ok 6 ▸ need (not (eqb n 0)) 5 ▸ zeroStep txn start ⌝ }
-{
-    if !ok {
-        return Answer::No(6);
-    }
-    if n == 0 {
-        return Answer::No(5);
-    }
-    calls::zero_step(txn, start)
 }
 
 // "6, 5; 3; per key: ..; Then 11."
@@ -76,7 +59,7 @@ pub fn rollback_intents_batch(
 {
     let entries = forms::keys_of(batch);
     let n = entries.count;
-    let answer = head_step(entries.ok, n, txn, start);
+    let answer = calls::batch_step(entries.ok, n, calls::zero_step(txn, start));
     if !calls::accepted(answer) {
         return Changed {
             store: store,

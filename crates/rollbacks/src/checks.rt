@@ -5,7 +5,7 @@ ghost use Rattle.forms.specs.Bytes.{Bytes};
 ghost use Rattle.store.specs.View.{boxOf};
 ghost use Rattle.lookups.specs.KeyStates.{said, lockedBy};
 ghost use Rattle.calls.specs.Weights.{EntryChecked};
-ghost use Rattle.rollbacks.specs.Checks.{stepsOf, rolledBy, ownStep, stampedStep, keySteps, weightOf, WeightAsks, KeyAsks};
+ghost use Rattle.rollbacks.specs.Checks.{stepsOf, rolledBy, stampedStep, keySteps, weightOf, WeightAsks, KeyAsks};
 use calls::Checked;
 use calls::Weight;
 use changes::freed_by;
@@ -30,27 +30,12 @@ fn rolled_by(started: Found) -> bool
     }
 }
 
-// "another's lock 7"
-fn own_step(lock: Locked, txn: u64, start: u64) -> Answer
-    ensures { λ r. ⌜ ((area : Bytes) → r ≡ ownStep txn start (lockedBy area lock)) ⌝ }
-{
-    match lock {
-        Locked::Nobody => Answer::Accepted,
-        Locked::By(l) => {
-            if !store::owns(l, txn, start) {
-                return store::held_by(l);
-            }
-            Answer::Accepted
-        }
-    }
-}
-
 // "a record stamped with this start that is not its Rollback, 9; its Rollback .., accepted and unchanged; another's lock 7"
 fn stamped_step(at: Found, lock: Locked, txn: u64, start: u64) -> Answer
     ensures { λ r. ⌜ ((area : Bytes) → r ≡ stampedStep txn start (lockedBy area lock) (said at)) ⌝ }
 {
     match at {
-        Found::Nothing => own_step(lock, txn, start),
+        Found::Nothing => calls::own_step(lock, txn, start),
         Found::Is(w) => {
             if w.start != start {
                 return Answer::No(9);

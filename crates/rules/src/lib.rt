@@ -27,3 +27,4 @@ pub use writers::put_default;
 pub use writers::put_lock;
 pub use writers::put_record;
 pub use written::Wrote;
+pub use written::refusal;

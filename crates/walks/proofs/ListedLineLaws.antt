@@ -27,10 +27,8 @@ use Rattle.store.specs.declared.table.LockSlot.{LockSlot}
 use Rattle.store.specs.declared.table.RecordSlot.{RecordSlot}
 use Rattle.store.specs.declared.table.Line.{Line}
 use Rattle.store.specs.declared.table.Line.the-variants.{Standing, Finished}
-use Rattle.store.specs.declared.views.LockView.{LockView}
-use Rattle.store.specs.declared.views.RecordView.{RecordView}
-use Rattle.store.specs.View.{placeOf, eightAt, past, rowLen, keyOf, rowIn, lineIn}
-use Rattle.store.specs.Views.{viewIn, lockIn}
+use Rattle.store.specs.View.{placeOf, past, rowLen, keyOf, rowIn, lineIn}
+use Rattle.store.specs.Views.{lockView, viewIn, lockIn}
 use Rattle.walks.specs.Walked.{pageOn, lineBytes, entryBytes, partLen}
 use Rattle.walks.specs.Turns.{costIn, costOf, stopIf, largeIf, add, roomTurn, turnTo, turnDue}
 use Rattle.walks.proofs.WalkLaws.{AddFits, TurnGood, Stepped}
@@ -58,26 +56,11 @@ pub record Lists {A : Type 0} (area : Bytes) (bytes : A → Bytes) (cost : A →
   pub bytes-is : bytes x ≡ entryBytes area s
   pub cost-is : cost x ≡ costOf s
 
-abbrev pub intentIn : Bytes → ℕ → LockSlot → LockView
-intentIn area at l = record {
-  txn = eightAt area at;
-  start = eightAt area (at + 8);
-  ttl = eightAt area (at + 8 + 8 + l .rowlen);
-  at = at + 8 + 8 + l .rowlen + 8;
-  len = l .plen;
-  kind = l .kind;
-  rowat = at + 8 + 8;
-  rowlen = l .rowlen;
-}
-
-abbrev pub writtenIn : Bytes → ℕ → RecordSlot → RecordView
-writtenIn area at w = record { stamp = eightAt area at; start = eightAt area (at + 8); kind = w .kind; rowat = at + 8 + 8; rowlen = w .rowlen }
-
 abbrev pub rowOn : Bytes → Slot → KeyRow
 rowOn area s = record { key = keyOf area s; row = rowIn area s }
 
 abbrev pub lockOn : Bytes → Slot → LockSlot → KeyLock
-lockOn area s l = record { key = keyOf area s; lock = lockIn area (intentIn area (placeOf s + s .len) l) }
+lockOn area s l = record { key = keyOf area s; lock = lockIn area (lockView area (placeOf s + s .len) l) }
 
 module _ (area : Bytes) (s : Slot) (h : placeOf s + s .len + past (s .line) ≤ length area) (k : keyForm (keyOf area s) ≡ true) where
   key-long : length (keyOf area s) ≡ s .len

@@ -32,7 +32,7 @@ use Rattle.store.specs.declared.table.Line.{Line}
 use Rattle.store.specs.declared.table.Line.the-variants.{Standing, Finished}
 use Rattle.store.specs.View.{placeOf, rowIf, lineIn, keyOf, lineOf, rowIn, boxOf, noSlot, defaultIn, stored}
 use Rattle.store.specs.Made.{Built, goodLine, soundLine}
-use Rattle.store.specs.Views.{viewIn, viewOf}
+use Rattle.store.specs.Views.{lockView, recordView, viewIn, viewOf}
 use Rattle.store.proofs.MemberLaws.{fewer-take}
 use Rattle.store.proofs.BuiltLaws.{lines-order, slot-in, row-there}
 use Rattle.store.proofs.KeySoundLaws.{good-in, row-form, row-shown}
@@ -43,7 +43,7 @@ use Rattle.walks.specs.Walked.{pageOn, walkBy, overOf, limitsOf, walkFro
 use Rattle.walks.specs.Dues.{noDue, seeRow, dueAfter, Later, byKey, waitsFor}
 use Rattle.walks.specs.Turns.{turnDue}
 use Rattle.walks.proofs.WalkLaws.{Stepped, Walking, walking-start, walking-pass, walking-listed, turn-on, turn-stop, turn-refuse, turn-cheap, turn-add}
-use Rattle.walks.proofs.ListedLineLaws.{intentIn, writtenIn, row-lists}
+use Rattle.walks.proofs.ListedLineLaws.{row-lists}
 use Rattle.walks.proofs.ReadKeyLaws.{none-before, DueRow, due-none, due-end, due-lock, due-record}
 use Rattle.walks.proofs.ReadKeyLaws.{keys-shared, keys-last, keys-end, row-stepped}
 use Rattle.walks.proofs.ListedLineLaws.{intent-stepped, conflict-stepped}
@@ -127,9 +127,9 @@ module _ {st : Store} {area : Bytes} (b : Built st area) where
         go : (x : Line) → slot i .line ≡ x → box.ordered box.before (take i es ++ record { key = key i; line = lineIn area (placeOf (slot i) + slot i .len) x } ∷ []) ≡ true → soundLine (lineIn area (placeOf (slot i) + slot i .len) x) ≡ true
             → (kindIn (lineIn area (placeOf (slot i) + slot i .len) x) ≡ Put → box.rowOf (key i) (startOf (lineIn area (placeOf (slot i) + slot i .len) x)) ds ≡ some (rowIn area (slot i)))
             → DueRow area m ds (key i) (take i es ++ record { key = key i; line = lineIn area (placeOf (slot i) + slot i .len) x } ∷ []) (seeRow m d (slot i) (viewIn area (placeOf (slot i) + slot i .len) x))
-        go (Standing l) q o g r = due-lock v (slot i) (intentIn area (placeOf (slot i) + slot i .len) l) o
+        go (Standing l) q o g r = due-lock v (slot i) (lockView area (placeOf (slot i) + slot i .len) l) o
         go (Finished w) q o g r =
-            due-record v (slot i) (writtenIn area (placeOf (slot i) + slot i .len) w) g (λ p. row-shown (key i) _ ds (rowIn area (slot i)) (b .kept .rows) (r p))
+            due-record v (slot i) (recordView area (placeOf (slot i) + slot i .len) w) g (λ p. row-shown (key i) _ ds (rowIn area (slot i)) (b .kept .rows) (r p))
             (λ p. record { key-is = refl; lists = row-lists area (slot i) (slot-in b i h) form w q (row-form (key i) _ ds (rowIn area (slot i)) (b .kept .rows) (r p)) })
 
     -- there is no more of the key

@@ -7,13 +7,13 @@ use Rattle.converts.proofs.calls.convert_image.Statement.{statement}
 use Rattle.converts.proofs.calls.convert_image.Tie as tie
 
 returns : tie.Need-returns
-returns c = converts-none ((c .before .before .before .before .before .args) .out .now) ((c .before .before .old-image) .ensures) ((c .if1) .taken)
+returns c = rw ((c .refusal) .ensures) (converts-none ((c .before .before .before .before .before .before .args) .out .now) ((c .before .before .before .old-image) .ensures) ((c .before .if1) .taken))
 
 returns-2 : tie.Need-returns-2
-returns-2 c = converts-short ((c .before .before .before .before .before .before .args) .out .now) ((c .before .before .before .old-image) .ensures) ((c .before .if1) .left) (omega (arith, (c .if2) .taken))
+returns-2 c = rw ((c .refusal2) .ensures) (converts-short ((c .before .before .before .before .before .before .before .args) .out .now) ((c .before .before .before .before .old-image) .ensures) ((c .before .before .if1) .left) (omega (arith, (c .before .if2) .taken)))
 
 returns-3 : tie.Need-returns-3
-returns-3 c = converts-short ((c .before .before .before .before .before .before .before .before .args) .out .now) ((c .before .before .before .before .before .old-image) .ensures) ((c .before .before .before .if1) .left) (omega (arith, (c .before .before .if2) .left, (c .if3) .taken))
+returns-3 c = rw ((c .refusal3) .ensures) (converts-short ((c .before .before .before .before .before .before .before .before .before .args) .out .now) ((c .before .before .before .before .before .before .old-image) .ensures) ((c .before .before .before .before .if1) .left) (omega (arith, (c .before .before .before .if2) .left, (c .before .if3) .taken)))
 
 put-converted-requires : tie.Need-put-converted-requires
 put-converted-requires c κs = converts-asks ((c .before .before .before .before .before .before .before .before .before .args) .out .now) ((c .before .before .before .before .before .before .old-image) .ensures) ((c .before .before .before .before .if1) .left) (omega (arith, (c .before .before .before .if2) .left, (c .before .if3) .left))
@@ -25,5 +25,5 @@ pub convert-image-spec : {M : Type 1} → statement M
 convert-image-spec =
     tie.close
     (tie.spec
-    (λ c κs. search needs) returns returns-2 (λ c. search needs) returns-3 put-converted-requires
-    (λ c. search needs) returns-4)
+    (λ c κs. search needs) (λ c κs. search needs) returns (λ c κs. search needs) returns-2 (λ c. search needs)
+    (λ c κs. search needs) returns-3 put-converted-requires (λ c. search needs) returns-4)

@@ -1,4 +1,4 @@
--- `figures::statistics::one_line` meets its contract, one law for both kinds of line.
+-- `figures::statistics::one_line` meets its contract (`line-counted`).
 -- Assumes nothing.
 use native.Mathlib.Nat.{add-sub-cancel-left}
 use Rattle.figures.proofs.StatLaws.{line-counted}
@@ -8,10 +8,7 @@ use Rattle.figures.proofs.statistics.one_line.Statement.{statement}
 use Rattle.figures.proofs.statistics.one_line.Tie as tie
 
 returns : tie.Need-returns
-returns c = line-counted (c .before .before .before .before .before .before .before .before .before .before .before .before .before .before .before .pre) ((c .before .before .before .before .before .before .before .before .before .before .before .before .place-of) .ensures) ((c .before .before .before .before .line) .given .1) (rw ((c .before .before .before .before .before .before .before .before .before .before .before .before .place-of) .ensures) at ((c .before .before .before .before .before .before .before .before .same) .ensures) ∙ simp add-sub-cancel-left) ((c .before .before .if-row) .ensures .0) ((c .before .next-run) .ensures) ((c .next-run2) .ensures)
-
-returns-2 : tie.Need-returns-2
-returns-2 c = line-counted (c .before .before .before .before .before .before .before .before .before .before .before .before .before .before .before .pre) ((c .before .before .before .before .before .before .before .before .before .before .before .before .place-of) .ensures) ((c .before .before .before .before .line2) .given .1) (rw ((c .before .before .before .before .before .before .before .before .before .before .before .before .place-of) .ensures) at ((c .before .before .before .before .before .before .before .before .same) .ensures) ∙ simp add-sub-cancel-left) ((c .before .before .if-row2) .ensures .0) ((c .before .next-run3) .ensures) ((c .next-run4) .ensures)
+returns c = line-counted (c .before .before .before .before .before .before .before .before .before .before .before .before .pre) ((c .before .before .before .before .before .before .before .before .before .place-of) .ensures) (rw ((c .before .before .before .before .before .before .before .before .before .place-of) .ensures) at ((c .before .before .before .before .before .same) .ensures) ∙ simp add-sub-cancel-left) ((c .before .before .added-by) .ensures .0) ((c .before .next-run) .ensures) ((c .next-run2) .ensures)
 
 pub one-line-spec : {M : Type 1} → statement M
 one-line-spec =
@@ -28,13 +25,7 @@ one-line-spec =
     (λ c. search needs)
     (λ c. search needs)
     (λ c κs. search needs)
-    (λ c. search needs)
     (λ c κs. search needs)
     (λ c κs. search needs)
     (λ c κs. search needs)
-    (λ c. search needs)
-    (λ c κs. search needs)
-    (λ c κs. search needs)
-    (λ c κs. search needs)
-    returns
-    returns-2)
+    returns)

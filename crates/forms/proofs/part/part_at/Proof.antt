@@ -7,18 +7,28 @@ use Rattle.forms.proofs.part.part_at.Statement.{statement}
 use Rattle.forms.proofs.part.part_at.Tie as tie
 
 returns : tie.Need-returns
-returns c = part-none (c .if1 .taken)
+returns c = rw (c .no-part .ensures) (part-none (c .before .if1 .taken))
 
 cast-n : tie.Need-cast-n
-cast-n c = omega (arith, c .shared-slice-known .given (c .before .before .args .at))
+cast-n c = omega (arith, c .shared-slice-known2 .given (c .before .before .before .args .at))
 
 returns-2 : tie.Need-returns-2
-returns-2 c = part-short (omega arith) (omega arith)
+returns-2 c = rw (c .no-part2 .ensures) (part-short (omega arith) (omega arith))
 
 returns-3 : tie.Need-returns-3
-returns-3 c = part-good (omega arith) (omega arith) (omega (arith, c .before .shared-slice-known .given (c .before .before .before .args .at)))
+returns-3 c = part-good (omega arith) (omega arith) (omega (arith, c .before .shared-slice-known2 .given (c .before .before .before .before .args .at)))
 
 pub part-at-spec : {M : Type 1} → statement M
 part-at-spec =
     tie.close
-    (tie.spec returns (λ c. search needs) cast-n (λ c. search needs) (λ c. search needs) returns-2 (λ c. search needs) returns-3)
+    (tie.spec
+    (λ c κs. search needs)
+    returns
+    (λ c. search needs)
+    cast-n
+    (λ c. search needs)
+    (λ c. search needs)
+    (λ c κs. search needs)
+    returns-2
+    (λ c. search needs)
+    returns-3)

@@ -12,14 +12,23 @@ use Rattle.prewrites.proofs.batch.prewrite_batch.Tie as tie
 
 returns : tie.Need-returns
 unfolding prewriteBatch
-returns c = let a = (c .before .before .before .before .before .before .args) in batch-refused (by-entries (withPrimary (record { txn = a .txn; start = a .start; ttl = a .ttl }) (a .primary .now))) ((c .before .before .before .before .before .before .pre)) ((c .before .before .before .mutations-of) .ensures) ((c .before .before .head-step) .ensures) (is-refusal _ ((c .before .accepted) .ensures) ((c .if1) .taken))
+returns c = let a = (c .before .before .before .before .before .before .before .args) in batch-refused (by-entries (withPrimary (record { txn = a .txn; start = a .start; ttl = a .ttl }) (a .primary .now))) (c .before .before .before .before .before .before .before .pre) (c .before .before .before .before .mutations-of .ensures) (rw (c .before .before .before .terms-step .ensures) at (c .before .before .batch-step .ensures)) (is-refusal _ (c .before .accepted .ensures) (c .if1 .taken))
 
 prewrite-all-requires : tie.Need-prewrite-all-requires
-prewrite-all-requires c κs = let a = (c .before .before .before .before .before .before .before .before .args) in let p = is-accepted _ ((c .before .before .before .accepted) .ensures) ((c .before .before .if1) .left) in let w = by-entries (withPrimary (record { txn = a .txn; start = a .start; ttl = a .ttl }) (a .primary .now)) in (record { made = ((c .before .before .before .before .before .before .before .before .pre)); form = mutations-in-form ((c .before .before .before .before .before .mutations-of) .ensures) (batch-good w ((c .before .before .before .before .before .before .before .before .pre)) ((c .before .before .before .before .before .mutations-of) .ensures) ((c .before .before .before .before .head-step) .ensures) p) }, batch-head w ((c .before .before .before .before .before .before .before .before .pre)) ((c .before .before .before .before .before .mutations-of) .ensures) ((c .before .before .before .before .head-step) .ensures) p)
+prewrite-all-requires c κs = let a = (c .before .before .before .before .before .before .before .before .before .args) in let made = (c .before .before .before .before .before .before .before .before .before .pre) in let d = (c .before .before .before .before .before .before .mutations-of .ensures) in let w = (by-entries (withPrimary (record { txn = a .txn; start = a .start; ttl = a .ttl }) (a .primary .now))) in let e = rw (c .before .before .before .before .before .terms-step .ensures) at (c .before .before .before .before .batch-step .ensures) in let p = is-accepted _ (c .before .before .before .accepted .ensures) (c .before .before .if1 .left) in (record { made = made; form = mutations-in-form d (batch-good w made d e p) }, batch-head w made d e p)
 
 returns-2 : tie.Need-returns-2
 unfolding prewriteBatch
-returns-2 c = let a = (c .before .before .before .before .before .before .before .before .before .args) in batch-done (by-entries (withPrimary (record { txn = a .txn; start = a .start; ttl = a .ttl }) (a .primary .now))) ((c .before .before .before .before .before .before .before .before .before .pre)) ((c .before .before .before .before .before .before .mutations-of) .ensures) ((c .before .before .before .before .before .head-step) .ensures) (is-accepted _ ((c .before .before .before .before .accepted) .ensures) ((c .before .before .before .if1) .left)) ((c .prewrite-all) .ensures)
+returns-2 c = let a = (c .before .before .before .before .before .before .before .before .before .before .args) in batch-done (by-entries (withPrimary (record { txn = a .txn; start = a .start; ttl = a .ttl }) (a .primary .now))) (c .before .before .before .before .before .before .before .before .before .before .pre) (c .before .before .before .before .before .before .before .mutations-of .ensures) (rw (c .before .before .before .before .before .before .terms-step .ensures) at (c .before .before .before .before .before .batch-step .ensures)) (is-accepted _ (c .before .before .before .before .accepted .ensures) (c .before .before .before .if1 .left)) (c .prewrite-all .ensures)
 
 pub prewrite-batch-spec : {M : Type 1} → statement M
-prewrite-batch-spec = tie.close (tie.spec (λ c κs. search needs) (λ c κs. search needs) (λ c κs. search needs) returns prewrite-all-requires returns-2)
+prewrite-batch-spec =
+    tie.close
+    (tie.spec
+    (λ c κs. search needs)
+    (λ c κs. search needs)
+    (λ c κs. search needs)
+    (λ c κs. search needs)
+    returns
+    prewrite-all-requires
+    returns-2)

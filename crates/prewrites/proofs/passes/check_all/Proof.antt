@@ -39,7 +39,7 @@ check-entry-requires : tie.Need-check-entry-requires Inv-loop μ-loop
 check-entry-requires c κs = record { built = (c .before .before .before .before .before .before .before .before .before .pre) .0 .made .built; short = rw ((c .before .key-of) .ensures, (c .row-of) .ensures) (parts-short _ (pass-in ((c .before .before .before .before .loop) .inv) ((c .before .before .before .loop-test) .taken)) ((c .before .before .before .before .before .before .before .before .before .pre) .1)) }
 
 returns : tie.Need-returns Inv-loop μ-loop
-returns c = let a = (c .before .before .before .before .before .before .before .before .before .before .before .before .args) in all-refused (weighed (withPrimary (a .terms) (a .primary .now))) _ (mutations-by-keys (a .batch .now) _ _ ∙ (c .before .before .before .before .before .before .before .before .before .before .before .before .pre) .0 .form .ascends) ((c .before .before .before .before .before .before .before .before .before .before .before .before .pre) .0 .made .built .kept) (seeing-out ((c .before .before .before .before .before .before .before .loop) .inv) ((c .before .before .before .before .before .before .loop-test) .taken) (seeing-parts ((c .before .before .before .before .before .before .before .loop) .inv) ((c .before .before .before .before .key-of) .ensures) ((c .before .before .before .row-of) .ensures) ((c .before .before .check-entry) .ensures)) (is-refusal _ ((c .before .accepted) .ensures) ((c .if1) .taken))) (is-refusal _ ((c .before .accepted) .ensures) ((c .if1) .taken))
+returns c = let a = (c .before .before .before .before .before .before .before .before .before .before .before .before .before .args) in all-refused (weighed (withPrimary (a .terms) (a .primary .now))) _ (mutations-by-keys (a .batch .now) _ _ ∙ (c .before .before .before .before .before .before .before .before .before .before .before .before .before .pre) .0 .form .ascends) ((c .before .before .before .before .before .before .before .before .before .before .before .before .before .pre) .0 .made .built .kept) (seeing-out ((c .before .before .before .before .before .before .before .before .loop) .inv) ((c .before .before .before .before .before .before .before .loop-test) .taken) (seeing-parts ((c .before .before .before .before .before .before .before .before .loop) .inv) ((c .before .before .before .before .before .key-of) .ensures) ((c .before .before .before .before .row-of) .ensures) ((c .before .before .before .check-entry) .ensures)) (is-refusal _ ((c .before .before .passed) .ensures) ((c .before .if1) .taken))) (is-refusal _ ((c .before .before .passed) .ensures) ((c .before .if1) .taken)) ((c .refused) .ensures)
 
 plus-weight-requires : tie.Need-plus-weight-requires Inv-loop μ-loop
 plus-weight-requires c κs = seeing-small ((c .before .before .before .before .before .before .before .loop) .inv) ((c .before .before .before .before .before .before .loop-test) .taken) (seeing-parts ((c .before .before .before .before .before .before .before .loop) .inv) ((c .before .before .before .before .key-of) .ensures) ((c .before .before .before .row-of) .ensures) ((c .before .before .check-entry) .ensures)) (omega arith) (omega arith)
@@ -48,13 +48,13 @@ add-i : tie.Need-add-i Inv-loop μ-loop
 add-i c = omega (arith, pass-small ((c .before .before .before .before .before .before .before .before .loop) .inv) ((c .before .before .before .before .before .before .before .loop-test) .taken))
 
 loop-again : tie.Need-loop-again Inv-loop μ-loop
-loop-again c = seeing-more ((c .before .before .before .before .before .before .before .before .loop) .inv) ((c .before .before .before .before .before .before .before .loop-test) .taken) (seeing-parts ((c .before .before .before .before .before .before .before .before .loop) .inv) ((c .before .before .before .before .before .key-of) .ensures) ((c .before .before .before .before .row-of) .ensures) ((c .before .before .before .check-entry) .ensures)) (is-accepted _ ((c .before .before .accepted) .ensures) ((c .before .if1) .left)) ((c .plus-weight) .ensures)
+loop-again c = seeing-more ((c .before .before .before .before .before .before .before .before .loop) .inv) ((c .before .before .before .before .before .before .before .loop-test) .taken) (seeing-parts ((c .before .before .before .before .before .before .before .before .loop) .inv) ((c .before .before .before .before .before .key-of) .ensures) ((c .before .before .before .before .row-of) .ensures) ((c .before .before .before .check-entry) .ensures)) (is-accepted _ ((c .before .before .passed) .ensures) ((c .before .if1) .left)) ((c .plus-weight) .ensures)
 
 judge-requires : tie.Need-judge-requires Inv-loop μ-loop
-judge-requires c κs = let a = (c .before .before .before .before .before .before .before .args) in judge-asks (weighed (withPrimary (a .terms) (a .primary .now))) _ (mutations-by-keys (a .batch .now) _ _ ∙ (c .before .before .before .before .before .before .before .pre) .0 .form .ascends) ((c .before .before .before .before .before .before .before .pre) .0 .made .built .kept) (seeing-end ((c .before .before .loop) .inv) ((c .before .loop-test) .left)) (omega arith) ((c .before .before .before .before .before .before .before .pre) .0 .made .fit)
+judge-requires c κs = let a = (c .before .before .before .before .before .before .args) in judge-asks (weighed (withPrimary (a .terms) (a .primary .now))) _ (mutations-by-keys (a .batch .now) _ _ ∙ (c .before .before .before .before .before .before .pre) .0 .form .ascends) ((c .before .before .before .before .before .before .pre) .0 .made .built .kept) (seeing-end ((c .before .loop) .inv) ((c .loop-test) .left)) (omega arith) ((c .before .before .before .before .before .before .pre) .0 .made .fit)
 
 returns-2 : tie.Need-returns-2 Inv-loop μ-loop
-returns-2 c = let a = (c .before .before .before .before .before .before .before .before .args) in all-judged (weighed (withPrimary (a .terms) (a .primary .now))) _ (mutations-by-keys (a .batch .now) _ _ ∙ (c .before .before .before .before .before .before .before .before .pre) .0 .form .ascends) ((c .before .before .before .before .before .before .before .before .pre) .0 .made .built .kept) (seeing-end ((c .before .before .before .loop) .inv) ((c .before .before .loop-test) .left)) ((c .judge) .ensures)
+returns-2 c = let a = (c .before .before .before .before .before .before .before .args) in all-judged (weighed (withPrimary (a .terms) (a .primary .now))) _ (mutations-by-keys (a .batch .now) _ _ ∙ (c .before .before .before .before .before .before .before .pre) .0 .form .ascends) ((c .before .before .before .before .before .before .before .pre) .0 .made .built .kept) (seeing-end ((c .before .before .loop) .inv) ((c .before .loop-test) .left)) ((c .judge) .ensures)
 
 pub check-all-spec : {M : Type 1} → statement M
 check-all-spec =
@@ -69,6 +69,7 @@ check-all-spec =
     key-of-requires
     row-of-requires
     check-entry-requires
+    (λ c κs. search needs)
     (λ c κs. search needs)
     returns
     plus-weight-requires

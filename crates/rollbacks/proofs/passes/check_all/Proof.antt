@@ -34,7 +34,7 @@ check-key-requires : tie.Need-check-key-requires Inv-loop μ-loop
 check-key-requires c κs = record { built = (c .before .before .before .before .before .before .before .pre) .made .built; short = rw ((c .key-of) .ensures) (key-short _ (pass-in ((c .before .before .before .loop) .inv) ((c .before .before .loop-test) .taken))) }
 
 returns : tie.Need-returns Inv-loop μ-loop
-returns c = let a = (c .before .before .before .before .before .before .before .before .before .before .args) in all-refused (weighed (a .txn) (a .start)) _ ((c .before .before .before .before .before .before .before .before .before .before .pre) .form .ascends) ((c .before .before .before .before .before .before .before .before .before .before .pre) .made .built .kept) (seeing-out ((c .before .before .before .before .before .before .loop) .inv) ((c .before .before .before .before .before .loop-test) .taken) (rw ((c .before .before .before .key-of) .ensures) at ((c .before .before .check-key) .ensures)) (is-refusal _ ((c .before .accepted) .ensures) ((c .if1) .taken))) (is-refusal _ ((c .before .accepted) .ensures) ((c .if1) .taken))
+returns c = let a = (c .before .before .before .before .before .before .before .before .before .before .before .args) in all-refused (weighed (a .txn) (a .start)) _ ((c .before .before .before .before .before .before .before .before .before .before .before .pre) .form .ascends) ((c .before .before .before .before .before .before .before .before .before .before .before .pre) .made .built .kept) (seeing-out ((c .before .before .before .before .before .before .before .loop) .inv) ((c .before .before .before .before .before .before .loop-test) .taken) (rw ((c .before .before .before .before .key-of) .ensures) at ((c .before .before .before .check-key) .ensures)) (is-refusal _ ((c .before .before .passed) .ensures) ((c .before .if1) .taken))) (is-refusal _ ((c .before .before .passed) .ensures) ((c .before .if1) .taken)) ((c .refused) .ensures)
 
 plus-weight-requires : tie.Need-plus-weight-requires Inv-loop μ-loop
 plus-weight-requires c κs = seeing-small ((c .before .before .before .before .before .before .loop) .inv) ((c .before .before .before .before .before .loop-test) .taken) (rw ((c .before .before .before .key-of) .ensures) at ((c .before .before .check-key) .ensures)) (omega arith) (omega arith)
@@ -43,13 +43,13 @@ add-i : tie.Need-add-i Inv-loop μ-loop
 add-i c = omega (arith, pass-small ((c .before .before .before .before .before .before .before .loop) .inv) ((c .before .before .before .before .before .before .loop-test) .taken))
 
 loop-again : tie.Need-loop-again Inv-loop μ-loop
-loop-again c = seeing-more ((c .before .before .before .before .before .before .before .loop) .inv) ((c .before .before .before .before .before .before .loop-test) .taken) (rw ((c .before .before .before .before .key-of) .ensures) at ((c .before .before .before .check-key) .ensures)) (is-accepted _ ((c .before .before .accepted) .ensures) ((c .before .if1) .left)) ((c .plus-weight) .ensures)
+loop-again c = seeing-more ((c .before .before .before .before .before .before .before .loop) .inv) ((c .before .before .before .before .before .before .loop-test) .taken) (rw ((c .before .before .before .before .key-of) .ensures) at ((c .before .before .before .check-key) .ensures)) (is-accepted _ ((c .before .before .passed) .ensures) ((c .before .if1) .left)) ((c .plus-weight) .ensures)
 
 judge-requires : tie.Need-judge-requires Inv-loop μ-loop
-judge-requires c κs = let a = (c .before .before .before .before .before .before .args) in judge-asks (weighed (a .txn) (a .start)) _ ((c .before .before .before .before .before .before .pre) .form .ascends) ((c .before .before .before .before .before .before .pre) .made .built .kept) (seeing-end ((c .before .before .loop) .inv) ((c .before .loop-test) .left)) (omega arith) ((c .before .before .before .before .before .before .pre) .made .fit)
+judge-requires c κs = let a = (c .before .before .before .before .before .args) in judge-asks (weighed (a .txn) (a .start)) _ ((c .before .before .before .before .before .pre) .form .ascends) ((c .before .before .before .before .before .pre) .made .built .kept) (seeing-end ((c .before .loop) .inv) ((c .loop-test) .left)) (omega arith) ((c .before .before .before .before .before .pre) .made .fit)
 
 returns-2 : tie.Need-returns-2 Inv-loop μ-loop
-returns-2 c = let a = (c .before .before .before .before .before .before .before .args) in all-judged (weighed (a .txn) (a .start)) _ ((c .before .before .before .before .before .before .before .pre) .form .ascends) ((c .before .before .before .before .before .before .before .pre) .made .built .kept) (seeing-end ((c .before .before .before .loop) .inv) ((c .before .before .loop-test) .left)) ((c .judge) .ensures)
+returns-2 c = let a = (c .before .before .before .before .before .before .args) in all-judged (weighed (a .txn) (a .start)) _ ((c .before .before .before .before .before .before .pre) .form .ascends) ((c .before .before .before .before .before .before .pre) .made .built .kept) (seeing-end ((c .before .before .loop) .inv) ((c .before .loop-test) .left)) ((c .judge) .ensures)
 
 pub check-all-spec : {M : Type 1} → statement M
 check-all-spec =
@@ -63,6 +63,7 @@ check-all-spec =
     array-copy-out-e
     key-of-requires
     check-key-requires
+    (λ c κs. search needs)
     (λ c κs. search needs)
     returns
     plus-weight-requires

@@ -1,10 +1,10 @@
--- `rollbacks::checks::own_step` meets its contract.
+-- `calls::steps::own_step` meets its contract.
 -- Assumes nothing.
 use Rattle.laws.proofs.ChainLaws.{own-last-out, own-last-on, denied, granted}
 use mathlib.Core.Path.{_∙_}
 use borrow.Author.Needs.{needs}
-use Rattle.rollbacks.proofs.checks.own_step.Statement.{statement}
-use Rattle.rollbacks.proofs.checks.own_step.Tie as tie
+use Rattle.calls.proofs.steps.own_step.Statement.{statement}
+use Rattle.calls.proofs.steps.own_step.Tie as tie
 
 returns : tie.Need-returns
 returns c = λ area. rw ((c .before .before .before .before .lock) .given .1) ((c .held-by) .ensures area ∙ own-last-out _ _ (denied _ _ ((c .before .before .owns) .ensures area) ((c .before .if1) .taken)))

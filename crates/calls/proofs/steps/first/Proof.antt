@@ -1,11 +1,11 @@
--- `onesteps::passes::first` meets its contract.
+-- `calls::steps::first` meets its contract.
 -- Assumes nothing.
 use Rattle.laws.proofs.ChainLaws.{call-on, denies, grants}
 use Rattle.calls.proofs.SettledLaws.{is-accepted, is-refusal, then-refused}
 use borrow.Author.Needs.{needs}
 use mathlib.Core.Path.{refl}
-use Rattle.onesteps.proofs.passes.first.Statement.{statement}
-use Rattle.onesteps.proofs.passes.first.Tie as tie
+use Rattle.calls.proofs.steps.first.Statement.{statement}
+use Rattle.calls.proofs.steps.first.Tie as tie
 
 accepted-requires : tie.Need-accepted-requires
 accepted-requires c κs = search needs

@@ -1,10 +1,10 @@
--- `onesteps::checks::argument_step` meets its contract.
+-- `calls::steps::argument_step` meets its contract.
 -- Assumes nothing.
 use Rattle.laws.proofs.ChainLaws.{chain}
-use Rattle.onesteps.specs.Checks.{argumentStep}
+use Rattle.calls.specs.Steps.{argumentStep}
 use borrow.Author.Needs.{needs}
-use Rattle.onesteps.proofs.checks.argument_step.Statement.{statement}
-use Rattle.onesteps.proofs.checks.argument_step.Tie as tie
+use Rattle.calls.proofs.steps.argument_step.Statement.{statement}
+use Rattle.calls.proofs.steps.argument_step.Tie as tie
 
 key-in-form-requires : tie.Need-key-in-form-requires
 key-in-form-requires c κs = search needs
