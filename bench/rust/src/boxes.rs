@@ -32,6 +32,11 @@ pub const SIZES: [Size; 4] = [
 pub const FULL: Size = Size { keys: 768, records: 1 };
 pub const LOCKED: usize = 256;
 
+/// A season's box: every line and every row is taken, by two records a key.
+pub const SEASON: Size = Size { keys: 512, records: 2 };
+/// Above the first record of each key and below the second.
+pub const BETWEEN: u64 = 200;
+
 impl Size {
     pub fn name(self) -> String {
         if self.records == 1 { self.keys.to_string() } else { format!("{}x{}", self.keys, self.records) }

@@ -6,7 +6,8 @@ use paper::store::{Bytes, Kind};
 use paper::trace::{Call, LONG_BUFFER, write_trace};
 
 use crate::boxes::{
-    COMMIT, FULL, LOCKED, MOMENT, START, Size, TABLE, TIME_TO_LIVE, TRANSACTION, image, key, missing, row,
+    BETWEEN, COMMIT, FULL, LOCKED, MOMENT, SEASON, START, Size, TABLE, TIME_TO_LIVE, TRANSACTION, image, key, missing,
+    row,
 };
 
 /// A turn makes a call at so many keys.
@@ -37,6 +38,11 @@ impl Case {
         self.calls.iter().all(|call| !AWAITED.contains(&call.op()))
     }
 
+    /// Does mvcc.rs have the call? It has no collection.
+    pub fn in_rust(&self) -> bool {
+        self.calls.iter().all(|call| !matches!(call, Call::Collect { .. }))
+    }
+
     /// What the Rust's turns read: turns, how the calls are made (0: not at all), the image, and the trace.
     pub fn rust_input(&self, turns: u64, made: bool) -> Bytes {
         self.input(turns, if made { self.way } else { 0 }, &write_trace(&self.calls))
@@ -45,7 +51,7 @@ impl Case {
     /// What crates/bench reads: turns, the kind of call, the image, and the calls in the program's own form.
     pub fn program_input(&self, turns: u64, made: bool) -> Bytes {
         let kind = kind_of(self.way, &self.calls[0]);
-        let none = if kind < COPIED || kind == WRITTEN { 0 } else { COPIED };
+        let none = if kind < COPIED || WRITTEN <= kind { 0 } else { COPIED };
         let calls: Vec<Bytes> = self.calls.iter().map(asked).collect();
         self.input(turns, if made { kind } else { none }, &calls.concat())
     }
@@ -63,8 +69,9 @@ impl Case {
 /// From this kind on a call of crates/bench is made on a copy of the area; this one is the copy alone.
 const COPIED: u8 = 4;
 
-/// The kind of an image written. It changes nothing, so it is not made on a copy.
+/// From this kind on it is not: the kinds of an image written and of a collection, which leave the area as it was.
 const WRITTEN: u8 = 11;
+const COLLECTED: u8 = 12;
 
 /// The kind of call, as crates/bench numbers it (its turns.rt).
 fn kind_of(way: u8, call: &Call) -> u8 {
@@ -79,6 +86,7 @@ fn kind_of(way: u8, call: &Call) -> u8 {
         Call::OneStep { .. } => 9,
         Call::Restore { .. } => 10,
         Call::WriteImage { .. } => WRITTEN,
+        Call::Collect { .. } => COLLECTED,
         _ => panic!("crates/bench has no such call"),
     }
 }
@@ -104,6 +112,7 @@ fn asked(call: &Call) -> Bytes {
         }
         Call::Restore { .. } | Call::Statistics => ([0; 3], [none; 3]),
         Call::WriteImage { table, .. } => ([u64::from(*table), 0, 0], [none; 3]),
+        Call::Collect { floor } => ([*floor, 0, 0], [none; 3]),
         _ => panic!("crates/bench has no such call"),
     };
     let mut bytes = numbers.map(u64::to_be_bytes).concat();
@@ -150,8 +159,20 @@ pub fn cases(size: Size) -> Vec<Case> {
 /// The image of a box with all four rooms full, written.
 pub fn full_box() -> Case {
     let image = image(FULL, &FULL.spread(LOCKED));
-    assert_eq!(image.len(), 86_282, "the longest image");
+    assert_eq!(image.len(), 86_290, "the longest image");
     Case { name: "write the image, full box", size: FULL, image, calls: vec![written()], way: ALONE }
+}
+
+/// A season's box, collected up to a floor that drops none of it and up to one that drops half, each time from the full
+/// box; and its statistics beside.
+pub fn season() -> Vec<Case> {
+    let image = image(SEASON, &[]);
+    let case = |name, call| Case { name, size: SEASON, image: image.clone(), calls: vec![call], way: ALONE };
+    vec![
+        case("collection, nothing dropped", Call::Collect { floor: BETWEEN }),
+        case("collection, half dropped", Call::Collect { floor: MOMENT }),
+        case("statistics, full box", Call::Statistics),
+    ]
 }
 
 fn written() -> Call {

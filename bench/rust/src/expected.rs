@@ -1,6 +1,6 @@
 //! What the paper answers: the answers that both sides are held to before anything is timed.
 
-use judge::rust_side::{Outcome, run_rust};
+use judge::rust_side::{Outcome, Side, run_rust};
 use paper::answer::Answer;
 use paper::run::run_call;
 use paper::store::{Bytes, Store};
@@ -59,10 +59,10 @@ fn worth_of(call: &Call, answer: &Answer, store: &Store) -> u64 {
 /// Does mvcc.rs, as it stands, answer as the paper does?
 pub fn rust_agrees(case: &Case, expected: &Expected) -> Result<(), String> {
     for (call, answers) in case.calls.iter().zip(&expected.answers) {
-        let mut engine = InMemoryMvcc::default();
-        run_rust(&mut engine, &Call::Restore { image: case.image.clone() });
+        let mut side = Side::<InMemoryMvcc>::default();
+        run_rust(&mut side, &Call::Restore { image: case.image.clone() });
         for (call, answer) in made_for(case.way, call).iter().zip(answers) {
-            match run_rust(&mut engine, call) {
+            match run_rust(&mut side, call) {
                 Outcome::Accepted { count, payload } if answer.number == 0 && same(call, answer, count, &payload) => {}
                 other => return Err(format!("mvcc.rs: {} where the paper answers {}", other.name(), answer.number)),
             }

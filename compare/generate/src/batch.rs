@@ -32,9 +32,9 @@ pub fn key_bytes(keys: &[Bytes]) -> Bytes {
 pub fn broken_mutations(random: &mut Random, mut entries: Vec<Entry>) -> Bytes {
     match random.below(6) {
         0 if !entries.is_empty() => {
-            let again = entries[random.below(entries.len())].clone();
-            let at = random.below(entries.len() + 1);
-            entries.insert(at, again);
+            let place = random.below(entries.len());
+            let at = if random.percent(50) { place } else { random.below(entries.len() + 1) };
+            entries.insert(at, entries[place].clone());
             mutation_bytes(&entries)
         }
         1 if entries.len() > 1 => {
@@ -62,9 +62,9 @@ pub fn broken_mutations(random: &mut Random, mut entries: Vec<Entry>) -> Bytes {
 pub fn broken_keys(random: &mut Random, mut keys: Vec<Bytes>) -> Bytes {
     match random.below(3) {
         0 if !keys.is_empty() => {
-            let again = keys[random.below(keys.len())].clone();
-            let at = random.below(keys.len() + 1);
-            keys.insert(at, again);
+            let place = random.below(keys.len());
+            let at = if random.percent(50) { place } else { random.below(keys.len() + 1) };
+            keys.insert(at, keys[place].clone());
             key_bytes(&keys)
         }
         1 if keys.len() > 1 => {

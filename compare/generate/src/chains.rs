@@ -146,6 +146,7 @@ fn every_moment() -> Vec<Call> {
             record(&b, 3, 3, 3),
             record(&b, 9, 9, 3),
         ],
+        ..Image::default()
     };
     let mut calls = vec![Call::Restore { image: image.write() }];
     for moment in (0..=15).chain([u64::MAX]) {

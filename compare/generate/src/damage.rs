@@ -152,7 +152,7 @@ fn mark_of(call: &Call) -> Option<usize> {
 /// An op that the table does not have, or other arguments than its op has.
 fn op_fault(random: &mut Random, calls: &[Call]) -> Bytes {
     let at = random.below(calls.len());
-    let op = *random.pick(&[0, 13, 16, 17, 18, 19, 31, 35, 36, 37, 64, 128, 255]);
+    let op = *random.pick(&[0, 13, 14, 16, 17, 18, 19, 31, 35, 36, 37, 64, 128, 255]);
     with_call(calls, at, |mut bytes| {
         bytes[0] = op;
         bytes

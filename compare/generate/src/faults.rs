@@ -48,6 +48,9 @@ pub enum Fault {
     OrphanBesideLock,
     TwoRecords,
     LockBesideRecord,
+    // Locks at or below the floor.
+    LockAtFloor,
+    LockBelowFloor,
 }
 
 /// The faults of the image as a whole.
@@ -90,6 +93,9 @@ pub const SICK: [Fault; 6] = [
     Fault::LockBesideRecord,
 ];
 
+/// Locks that the image's floor forbids.
+pub const FLOORED: [Fault; 2] = [Fault::LockAtFloor, Fault::LockBelowFloor];
+
 /// Those of an entry's that it has only beside others.
 const AGAINST_OTHERS: [Fault; 4] =
     [Fault::SecondDefault, Fault::SecondLock, Fault::SecondWrite, Fault::PutWithoutDefault];
@@ -126,7 +132,11 @@ pub fn any(random: &mut Random, stock: &Stock, mut image: Image) -> Bytes {
     if random.percent(5) {
         sick(random, &mut image);
     }
-    let fault = if random.percent(32) { *random.pick(&SICK) } else { of_01(random) };
+    let fault = match random.below(100) {
+        0..10 => *random.pick(&FLOORED),
+        10..39 => *random.pick(&SICK),
+        _ => of_01(random),
+    };
     let place = *random.pick(&PLACES);
     one(random, stock, image, fault, place)
 }
@@ -138,6 +148,7 @@ pub fn of_01(random: &mut Random) -> Fault {
         14..36 => *random.pick(&AGAINST_OTHERS),
         36..50 => Fault::DefaultRow,
         50..53 => Fault::DefaultStart,
+        53..56 => Fault::LockStart,
         _ => *random.pick(&OF_ENTRIES),
     }
 }
@@ -148,36 +159,68 @@ pub fn sick(random: &mut Random, image: &mut Image) {
     make_sick(random, image, fault, place);
 }
 
+/// A lock at or below the image's floor, if it has one.
+pub fn floored(random: &mut Random, image: &mut Image) {
+    let (fault, place) = (*random.pick(&FLOORED), *random.pick(&PLACES));
+    by_floor(random, image, fault, place);
+}
+
 /// The bytes of an image with this fault at this place; where the section has no entry, with a byte that follows.
 pub fn one(random: &mut Random, stock: &Stock, mut image: Image, fault: Fault, place: Place) -> Bytes {
     if WHOLE.contains(&fault) {
-        return whole(random, image, fault);
+        return whole(random, image, fault, Image::write);
     }
     let done = in_entries(random, stock, &mut image, fault, place);
-    if done.is_some() { image.write() } else { whole(random, image, Fault::Trailing) }
+    if done.is_some() { image.write() } else { whole(random, image, Fault::Trailing, Image::write) }
 }
 
-/// Gives the image this fault of an entry at this place; none if it has no entry for it.
+/// Gives the image this fault of an entry at this place; none if it has no entry for it. Where another lock has come, the
+/// floor stays below it.
 pub fn in_entries(random: &mut Random, stock: &Stock, image: &mut Image, fault: Fault, place: Place) -> Option<()> {
+    if FLOORED.contains(&fault) {
+        return by_floor(random, image, fault, place);
+    }
+    let done = of_entries(random, stock, image, fault, place);
+    image.floor = image.floor.min(below_locks(image));
+    done
+}
+
+fn of_entries(random: &mut Random, stock: &Stock, image: &mut Image, fault: Fault, place: Place) -> Option<()> {
     in_default(random, stock, image, fault, place)
         .or_else(|| in_lock(random, stock, image, fault, place))
         .or_else(|| in_write(random, stock, image, fault, place))
         .or_else(|| make_sick(random, image, fault, place))
 }
 
+/// A floor at the start of the image's lowest lock, or above that of the lock at this place.
+fn by_floor(random: &mut Random, image: &mut Image, fault: Fault, place: Place) -> Option<()> {
+    let lowest = image.locks.iter().map(|(_, lock)| lock.start).min()?;
+    let (_, lock) = &image.locks[place.of(random, &image.locks, lock_mark)];
+    image.floor = match fault {
+        Fault::LockAtFloor => lowest,
+        _ => lock.start.saturating_add(random.between(1, 3) as u64),
+    };
+    Some(())
+}
+
+/// The highest floor that the image's locks let stand.
+pub fn below_locks(image: &Image) -> u64 {
+    image.locks.iter().map(|(_, lock)| lock.start).min().map_or(u64::MAX, |lowest| lowest.saturating_sub(1))
+}
+
 /// The bytes of an image with this fault of the whole; of any other, with a byte that follows.
-pub fn whole(random: &mut Random, image: Image, fault: Fault) -> Bytes {
+pub fn whole(random: &mut Random, image: Image, fault: Fault, write: fn(&Image) -> Bytes) -> Bytes {
     if fault == Fault::Table {
-        return Image { table: 0, ..if random.percent(75) { Image::default() } else { image } }.write();
+        return write(&Image { table: 0, ..if random.percent(75) { Image::default() } else { image } });
     }
-    let mut bytes = image.write();
+    let mut bytes = write(&image);
     match fault {
         Fault::Missing => {
             bytes.pop();
         }
         Fault::Cut => bytes.truncate(random.below(bytes.len())),
         Fault::Count => {
-            let at = *random.pick(&counts(image));
+            let at = *random.pick(&counts(image, write));
             bytes[at] = bytes[at].wrapping_add(*random.pick(&[1, 255]));
         }
         _ => bytes.push(*random.pick(&[0, 1, 255])),
@@ -186,11 +229,13 @@ pub fn whole(random: &mut Random, image: Image, fault: Fault) -> Bytes {
 }
 
 /// Where the low bytes of the three counts stand.
-fn counts(image: Image) -> [usize; 3] {
-    let bytes_of = |image: Image| image.write().len() - Image::default().write().len();
+fn counts(image: Image, write: fn(&Image) -> Bytes) -> [usize; 3] {
+    let without_entries = write(&Image::default()).len();
+    let bytes_of = |image: Image| write(&image).len() - without_entries;
+    let first = without_entries - 5;
     let defaults = bytes_of(Image { defaults: image.defaults, ..Image::default() });
     let locks = bytes_of(Image { locks: image.locks, ..Image::default() });
-    [5, 7 + defaults, 9 + defaults + locks]
+    [first, first + 2 + defaults, first + 4 + defaults + locks]
 }
 
 /// A key out of form: this one, of its table, cut to 4 bytes or made as long as 49, or any.

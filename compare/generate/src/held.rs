@@ -177,6 +177,7 @@ pub fn cases() -> Vec<(&'static str, Vec<Call>)> {
             .to_vec(),
         locks: vec![lock(b'a', 3, 1), lock(b'b', LONG, 2), lock(b'c', u64::MAX, 1), lock(b'd', 1, 2)],
         writes: vec![write(b'c', 2), write(b'd', 1)],
+        ..Image::default()
     };
     let restore = Call::Restore { image: image.write() };
     let met = [b'a', b'b', b'c', b'd'].into_iter().flat_map(|name| met_by_all(&key(name)));

@@ -6,6 +6,7 @@ use paper::store::Bytes;
 use paper::trace::Call;
 
 use crate::faults::{self, Fault, Place};
+use crate::image::give_floor;
 use crate::orders::{ORDERS, Order, put};
 use crate::random::Random;
 use crate::rows::{SMALLEST, row};
@@ -58,6 +59,9 @@ pub fn sound(random: &mut Random, keys_of: Keys, many: usize, order: Order) -> I
         one_key(random, &mut image, &key);
     }
     put(random, &mut image, order);
+    if random.percent(15) {
+        give_floor(random, &mut image);
+    }
     image
 }
 
@@ -122,6 +126,8 @@ pub fn cases() -> Vec<(&'static str, Vec<Call>)> {
             (Fault::OrphanBesideLock, Place::Greatest),
             (Fault::TwoRecords, Place::Greatest),
             (Fault::LockBesideRecord, Place::Greatest),
+            (Fault::LockAtFloor, Place::Greatest),
+            (Fault::LockBelowFloor, Place::Greatest),
         ] {
             let image = sound(random, keys, 30, order);
             calls.push(Call::Restore { image: faults::one(random, stock, image, fault, place) });

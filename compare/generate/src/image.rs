@@ -6,6 +6,7 @@ use paper::form::table_of;
 use paper::restore::{Image, RawLock, RawRecord};
 use paper::store::Bytes;
 
+use crate::faults::below_locks;
 use crate::orders::{ORDERS, put};
 use crate::random::Random;
 use crate::rows::row;
@@ -47,7 +48,27 @@ fn drawn(random: &mut Random, stock: &Stock, chain: impl Fn(&mut Random) -> Chai
     }
     let order = *random.pick(&ORDERS);
     put(random, &mut image, order);
+    if random.percent(20) {
+        give_floor(random, &mut image);
+    }
     image
+}
+
+/// A floor below every lock of the image: right below the lowest, at or beside a stamp, small, or now and then extreme.
+pub fn give_floor(random: &mut Random, image: &mut Image) {
+    let most = below_locks(image);
+    let stamps: Vec<u64> = image.writes.iter().map(|(_, stamp, _)| *stamp).collect();
+    let floor = match random.below(20) {
+        0..6 if !image.locks.is_empty() => most,
+        6..15 if !stamps.is_empty() => match (*random.pick(&stamps), random.below(4)) {
+            (at, 0) => at.saturating_sub(1),
+            (at, 1) => at.saturating_add(1),
+            (at, _) => at,
+        },
+        15 => *random.pick(&EXTREMES),
+        _ => random.between(1, 14) as u64,
+    };
+    image.floor = floor.min(most);
 }
 
 fn one_key(random: &mut Random, stock: &Stock, image: &mut Image, key: &Bytes, (chain, kinds): Chain) {

@@ -6,8 +6,10 @@
 pub mod batch;
 pub mod bones;
 pub mod chains;
+mod collected;
 mod damage;
 pub mod faults;
+pub mod floor_cases;
 mod grow;
 pub mod held;
 pub mod hostile;
@@ -43,7 +45,7 @@ pub const AWAITED: &[u8] = &[];
 
 impl Ops {
     /// Every op of TRACE.md's table.
-    pub const LIST: [u8; 19] = [1, 2, 3, 4, 5, 6, 7, 8, 9, 10, 11, 12, 17, 18, 32, 33, 34, 35, 36];
+    pub const LIST: [u8; 20] = [1, 2, 3, 4, 5, 6, 7, 8, 9, 10, 11, 12, 13, 17, 18, 32, 33, 34, 35, 36];
 
     pub fn all() -> Self {
         Ops(Self::LIST.iter().fold(0, |ops, op| ops | 1 << op))
@@ -85,12 +87,12 @@ impl Ops {
 
     /// Is restore the only op among them beside the figures?
     pub fn restores_alone(self) -> bool {
-        self.has(32) && !(1..=12).any(|op| self.has(op))
+        self.has(32) && !(1..=13).any(|op| self.has(op))
     }
 
     /// Are images converted, and nothing else done but restore, figures and questions?
     pub fn converts_alone(self) -> bool {
-        self.has(36) && !(1..=12).any(|op| self.has(op))
+        self.has(36) && !(1..=13).any(|op| self.has(op))
     }
 
     /// Does none of them touch the box? Then they ask a row or convert an image.
@@ -105,7 +107,7 @@ impl Ops {
 
     /// Is there something to read by, and restore the only op that changes the box? Then what is read comes from images.
     pub fn reads_images(self) -> bool {
-        self.has(32) && (1..=5).any(|op| self.has(op)) && !(6..=12).any(|op| self.has(op))
+        self.has(32) && (1..=5).any(|op| self.has(op)) && !(6..=13).any(|op| self.has(op))
     }
 }
 
@@ -122,6 +124,8 @@ pub enum Kind {
     Chains,
     /// Single forms above all, with keys and rows of odd lengths.
     Singles,
+    /// Collections, and calls at the floor and beside it.
+    Collected,
     /// Images written, of stores with several tables, and restored.
     Written,
     /// Old images converted, and what came of them.
@@ -174,7 +178,7 @@ pub fn nth_trace(seed: u64, number: u64, ops: Ops) -> Bytes {
 
 /// The trace of a seed of its own. A full box costs a driver as much time as thousands of reads and shows restore alone, so where
 /// images are what is read, most of these give way to small ones. One trace in twelve, and where the changing ops are
-/// single forms alone every second, is about these; one in 24 is about images that are written, one in twelve about old
+/// single forms alone every second, is about these; one in twelve is about collections, one in 24 about images that are written, one in twelve about old
 /// images, one in 24 about bones. Where restore stands alone, all that would be about calls is about images; where no op
 /// touches the box, all is about old images and bones.
 pub fn trace(seed: u64, ops: Ops) -> Bytes {
@@ -191,6 +195,7 @@ pub fn trace(seed: u64, ops: Ops) -> Bytes {
         Kind::Odd | Kind::Held | Kind::Chains if ops.restores_alone() => Kind::Hostile,
         Kind::Fresh | Kind::Odd if ops.singles_alone() => Kind::Singles,
         Kind::Fresh | Kind::Odd if ops.complete() && seed.is_multiple_of(6) => Kind::Singles,
+        Kind::Fresh | Kind::Odd if ops.has(13) && matches!(seed % 12, 7 | 11) => Kind::Collected,
         Kind::Fresh | Kind::Odd if ops.has(35) && seed % 12 == 1 => Kind::Written,
         Kind::Fresh | Kind::Odd if ops.has(36) && matches!(seed % 12, 3 | 9) => Kind::Converted,
         Kind::Fresh | Kind::Odd if ops.bones_asked() && seed % 12 == 5 => Kind::Bones,
@@ -218,6 +223,7 @@ pub fn trace_of(kind: Kind, seed: u64, ops: Ops) -> Bytes {
         Kind::Held => maker.held(),
         Kind::Chains => maker.chains(),
         Kind::Singles => single_forms(&mut maker),
+        Kind::Collected => maker.collected(),
         Kind::Written => maker.written(),
         Kind::Converted => maker.converted(),
         Kind::Bones => maker.asked(),
@@ -286,7 +292,9 @@ fn room(maker: &mut Maker) {
     let which = maker.random.below(4);
     if maker.ops.has(32) && maker.random.percent(80) {
         let past = *maker.random.pick(&[-40, -3, -2, -1, 0, 0, 1, 1]);
-        let image = room::beside_room(&mut maker.random, which, past);
+        let mut image = room::beside_room(&mut maker.random, which, past);
+        // A floor takes no room.
+        image.floor = if maker.random.percent(75) { maker.random.between(1, 8) as u64 } else { 0 };
         maker.push(Call::Restore { image: image.write() });
     } else {
         maker.fill(which);
@@ -294,12 +302,19 @@ fn room(maker: &mut Maker) {
     for _ in 0..maker.random.between(2, 6) {
         maker.grow();
     }
+    // What a collection drops is free at once.
+    if maker.random.percent(45) {
+        maker.collect_some();
+        for _ in 0..maker.random.between(2, 8) {
+            maker.grow();
+        }
+    }
     some_calls(maker, 2, 8);
     maker.look();
-    if maker.random.percent(50) {
+    if maker.random.percent(60) {
         let past = *maker.random.pick(&[0, 1]);
         let image = room::beside_room(&mut maker.random, which, past);
-        let mut image = if past == 1 && maker.random.percent(65) { at_fault(maker, image) } else { image };
+        let mut image = if past == 1 && maker.random.percent(75) { at_fault(maker, image) } else { image };
         image.defaults.reverse();
         maker.push(Call::Restore { image: image.write() });
         maker.look();
@@ -328,12 +343,13 @@ fn large(maker: &mut Maker) {
     }
 }
 
-/// A fault in the last entry, or sick at any place: 13 goes before 11.
+/// A fault in the last entry, sick at any place, or with a lock by its floor: 13 goes before 11.
 fn at_fault(maker: &mut Maker, mut image: Image) -> Image {
-    if maker.random.percent(40) {
-        return with_last_fault(image);
+    match maker.random.below(10) {
+        0..3 => return with_last_fault(image),
+        3..7 if !image.locks.is_empty() => faults::floored(&mut maker.random, &mut image),
+        _ => faults::sick(&mut maker.random, &mut image),
     }
-    faults::sick(&mut maker.random, &mut image);
     image
 }
 

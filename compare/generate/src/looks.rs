@@ -43,7 +43,7 @@ impl Maker {
         }
     }
 
-    fn bounds(&mut self, faulty: bool) -> Bounds {
+    pub fn bounds(&mut self, faulty: bool) -> Bounds {
         let mut bound = |percent: usize| {
             let present = self.random.percent(percent);
             present.then(|| self.stock.any_key(&mut self.random, &self.store, faulty))
@@ -69,7 +69,7 @@ impl Maker {
         let key = self.stock.key(&mut self.random, &self.store);
         match self.random.below(5) {
             0 => u64::MAX,
-            1 => self.random.between(8, 20) as u64,
+            1 => self.store.floor.saturating_add(self.random.between(8, 20) as u64),
             2 if !self.store.locks.is_empty() => {
                 // At a lock's start: this lock is met, later ones are not.
                 let at = self.random.below(self.store.locks.len());
@@ -123,8 +123,12 @@ impl Maker {
     }
 
     pub fn page(&mut self, faulty: bool) -> Call {
-        let bounds = self.bounds(faulty);
-        let moment = self.moment(faulty);
+        let (bounds, moment) = (self.bounds(faulty), self.moment(faulty));
+        self.page_at(moment, bounds, faulty)
+    }
+
+    /// A page at this moment, within these bounds.
+    pub fn page_at(&mut self, moment: u64, bounds: Bounds, faulty: bool) -> Call {
         let mut buffer = vec![0; ROOMY];
         let whole = self.store.page(moment, u64::MAX, u64::MAX, &bounds, &mut buffer);
         let costs = whole.map(|count| costs(&buffer[..count as usize], false)).unwrap_or_default();

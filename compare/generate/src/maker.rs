@@ -20,7 +20,7 @@ pub struct Maker {
 }
 
 /// The ops and how often each is drawn.
-const OPS: [(u8, usize); 19] = [
+const OPS: [(u8, usize); 20] = [
     (1, 10),
     (2, 16),
     (3, 5),
@@ -33,6 +33,7 @@ const OPS: [(u8, usize); 19] = [
     (10, 8),
     (11, 6),
     (12, 12),
+    (13, 3),
     (17, 4),
     (18, 2),
     (32, 4),
@@ -77,6 +78,7 @@ impl Maker {
             8 | 9 => self.commit(op, faulty),
             10 | 11 => self.rollback(op, faulty),
             12 => self.one_step(faulty),
+            13 => self.collect(),
             17 => self.bone(faulty),
             18 => self.how_many(faulty),
             32 => self.restore(),

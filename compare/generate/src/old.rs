@@ -1,11 +1,13 @@
-//! Old images for the converter: images whose rows are document 01's own, sound, sick, beyond the room, with a fault, or with
+//! Old images for the converter: images without a floor, whose rows are document 01's own, sound, sick, beyond the room, with a fault, or with
 //! rows that are too long; and what was converted restored and converted again.
 
 use paper::answer::Answer;
+use paper::convert::FLOOR;
 use paper::restore::Image;
 use paper::run::run_call;
 use paper::store::Bytes;
 use paper::trace::{Call, LONG_BUFFER, MOST_BYTES, write_trace};
+use paper::write_image::WITHOUT_ENTRIES;
 
 use crate::Ops;
 use crate::faults::{self, Fault, OF_ENTRIES, Place, SICK, WHOLE};
@@ -45,15 +47,17 @@ fn drawn(random: &mut Random, stock: &Stock) -> Bytes {
         image.defaults.clear();
     }
     match random.below(100) {
-        0..30 => aged(image).write(),
+        0..27 => aged(image).write_old(),
+        // With a floor, which no old image has.
+        27..30 => Image { floor: *random.pick(&[0, 0, 1, 5]), ..aged(image) }.write(),
         30..45 => {
             for _ in 0..random.between(1, 2) {
                 faults::sick(random, &mut image);
             }
-            aged(image).write()
+            aged(image).write_old()
         }
-        45..60 => with_long_rows(random, aged(image)).write(),
-        60..70 => with_row_out_of_form(random, aged(image)).write(),
+        45..60 => with_long_rows(random, aged(image)).write_old(),
+        60..70 => with_row_out_of_form(random, aged(image)).write_old(),
         _ => {
             let (fault, place) = (faults::of_01(random), some_place(random));
             with_fault(random, stock, image, fault, place)
@@ -106,12 +110,12 @@ fn with_fault(random: &mut Random, stock: &Stock, mut image: Image, fault: Fault
         image.defaults.iter_mut().for_each(|(_, _, row)| *row = old_row(random));
         image.defaults[at].2 = old_row_out_of_form(random);
     }
-    if whole { faults::whole(random, image, fault) } else { image.write() }
+    if whole { faults::whole(random, image, fault, Image::write_old) } else { image.write_old() }
 }
 
 /// The bytes that a conversion of this image needs, if its counts and lengths read.
 fn needed(image: &[u8]) -> usize {
-    image.len() + Image::read(image).map_or(0, |image| image.defaults.len())
+    image.len() + FLOOR + Image::read_old(image).map_or(0, |image| image.defaults.len())
 }
 
 impl Maker {
@@ -128,7 +132,7 @@ impl Maker {
             0..9 => needed,
             9..12 => needed.saturating_sub(1),
             12 | 13 => 0,
-            14 => image.len(),
+            14 => *self.random.pick(&[image.len(), needed - FLOOR]),
             15 => self.random.below(needed + 1),
             16..18 => needed + self.random.between(1, 9),
             18 => needed + self.random.between(10, 300),
@@ -191,7 +195,7 @@ impl Maker {
             faults::sick(&mut self.random, &mut image);
         }
         image.locks.reverse();
-        self.push_large(aged(image).write());
+        self.push_large(aged(image).write_old());
     }
 
     /// An old image of more than 65,535 bytes, most of them in boxes that are just full.
@@ -200,7 +204,7 @@ impl Maker {
             0 => longest(*self.random.pick(&[0, 1])),
             1 => {
                 let entries = *self.random.pick(&[1025, 3000]);
-                aged(room::far_beyond(&mut self.random, entries)).write()
+                aged(room::far_beyond(&mut self.random, entries)).write_old()
             }
             _ => {
                 let mut image = aged(room::all_full(&mut self.random));
@@ -208,7 +212,7 @@ impl Maker {
                     let at = self.random.below(image.defaults.len());
                     image.defaults[at].2 = old_row_of(255);
                 }
-                image.write()
+                image.write_old()
             }
         };
         self.push_large(image);
@@ -232,13 +236,13 @@ fn longest(more: usize) -> Bytes {
     let mut image = Image { table: 1, ..Image::default() };
     // Key length, key, start, row length and the count that is added.
     let beside = 1 + 7 + 8 + 1 + 1;
-    let mut left = LONG_BUFFER as usize + more - 10;
+    let mut left = LONG_BUFFER as usize + more - WITHOUT_ENTRIES;
     while left > 0 {
         let row = if left <= beside + 254 { left - beside } else { (left - 2 * beside - 2).min(240) };
         image.defaults.push((key(image.defaults.len() as u16), 1, old_row_of(row)));
         left -= beside + row;
     }
-    image.write()
+    image.write_old()
 }
 
 /// So many traces of the sample are drawn.
@@ -251,7 +255,7 @@ pub fn cases() -> Vec<(&'static str, Vec<Call>)> {
         maker.converted();
         ("old images drawn", maker.calls)
     };
-    let past = Call::Convert { buffer: LONG_BUFFER + 1, image: Image { table: 1, ..Image::default() }.write() };
+    let past = Call::Convert { buffer: LONG_BUFFER + 1, image: Image { table: 1, ..Image::default() }.write_old() };
     let cases = vec![
         ("old images at every edge", edges()),
         ("old images with each fault", each_fault()),
@@ -290,7 +294,7 @@ fn full_box() -> Vec<Call> {
     let mut image = aged(room::all_full(&mut maker.random));
     maker.random.shuffle(&mut image.defaults);
     maker.random.shuffle(&mut image.writes);
-    let image = image.write();
+    let image = image.write_old();
     let buffer = needed(&image) as u32;
     convert_and_restore(maker, buffer, image);
     maker.calls.clone()
@@ -299,7 +303,7 @@ fn full_box() -> Vec<Call> {
 /// At just the live bytes before, past them once converted: the conversion is accepted, and its restore is 11.
 fn grown_box() -> Vec<Call> {
     let maker = &mut Maker::new(2, Ops::all());
-    let image = aged(room::beside_room(&mut maker.random, 3, 60)).write();
+    let image = aged(room::beside_room(&mut maker.random, 3, 60)).write_old();
     let buffer = needed(&image) as u32;
     convert_and_restore(maker, buffer, image);
     maker.calls.clone()
@@ -324,7 +328,7 @@ fn edges() -> Vec<Call> {
             // The keys descend.
             image.defaults.push((key(&[b'z' - at as u8]), 10, old_row_of(*length)));
         }
-        let image = image.write();
+        let image = image.write_old();
         let enough = needed(&image) as u32;
         for buffer in [enough, enough - 1, enough + 3, image.len() as u32, 4, 0] {
             maker.push(Call::Convert { buffer, image: image.clone() });

@@ -46,12 +46,13 @@ struct Filler {
 pub const FULL: &str = "a full box, packed anew";
 
 /// The traces of the fixed sample: a repack in each call that brings bytes, on new keys, two or three to a trace; on locks,
-/// one to a trace; and in boxes of 1,024 lines.
+/// one to a trace; after a collection; and in boxes of 1,024 lines.
 pub fn cases() -> Vec<(&'static str, Vec<Call>)> {
-    let new = [&OPS[..3], &OPS[3..5], &OPS[5..]].map(|ops| ("a repack on new keys", packed(0, ops, false)));
-    let locked = OPS.map(|op| ("a repack on locks", packed(0, &[op], true)));
+    let new = [&OPS[..3], &OPS[3..5], &OPS[5..]].map(|ops| ("a repack on new keys", packed(0, ops, false, false)));
+    let locked = OPS.map(|op| ("a repack on locks", packed(0, &[op], true, false)));
+    let collected = [&OPS[..2], &OPS[5..]].map(|ops| ("a repack after a collection", packed(7, ops, true, true)));
     let full = [9, 12].map(|op| (FULL, full_and_packed(op)));
-    new.into_iter().chain(locked).chain(full).collect()
+    new.into_iter().chain(locked).chain(collected).chain(full).collect()
 }
 
 /// Calls with a repack in some of those that bring bytes, in any order, or in a full box.
@@ -63,15 +64,21 @@ pub fn calls(random: &mut Random) -> Vec<Call> {
     random.shuffle(&mut ops);
     let ops = &ops[..*random.pick(&[1, MOST, MOST, MOST, MOST, MOST])];
     let turn = random.below(KEYS.len() * ROWS.len());
-    packed(turn, ops, random.percent(50))
+    let on_locks = random.percent(50);
+    packed(turn, ops, on_locks, random.percent(50))
 }
 
-/// Lines that stand, and then for each op a box so full that a call of this op packs the area anew.
-fn packed(turn: usize, ops: &[u8], on_locks: bool) -> Vec<Call> {
+/// Lines that stand, and then for each op a box so full that a call of this op packs the area anew; where it is collected,
+/// what is packed has gaps.
+fn packed(turn: usize, ops: &[u8], on_locks: bool, collected: bool) -> Vec<Call> {
     let mut filler = Filler { turn, ..Filler::default() };
     let (live, row) = FILLS[ops.len() - 1];
     while filler.store.room_used().live_bytes < live {
         filler.stand();
+    }
+    if collected {
+        let floor = filler.time;
+        filler.push(Call::Collect { floor });
     }
     ops.iter().for_each(|op| filler.pack_by(*op, on_locks, row));
     filler.look();
@@ -319,7 +326,8 @@ impl Filler {
         for (at, (key, chain)) in self.store.records.iter().enumerate() {
             let puts = chain.iter().rev().filter(|(_, record)| record.kind == Kind::Put);
             let puts = puts.skip(usize::from(at % 4 != 0));
-            reads.extend(puts.map(|(stamp, _)| Call::Read { moment: *stamp, key: key.clone() }));
+            let moment = |stamp: u64| stamp.max(self.store.floor);
+            reads.extend(puts.map(|(stamp, _)| Call::Read { moment: moment(*stamp), key: key.clone() }));
         }
         let replays: Vec<Call> = self.calls.iter().filter(|call| (8..=11).contains(&call.op())).cloned().collect();
         reads.into_iter().chain(replays).chain([Call::Statistics, Call::Marks]).for_each(|call| self.push(call));

@@ -176,7 +176,8 @@ type Writes<'a> = &'a [(Bytes, u64, RawRecord)];
 /// A restore of lines of key a, with defaults of these starts.
 fn restore(defaults: &[u64], locks: Locks, writes: Writes) -> Call {
     let defaults = defaults.iter().map(|start| (a(), *start, SMALLEST.to_vec())).collect();
-    Call::Restore { image: Image { table: 1, defaults, locks: locks.to_vec(), writes: writes.to_vec() }.write() }
+    let (locks, writes) = (locks.to_vec(), writes.to_vec());
+    Call::Restore { image: Image { table: 1, floor: 0, defaults, locks, writes }.write() }
 }
 
 fn commit(start: u64, commit: u64) -> Call {

@@ -116,17 +116,22 @@ pub fn transaction(random: &mut Random, faulty: bool) -> u64 {
     }
 }
 
-/// A start, stamp or moment: small, extreme, or at or beside one of this key's.
+/// A start, stamp or moment: small, extreme, at or beside one of this key's, or at or beside the floor.
 pub fn stamp(random: &mut Random, store: &Store, key: &[u8], faulty: bool) -> u64 {
     if faulty && random.percent(20) {
         return 0;
+    }
+    // At the floor and beside it, or above it by as much as it would be above 0.
+    let from = if store.floor > 0 && random.percent(75) { store.floor } else { 0 };
+    if from > 0 && random.percent(20) {
+        return (from - 1).saturating_add(random.below(4) as u64);
     }
     match random.below(100) {
         0..4 => *random.pick(&EXTREMES),
         4..50 => {
             let known = stamps_of(store, key);
             if known.is_empty() {
-                return random.between(1, 14) as u64;
+                return from.saturating_add(random.between(1, 14) as u64);
             }
             let at = *random.pick(&known);
             match random.below(4) {
@@ -135,7 +140,7 @@ pub fn stamp(random: &mut Random, store: &Store, key: &[u8], faulty: bool) -> u6
                 _ => at,
             }
         }
-        _ => random.between(1, 14) as u64,
+        _ => from.saturating_add(random.between(1, 14) as u64),
     }
 }
 

@@ -185,6 +185,7 @@ impl Maker {
         let count = *self.random.pick(&[1, 1, 1, 2, 2, 3, 4]);
         let keys: Vec<Bytes> = (0..count).map(|_| self.stock.key(&mut self.random, &self.store)).collect();
         let newest = keys.iter().filter_map(|key| self.store.newest_stamp(key)).max().unwrap_or(0);
+        let newest = if self.random.percent(85) { newest.max(self.store.floor) } else { newest };
         let start = if self.random.percent(60) {
             newest.saturating_add(self.random.between(1, 3) as u64)
         } else {

@@ -63,6 +63,10 @@ impl Maker {
         for _ in 0..self.random.between(6, 24) {
             match self.random.below(10) {
                 0..2 => self.any_call(),
+                2 if self.random.percent(35) => {
+                    let call = self.collect();
+                    self.push(call);
+                }
                 2..5 => self.new_lines(),
                 5..9 => {
                     let call = self.write_image(false);
@@ -78,7 +82,7 @@ impl Maker {
     }
 
     /// Locks, often with a primary of another table, or records.
-    fn new_lines(&mut self) {
+    pub fn new_lines(&mut self) {
         let call = match self.random.below(4) {
             0 => self.prewrite(6, false),
             1 => self.prewrite(7, false),
@@ -240,6 +244,7 @@ fn odd_image() -> Image {
             write(&aa, 2, 7, 2),
             write(&a, 15, 15, 3),
         ],
+        ..Image::default()
     }
 }
 

@@ -3,7 +3,7 @@
 
 use std::collections::BTreeSet;
 
-use generate::faults::{self, Fault, OF_ENTRIES, PLACES, SICK, WHOLE};
+use generate::faults::{self, FLOORED, Fault, OF_ENTRIES, PLACES, SICK, WHOLE};
 use generate::hostile::{self, KEYS};
 use generate::orders::{ORDERS, Order, ascends};
 use generate::random::Random;
@@ -43,7 +43,7 @@ fn sound_ones_are_taken() {
 }
 
 /// The rule without which an image with this fault is taken, where there is one. A default whose key or start no line can
-/// have has none: it is an orphan besides.
+/// have has none: it is an orphan besides. Nor has a lock of start 0: it is at or below any floor.
 fn rule(fault: Fault) -> Option<Bend> {
     Some(match fault {
         Fault::LockWithoutDefault => Bend::PutLockWithoutDefaultTaken,
@@ -55,7 +55,7 @@ fn rule(fault: Fault) -> Option<Bend> {
         Fault::DefaultRow => Bend::ImageRowUnjudged,
         Fault::SecondDefault => Bend::SecondDefaultTaken,
         Fault::LockTransaction => Bend::LockTransactionZero,
-        Fault::LockStart => Bend::LockStartZero,
+        Fault::LockAtFloor | Fault::LockBelowFloor => Bend::RustFloorTaken,
         Fault::LockTimeToLive => Bend::LockTimeToLiveZero,
         Fault::LockPrimary => Bend::LockPrimaryAny,
         Fault::SecondLock => Bend::SecondLockTaken,
@@ -74,7 +74,7 @@ fn each_fault_stands_alone_at_each_place() {
     let mut random = Random::new(8);
     let stock = Stock::new(&mut random);
     for (order, image) in sound_images() {
-        for fault in WHOLE.into_iter().chain(OF_ENTRIES).chain(SICK) {
+        for fault in WHOLE.into_iter().chain(OF_ENTRIES).chain(SICK).chain(FLOORED) {
             for place in PLACES {
                 let bytes = faults::one(&mut random, &stock, image.clone(), fault, place);
                 assert_eq!(number(&bytes), 13, "{order:?} {fault:?} {place:?} {image:?}");
@@ -91,6 +91,7 @@ fn empty(image: &Image, fault: Fault) -> bool {
     (Fault::DefaultKey..=Fault::SecondDefault).contains(&fault) && image.defaults.is_empty()
         || (Fault::LockKey..=Fault::SecondLock).contains(&fault) && image.locks.is_empty()
         || matches!(fault, Fault::LockWithoutDefault | Fault::OrphanBesideLock) && image.locks.is_empty()
+        || FLOORED.contains(&fault) && image.locks.is_empty()
 }
 
 /// The place and order of a second entry: whether the first one, the last one, the least and the greatest are met, each
@@ -155,7 +156,7 @@ fn the_named_images_answer_as_they_should() {
             "a lock that cannot end" => &[0, 3, 9, 3],
             "calls from an image" => &[0, 0, 8, 0, 7, 0, 0, 0, 0],
             "no entries" => &[0, 0],
-            _ => &[0, 0, 0, 13, 13, 13, 13, 13, 13, 13, 13, 13, 13, 13, 0, 0],
+            _ => &[0, 0, 0, 13, 13, 13, 13, 13, 13, 13, 13, 13, 13, 13, 13, 13, 0, 0],
         };
         assert_eq!(numbers, expected, "{name}");
     }

@@ -6,7 +6,7 @@ use std::collections::{BTreeMap, BTreeSet};
 use generate::random::Random;
 use generate::rows::{self, COUNTS};
 use generate::{Ops, bones, old, trace};
-use paper::convert::{has_longest_row, old_image};
+use paper::convert::{FLOOR, has_longest_row, old_image};
 use paper::form::mutation_batch;
 use paper::restore::Image;
 use paper::row::{bones_of, old_row_in_form, row_in_form};
@@ -47,11 +47,14 @@ fn rows_of(call: &Call) -> Vec<Bytes> {
             let entries = mutation_batch(batch).unwrap_or_default();
             entries.into_iter().filter(|entry| entry.kind == Kind::Put).map(|entry| entry.row).collect()
         }
-        Call::Restore { image } | Call::Convert { image, .. } => {
-            Image::read(image).map_or(Vec::new(), |image| image.defaults.into_iter().map(|(_, _, row)| row).collect())
-        }
+        Call::Restore { image } => rows_in(Image::read(image)),
+        Call::Convert { image, .. } => rows_in(Image::read_old(image)),
         _ => Vec::new(),
     }
+}
+
+fn rows_in(image: Option<Image>) -> Vec<Bytes> {
+    image.map_or(Vec::new(), |image| image.defaults.into_iter().map(|(_, _, row)| row).collect())
 }
 
 #[test]
@@ -97,7 +100,7 @@ fn conversions_are_of_every_sort() {
                     count("13 before a short buffer", answer.number == 13 && *buffer == 0);
                     let Some(old) = old_image(image) else { continue };
                     count("a 255-byte row", has_longest_row(&old));
-                    let needed = image.len() + old.defaults.len();
+                    let needed = image.len() + FLOOR + old.defaults.len();
                     count("one byte short", answer.number == 12 && *buffer as usize + 1 == needed);
                     count("as long as the old image", answer.number == 12 && *buffer as usize == image.len());
                     if answer.number == 0 {

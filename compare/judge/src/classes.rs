@@ -6,15 +6,16 @@
 //! not, and itself says what the class says. So the store before the call holds what the class is about, and both sides
 //! answer as the class says; any other difference has no name and fails the comparison.
 
-use paper::answer::Answer;
+use paper::answer::{Answer, BELOW_FLOOR};
 use paper::bend::{Bend, with_bends};
 use paper::run::run_call;
 use paper::store::Store;
 use paper::trace::Call;
 use ragnor::engine::Engine;
 
+use crate::floored::{below_floor, locked_below};
 use crate::one::agrees;
-use crate::rust_side::{Outcome, beyond_room, same_state, sick};
+use crate::rust_side::{Outcome, Side, beyond_room, same_state, sick};
 
 macro_rules! classes {
     ($($name:ident $word:literal $bend:ident [$($number:literal)*] $text:literal;)*) => {
@@ -68,6 +69,10 @@ classes! {
         "paper 13, Rust Ok: an image of table 0 without entries";
     SickImage "sick-image" RustSickTaken [13]
         "paper 13, Rust Ok: a Put lock without its default, an orphan default, or two lines of one key and start";
+    FlooredImage "lock-below-image-floor" RustFloorTaken [13]
+        "paper 13, Rust Ok: a lock at or below the image's floor";
+    BelowFloor "below-floor" RustHasNoFloor [14]
+        "paper 14, Rust goes on: a moment below the floor, or a start at or below it";
 }
 
 /// Which of the two Rusts: with validate_mutation as shown, or written from document 01.
@@ -78,43 +83,57 @@ pub enum Rust {
 }
 
 /// The class of a difference, if it has one: the store before the call, the call, what each side said, and the Rust as the
-/// call left it.
+/// call left it. Where the paper says 14, it is the floor's, whatever the Rust comes to when it goes on.
 pub fn class_of<E: Engine>(
     rust: Rust,
     before: &Store,
     call: &Call,
     paper: &Answer,
     said: &Outcome,
-    engine: &E,
+    side: &Side<E>,
 ) -> Option<Class> {
     let explains = |rules: &[Bend]| {
         let mut store = before.clone();
         let answer = with_bends(rules, || run_call(&mut store, call));
-        agrees(call, &answer, said) && same_state(engine, &store)
+        agrees(call, &answer, said) && same_state(side, &store)
     };
+    let floored = paper.number == BELOW_FLOOR;
+    if floored && (paper.count != 0 || !below_floor(call, before.floor)) {
+        return None;
+    }
     // Where the paper goes on, a later entry of the batch may be refused for what the Rust never came to.
-    // What the Rust took as an image must be sick in its own state.
+    // What the Rust took as an image must be sick in its own state, or have a lock at or below the image's floor.
     let fits = |class: &Class| {
         let numbers = class.numbers();
         let said = numbers.contains(&paper.number) || numbers.contains(&0) && matches!(call.op(), 7 | 9 | 12);
-        said && (*class != Class::SickImage || sick(engine))
+        let shown = match class {
+            Class::SickImage => sick(&side.engine),
+            Class::FlooredImage => locked_below(side),
+            _ => true,
+        };
+        said && shown
     };
+    let named = |class: Class| if floored { Some(Class::BelowFloor) } else { Some(class).filter(fits) };
     // The Rust has no rooms in any call: where that alone explains it, its own state must be beyond one of them.
     let mut rules = vec![Class::Room.bend()];
+    rules.extend(floored.then_some(Class::BelowFloor.bend()));
     if explains(&rules) {
-        return (fits(&Class::Room) && beyond_room(engine)).then_some(Class::Room);
+        return named(Class::Room).filter(|class| *class != Class::Room || beyond_room(&side.engine));
     }
     // As shown, it judges a default first in any call.
     if rust == Rust::Shown {
         rules.push(Class::DefaultFirst.bend());
         if explains(&rules) {
-            return Some(Class::DefaultFirst).filter(fits);
+            return named(Class::DefaultFirst);
         }
     }
     let with = |classes: &[Class]| [&rules[..], &classes.iter().map(|class| class.bend()).collect::<Vec<_>>()].concat();
-    let mut others = Class::ALL.iter().copied().filter(|class| !matches!(class, Class::Room | Class::DefaultFirst));
-    let one = others.find(|class| fits(class) && explains(&with(&[*class])));
-    // Both may stand in the way of one call: a record stamped with the start, and a Rollback above it.
-    let two = [Class::StampAtStart, Class::RollbackAbove];
-    one.or_else(|| two.iter().copied().find(|class| fits(class) && explains(&with(&two))))
+    let every = [Class::Room, Class::DefaultFirst, Class::BelowFloor];
+    let mut others = Class::ALL.iter().copied().filter(|class| !every.contains(class));
+    let one = others.find(|class| named(*class).is_some() && explains(&with(&[*class])));
+    // Both may stand in the way of one call: a record stamped with the start, and a Rollback above it; or a sick image and its
+    // floor.
+    let pairs = [[Class::StampAtStart, Class::RollbackAbove], [Class::SickImage, Class::FlooredImage]];
+    let two = || pairs.iter().find(|two| named(two[0]).is_some() && explains(&with(&two[..]))).map(|two| two[0]);
+    one.or_else(two).and_then(named)
 }

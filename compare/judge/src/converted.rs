@@ -97,7 +97,7 @@ impl Converted {
 
 /// Has the image no other fault than rows that are not document 01's?
 fn by_a_row_alone(image: &[u8]) -> bool {
-    Image::read(image).is_some_and(|mut image| {
+    Image::read_old(image).is_some_and(|mut image| {
         image.defaults.iter_mut().for_each(|(_, _, row)| *row = vec![0, 0]);
         image.old_store().is_some()
     })

@@ -1,7 +1,8 @@
 //! What was compared: the calls by op; those on a box that is just full, those that meet a lock, the reads by the records
 //! that they examine, and the calls that pack the area anew; the single forms by the lengths that a batch's length byte
 //! sets apart; the restores by the order of their entries, by the answer and by what makes the image sick; the images that
-//! were written; the rows by their form, the bones that were asked, and the old images that were converted.
+//! were written; the rows by their form, the bones that were asked, and the old images that were converted; collections, and
+//! calls and images by the floor.
 
 use std::collections::BTreeMap;
 
@@ -17,6 +18,7 @@ use paper::store::Store;
 use paper::trace::{Call, read_trace};
 
 use crate::converted::Converted;
+use crate::floors::Floors;
 use crate::held::Held;
 use crate::reads::Reads;
 use crate::rows::Rows;
@@ -37,6 +39,7 @@ pub struct Counts {
     written: Written,
     rows: Rows,
     converted: Converted,
+    floors: Floors,
 }
 
 impl Counts {
@@ -49,8 +52,10 @@ impl Counts {
         let (mut store, mut area) = (Store::default(), Area::default());
         self.written.begin();
         self.converted.begin();
+        self.floors.begin();
         for call in &calls {
             self.take_full(&store);
+            let before = store.clone();
             let (answer, packed) = area.run(&mut store, call);
             *self.ops.entry(call.op()).or_default() += 1;
             *self.repacks.entry(call.op()).or_default() += u64::from(packed);
@@ -60,6 +65,7 @@ impl Counts {
             self.written.take(&store, call, &answer);
             self.rows.take(call, &answer);
             self.converted.take(call, &answer);
+            self.floors.take(&before, &store, call, &answer);
             match call {
                 Call::Prewrite { key, row, .. } => self.take_lengths(&[key.len(), row.len()]),
                 Call::Commit { key, .. } | Call::Rollback { key, .. } => self.take_lengths(&[key.len()]),
@@ -143,5 +149,6 @@ impl Counts {
         self.written.print();
         self.rows.print();
         self.converted.print();
+        self.floors.print();
     }
 }

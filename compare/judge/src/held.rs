@@ -9,7 +9,7 @@ use paper::store::{Kind, Store};
 use paper::trace::Call;
 
 /// The ops that can give 7.
-const OPS: [u8; 9] = [1, 2, 6, 7, 8, 9, 10, 11, 12];
+const OPS: [u8; 10] = [1, 2, 6, 7, 8, 9, 10, 11, 12, 13];
 /// Those of them whose entries have a kind.
 const WITH_KIND: [u8; 3] = [6, 7, 12];
 

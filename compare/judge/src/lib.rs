@@ -5,6 +5,8 @@ pub mod bends;
 pub mod classes;
 mod converted;
 mod counts;
+pub mod floored;
+mod floors;
 mod held;
 pub mod length;
 pub mod one;

@@ -4,7 +4,7 @@
 use std::collections::BTreeMap;
 
 use generate::Ops;
-use paper::answer::{Answer, BATCH, CONTRADICTION, HISTORY, IMAGE, LOCKED, SHORT_BUFFER, ZERO};
+use paper::answer::{Answer, BATCH, BELOW_FLOOR, CONTRADICTION, HISTORY, IMAGE, LOCKED, SHORT_BUFFER, ZERO};
 use paper::run::run_call;
 use paper::store::{Bytes, Store};
 use paper::trace::{Call, read_trace};
@@ -12,8 +12,9 @@ use ragnor::engine::Engine;
 
 use crate::classes::{Class, Rust, class_of};
 use crate::counts::Counts;
+use crate::floored::{below_floor, locked_below};
 use crate::length::Length;
-use crate::rust_side::{Outcome, beyond_room, run_rust, same_state, set_state, sick};
+use crate::rust_side::{Outcome, Side, beyond_room, run_rust, same_state, set_state, sick};
 use crate::{shrink, words};
 
 /// One difference: at which call, what each side said, and its class if it has one.
@@ -31,7 +32,8 @@ pub struct Difference {
 /// names the holder exactly for 7, of which it has transaction and start alone. Of ours, a row out of form (2) is
 /// InvalidArgument, a batch not in form (6) makes no call, a short buffer (12) has the Rust give a page longer than the
 /// buffer; where there is no room (11) the Rust says Ok, which is a difference of the class `room`. To write an image the
-/// Rust is told no table number, so table 0 (3) makes no call. It is asked for no bones and converts no image.
+/// Rust is told no table number, so table 0 (3) makes no call. It is asked for no bones and converts no image. It has no floor
+/// (14), which is the class `below-floor`; a collection is made over its maps.
 pub fn agrees(call: &Call, paper: &Answer, said: &Outcome) -> bool {
     if matches!(call, Call::Bone { .. } | Call::Bones { .. } | Call::Convert { .. }) {
         return *said == Outcome::NoCall;
@@ -60,6 +62,7 @@ pub fn agrees(call: &Call, paper: &Answer, said: &Outcome) -> bool {
         (1 | 2 | 3 | 4 | 5 | 10, Outcome::InvalidArgument) => true,
         (BATCH | IMAGE, Outcome::NoCall) => true,
         (ZERO, Outcome::NoCall) => matches!(call, Call::WriteImage { table: 0, .. }),
+        (BELOW_FLOOR, Outcome::BelowFloor) => true,
         (SHORT_BUFFER, Outcome::Accepted { count, .. }) => buffer.is_some_and(|buffer| *count > buffer),
         _ => false,
     }
@@ -68,21 +71,25 @@ pub fn agrees(call: &Call, paper: &Answer, said: &Outcome) -> bool {
 /// Every difference of a trace with one of the Rusts.
 fn differences_with<E: Engine>(rust: Rust, calls: &[Call], found: &mut Vec<Difference>) {
     let mut store = Store::default();
-    let mut engine = E::default();
+    let mut side = Side { engine: E::default(), floor: 0 };
     for (at, call) in calls.iter().enumerate() {
         let before = store.clone();
         let paper = run_call(&mut store, call);
-        let said = run_rust(&mut engine, call);
+        let below = below_floor(call, side.floor);
+        let said = run_rust(&mut side, call);
         let agreed = agrees(call, &paper, &said);
-        let same = same_state(&engine, &store);
+        let same = same_state(&side, &store);
         // The Rust has no rooms and takes sick images; where its state is the paper's, the paper's is judged by it.
-        if agreed && same && !beyond_room(&engine) && !sick(&engine) {
+        let engine = &side.engine;
+        if agreed && same && !below && !beyond_room(engine) && !sick(engine) && !locked_below(&side) {
             continue;
         }
-        // A state that differs although the answers agree has no class, and none that is beyond a room or sick.
-        let class = if agreed { None } else { class_of(rust, &before, call, &paper, &said, &engine) };
+        // A state that differs although the answers agree has no class, and none that is beyond a room, sick, or has a lock at
+        // or below the floor; nor has an answer that is not 14 where the floor beside the Rust says so.
+        let named = !agreed && (!below || paper.number == BELOW_FLOOR);
+        let class = if named { class_of(rust, &before, call, &paper, &said, &side) } else { None };
         found.push(Difference { rust, at, paper, said, class });
-        set_state(&mut engine, &store);
+        set_state(&mut side, &store);
     }
 }
 

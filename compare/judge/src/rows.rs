@@ -85,9 +85,12 @@ fn rows_of(call: &Call) -> Vec<Bytes> {
             let entries = mutation_batch(batch).unwrap_or_default();
             entries.into_iter().filter(|entry| entry.kind == Kind::Put).map(|entry| entry.row).collect()
         }
-        Call::Restore { image } | Call::Convert { image, .. } => {
-            Image::read(image).map_or(Vec::new(), |image| image.defaults.into_iter().map(|(_, _, row)| row).collect())
-        }
+        Call::Restore { image } => rows_in(Image::read(image)),
+        Call::Convert { image, .. } => rows_in(Image::read_old(image)),
         _ => Vec::new(),
     }
+}
+
+fn rows_in(image: Option<Image>) -> Vec<Bytes> {
+    image.map_or(Vec::new(), |image| image.defaults.into_iter().map(|(_, _, row)| row).collect())
 }

@@ -1,5 +1,5 @@
 //! mvcc.rs as a driver of calls: a call's arguments handed over, its result put into the paper's terms, and its state
-//! read and set.
+//! read and set. It has no floor; the floor stands beside it (floored.rs).
 
 use std::collections::{BTreeMap, BTreeSet};
 
@@ -15,6 +15,8 @@ use ragnordb_common::codec::{LockRecord, WriteKind, WriteRecord};
 use ragnordb_common::ids::{Timestamp, TxnId};
 use ragnordb_common::proto::snapshot;
 use ragnordb_common::{Error, Result};
+
+use crate::floored::collect;
 
 /// What mvcc.rs says to a call.
 #[derive(Clone, Debug, PartialEq, Eq)]
@@ -34,6 +36,8 @@ pub enum Outcome {
     CorruptData,
     InvalidArgument,
     NotImplemented,
+    /// A collection with a lower floor than the one that stands beside the Rust.
+    BelowFloor,
     /// The batch or image is not in form, or the table number is 0, so there is nothing to hand over; or the Rust has no such
     /// call.
     NoCall,
@@ -60,6 +64,7 @@ impl Outcome {
             Outcome::CorruptData => "CorruptData",
             Outcome::InvalidArgument => "InvalidArgument",
             Outcome::NotImplemented => "NotImplemented",
+            Outcome::BelowFloor => "below the floor",
             Outcome::NoCall => "no call",
         }
     }
@@ -72,8 +77,26 @@ fn holder(text: &str) -> Option<(u64, u64)> {
     Some((transaction.parse().ok()?, start.parse().ok()?))
 }
 
-/// One call on mvcc.rs.
-pub fn run_rust<E: Engine>(engine: &mut E, call: &Call) -> Outcome {
+/// mvcc.rs, and the floor beside it: that of the last collection or restore that was taken.
+#[derive(Default)]
+pub struct Side<E> {
+    pub engine: E,
+    pub floor: u64,
+}
+
+/// One call on mvcc.rs. It has no collection: what that leaves is worked out over its maps.
+pub fn run_rust<E: Engine>(side: &mut Side<E>, call: &Call) -> Outcome {
+    if let Call::Collect { floor } = call {
+        return collect(side, *floor);
+    }
+    let said = run_engine(&mut side.engine, side.floor, call);
+    if let (Call::Restore { image }, Outcome::Accepted { .. }) = (call, &said) {
+        side.floor = Image::read(image).map_or(0, |image| image.floor);
+    }
+    said
+}
+
+fn run_engine<E: Engine>(engine: &mut E, floor: u64, call: &Call) -> Outcome {
     match call {
         Call::Read { moment, key } => {
             let examined = examined(engine, *moment, key);
@@ -135,12 +158,12 @@ pub fn run_rust<E: Engine>(engine: &mut E, call: &Call) -> Outcome {
             Some(image) => outcome(engine.restore(entries(image)), |()| (0, Bytes::new())),
             None => Outcome::NoCall,
         },
-        Call::Bone { .. } | Call::Bones { .. } | Call::Convert { .. } => Outcome::NoCall,
+        Call::Collect { .. } | Call::Bone { .. } | Call::Bones { .. } | Call::Convert { .. } => Outcome::NoCall,
         Call::Statistics => Outcome::Accepted { count: 0, payload: numbers(&engine.statistics()) },
         Call::Marks => Outcome::Accepted { count: 0, payload: numbers(&engine.marks()) },
         Call::WriteImage { table: 0, .. } => Outcome::NoCall,
         Call::WriteImage { table, .. } => outcome(engine.capture(), |all| {
-            let image = image_of(*table, all).write();
+            let image = Image { floor, ..image_of(*table, all) }.write();
             (image.len() as u64, image)
         }),
     }
@@ -156,6 +179,7 @@ fn image_of(table: u32, all: CapturedMvccState) -> Image {
     let writes = all.writes.into_iter().filter(|entry| of_table(&entry.key));
     Image {
         table,
+        floor: 0,
         defaults: defaults.map(|entry| (entry.key, stamp(entry.start_timestamp), entry.row)).collect(),
         locks: locks.map(|entry| (entry.key, raw_lock(entry.record.expect("every lock has its record")))).collect(),
         writes: writes
@@ -266,10 +290,11 @@ fn entries(image: Image) -> Entries {
     }
 }
 
-/// Is the Rust's state the paper's?
-pub fn same_state<E: Engine>(engine: &E, store: &Store) -> bool {
-    let (defaults, locks, writes) = engine.maps();
-    defaults.len() == store.defaults.len()
+/// Is the Rust's state the paper's, and the floor beside it?
+pub fn same_state<E: Engine>(side: &Side<E>, store: &Store) -> bool {
+    let (defaults, locks, writes) = side.engine.maps();
+    side.floor == store.floor
+        && defaults.len() == store.defaults.len()
         && locks.len() == store.locks.len()
         && writes.len() == store.records.len()
         && defaults.iter().zip(&store.defaults).all(|((key, chain), (other, rows))| {
@@ -319,12 +344,13 @@ pub fn sick<E: Engine>(engine: &E) -> bool {
     pairs.len() < lines.len() || puts != rows.collect()
 }
 
-/// Sets the Rust to the paper's state.
-pub fn set_state<E: Engine>(engine: &mut E, store: &Store) {
+/// Sets the Rust to the paper's state, and the floor beside it.
+pub fn set_state<E: Engine>(side: &mut Side<E>, store: &Store) {
     let defaults = store.defaults.iter().map(|(key, chain)| (key.clone(), stamped(chain, |row| row.clone())));
     let locks = store.locks.iter().map(|(key, lock)| (key.clone(), rust_lock(lock)));
     let writes = store.records.iter().map(|(key, chain)| (key.clone(), stamped(chain, rust_record)));
-    engine.set_maps(defaults.collect(), locks.collect(), writes.collect());
+    side.engine.set_maps(defaults.collect(), locks.collect(), writes.collect());
+    side.floor = store.floor;
 }
 
 fn stamped<T, U>(chain: &BTreeMap<u64, T>, each: impl Fn(&T) -> U) -> BTreeMap<Timestamp, U> {

@@ -4,7 +4,7 @@
 use std::collections::BTreeMap;
 use std::path::Path;
 
-use generate::{Ops, bones, chains, held, hostile, named, old, repacks, sick, singles, written};
+use generate::{Ops, bones, chains, floor_cases, held, hostile, named, old, repacks, sick, singles, written};
 use paper::area;
 use paper::bend::Bend;
 use paper::run::run_trace;
@@ -104,6 +104,7 @@ pub fn write(folder: &str, ops: Ops) -> bool {
         sick::cases,
         held::cases,
         chains::cases,
+        floor_cases::cases,
         written::cases,
         bones::cases,
         old::cases,

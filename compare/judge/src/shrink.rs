@@ -73,8 +73,8 @@ fn smaller_calls(mut calls: Vec<Call>, left: &mut usize, shows: &mut dyn FnMut(&
                 Image::read(&image).map(|image| smaller_image(image, restore, left, &mut with))
             }
             Call::Convert { buffer, image } => {
-                let convert = |image: &Image| Call::Convert { buffer, image: image.write() };
-                Image::read(&image).map(|image| smaller_image(image, convert, left, &mut with))
+                let convert = |image: &Image| Call::Convert { buffer, image: image.write_old() };
+                Image::read_old(&image).map(|image| smaller_image(image, convert, left, &mut with))
             }
             call => smaller_batch(call, left, &mut with),
         };

@@ -58,13 +58,16 @@ pub fn call(call: &Call) -> String {
         Call::OneStep { transaction, start, commit, batch } => {
             format!("one-step by {transaction}, start {start}, at {commit} of a batch: {}", mutations(batch))
         }
+        Call::Collect { floor } => format!("collect up to {floor}"),
         Call::Bone { number, row } => format!("is bone {number} shown in {}", hex(row)),
         Call::Bones { row } => format!("how many bones are shown in {}", hex(row)),
-        Call::Restore { image } => format!("restore: {}", image_words(image)),
+        Call::Restore { image } => format!("restore: {}", image_words(image, Image::read(image))),
         Call::Statistics => "statistics".to_string(),
         Call::Marks => "high-water marks".to_string(),
         Call::WriteImage { table, buffer } => format!("write the image of table {table}, buffer {buffer}"),
-        Call::Convert { buffer, image } => format!("convert, buffer {buffer}: {}", image_words(image)),
+        Call::Convert { buffer, image } => {
+            format!("convert, buffer {buffer}: {}", image_words(image, Image::read_old(image)))
+        }
     }
 }
 
@@ -127,12 +130,12 @@ fn list(words: Vec<String>) -> String {
     if words.is_empty() { "empty".to_string() } else { words.join("; ") }
 }
 
-fn image_words(bytes: &[u8]) -> String {
-    let Some(image) = Image::read(bytes) else {
+fn image_words(bytes: &[u8], image: Option<Image>) -> String {
+    let Some(image) = image else {
         return format!("image not in form, {}", hex(bytes));
     };
     let entries = image.defaults.len() + image.locks.len() + image.writes.len();
-    let head = format!("image of table {}", image.table);
+    let head = format!("image of table {}, floor {}", image.table, image.floor);
     if entries > 12 {
         let (defaults, locks, writes) = (image.defaults.len(), image.locks.len(), image.writes.len());
         return format!("{head}, {defaults} defaults, {locks} locks, {writes} writes, {} bytes", bytes.len());

@@ -40,6 +40,7 @@ const UNSEEN: &[(&str, &[Bend])] = &[
             Bend::ShortImageLastByte,
             Bend::TableZeroFills,
             Bend::ImageRestCleared,
+            Bend::PageFloorFills,
         ],
     ),
     (
@@ -90,6 +91,7 @@ const UNSEEN: &[(&str, &[Bend])] = &[
             Bend::HolderShortInRollback,
             Bend::HolderShortInRollbackBatch,
             Bend::HolderShortInOneStep,
+            Bend::HolderShortInCollect,
             Bend::AcceptedReadNamesLock,
             Bend::OneIntentNamesLock,
             Bend::AcceptedChangeNamesLock,

@@ -4,8 +4,9 @@
 use generate::batch::mutation_bytes;
 use judge::classes::{Class, Rust};
 use judge::one::differences;
-use judge::rust_side::{Outcome, run_rust, set_state};
+use judge::rust_side::{Outcome, Side, run_rust, set_state};
 use paper::form::Entry;
+use paper::page::Bounds;
 use paper::restore::{Image, RawLock, RawRecord};
 use paper::run::run_call;
 use paper::store::{Kind, Lock, Record, Store};
@@ -49,7 +50,7 @@ type Write = (Vec<u8>, u64, RawRecord);
 
 fn restore(defaults: &[u64], locks: Vec<(Vec<u8>, RawLock)>, writes: Vec<Write>) -> Call {
     let defaults = defaults.iter().map(|start| default(*start)).collect();
-    Call::Restore { image: Image { table: 1, defaults, locks, writes }.write() }
+    Call::Restore { image: Image { table: 1, floor: 0, defaults, locks, writes }.write() }
 }
 
 /// The last call differs, alone, in this class: the paper's number, and the Rust's result with validate_mutation as
@@ -153,10 +154,10 @@ fn by_hand(defaults: &[u64], locks: Vec<(Vec<u8>, RawLock)>, writes: Vec<Write>,
     let Call::Restore { image } = restore(defaults, locks, writes) else { unreachable!("a restore") };
     let sick = Image::read(&image).and_then(|image| image.store()).expect("without a fault by document 01's checks");
     assert!(sick.sick());
-    let mut shown = ragnor::shown::InMemoryMvcc::default();
+    let mut shown = Side::<ragnor::shown::InMemoryMvcc>::default();
     set_state(&mut shown, &sick);
     assert_eq!(run_rust(&mut shown, call), Outcome::CorruptData);
-    let mut from_paper = ragnor::from_paper::InMemoryMvcc::default();
+    let mut from_paper = Side::<ragnor::from_paper::InMemoryMvcc>::default();
     set_state(&mut from_paper, &sick);
     assert_eq!(run_rust(&mut from_paper, call), Outcome::CorruptData);
     assert_eq!(run_call(&mut sick.clone(), call).number, paper);
@@ -179,7 +180,7 @@ fn a_lock_of_kind_rollback_under_a_history_that_forbids() {
     let lock = Lock { transaction: 7, primary: a(), start: 4, time_to_live: 1, kind: Kind::Rollback };
     store.locks.insert(a(), lock);
     store.put_record(&a(), 12, Record { start: 12, commit: 12, kind: Kind::Rollback });
-    let mut engine = ragnor::shown::InMemoryMvcc::default();
+    let mut engine = Side::<ragnor::shown::InMemoryMvcc>::default();
     set_state(&mut engine, &store);
     assert_eq!(run_call(&mut store, &commit(4, 7)).number, 8);
     assert_eq!(run_rust(&mut engine, &commit(4, 7)), Outcome::CorruptData);
@@ -232,17 +233,17 @@ fn all_tables_are_captured_into_one() {
         Call::OneStep { transaction: 7, start: 10, commit: 12, batch },
     ];
     let mut store = Store::default();
-    let mut engine = ragnor::shown::InMemoryMvcc::default();
+    let mut engine = Side::<ragnor::shown::InMemoryMvcc>::default();
     for call in &calls {
         assert_eq!((run_call(&mut store, call).number, run_rust(&mut engine, call).name()), (0, "Ok"));
     }
-    let all = engine.capture().expect("sound entries are captured");
+    let all = engine.engine.capture().expect("sound entries are captured");
     let keys: Vec<Vec<u8>> = all.default_values.iter().map(|entry| entry.key.clone()).collect();
     assert_eq!(keys, [a(), a(), other.clone()]);
     assert_eq!((all.locks.len(), all.writes.len()), (1, 3));
     for (table, entries) in [(1, 5), (2, 2), (3, 0)] {
         assert_eq!(store.image_of(table).entries(), entries);
-        for buffer in [999, 10, 9] {
+        for buffer in [999, 18, 17] {
             let written = [&calls[..], &[Call::WriteImage { table, buffer }]].concat();
             assert!(differences(&written).is_empty(), "table {table}, buffer {buffer}");
         }
@@ -254,5 +255,88 @@ fn all_tables_are_captured_into_one() {
 
 #[test]
 fn empty_table_zero() {
-    both_differ(&[Call::Restore { image: vec![0; 10] }], Class::EmptyTableZero, 13, "Ok");
+    both_differ(&[Call::Restore { image: vec![0; 18] }], Class::EmptyTableZero, 13, "Ok");
+}
+
+fn collect(floor: u64) -> Call {
+    Call::Collect { floor }
+}
+
+fn read(moment: u64) -> Call {
+    Call::Read { moment, key: a() }
+}
+
+fn empty_one_step(start: u64) -> Call {
+    Call::OneStep { transaction: 7, start, commit: start + 1, batch: mutation_bytes(&[]) }
+}
+
+#[test]
+fn below_floor() {
+    let below = |call: Call, said: &str| both_differ(&[collect(5), call], Class::BelowFloor, 14, said);
+    below(read(4), "Ok");
+    let bounds = Bounds { start: None, end: Some(a()), resume: Some(a()) };
+    below(Call::Page { moment: 4, row_limit: 1, byte_limit: 1, bounds, buffer: 3 }, "Ok");
+    below(prewrite(7, 5, Kind::Delete, &[]), "Ok");
+    below(rollback(5), "Ok");
+    below(one_step(5, 6, Kind::Delete, &[]), "Ok");
+    below(empty_one_step(5), "Ok");
+    // The Rust goes on, and then its later steps answer.
+    below(commit(5, 6), "WriteConflict");
+    below(Call::Rollback { transaction: 7, start: 5, key: a()[..4].to_vec() }, "InvalidArgument");
+    // Both say the same at the floor and above it, and where another refusal goes before.
+    let same = [read(5), prewrite(7, 6, Kind::Delete, &[]), rollback(0), empty_one_step(6), commit(5, 5)];
+    assert!(differences(&[&[collect(5)][..], &same].concat()).is_empty());
+    // A replay of what was kept.
+    let w2 = [prewrite(7, 10, Kind::Put, &[0, 0, 0]), commit(10, 12), collect(10)];
+    for replay in [commit(10, 12), one_step(10, 12, Kind::Put, &[0, 0, 0])] {
+        both_differ(&[&w2[..], &[replay]].concat(), Class::BelowFloor, 14, "Ok");
+    }
+}
+
+/// The Rust goes on past the floor and then differs again: the floor's is the name.
+#[test]
+fn below_floor_before_another_difference() {
+    let taken = [one_step(10, 12, Kind::Delete, &[]), collect(9), one_step(9, 12, Kind::Delete, &[])];
+    both_differ(&taken, Class::BelowFloor, 14, "CorruptData");
+    let image = floored(12, vec![], vec![write(12, 10, 2)]);
+    both_differ(&[image, prewrite(7, 12, Kind::Delete, &[])], Class::BelowFloor, 14, "Ok");
+}
+
+/// An image of key a's lines under a floor.
+fn floored(floor: u64, locks: Vec<(Vec<u8>, RawLock)>, writes: Vec<Write>) -> Call {
+    Call::Restore { image: Image { table: 1, floor, defaults: vec![], locks, writes }.write() }
+}
+
+#[test]
+fn lock_below_image_floor() {
+    let refused =
+        |floor, start| both_differ(&[floored(floor, vec![lock(start, 2)], vec![])], Class::FlooredImage, 13, "Ok");
+    refused(5, 5);
+    refused(5, 4);
+    refused(u64::MAX, u64::MAX);
+    assert!(differences(&[floored(5, vec![lock(6, 2)], vec![write(2, 1, 2), write(3, 3, 3)]), collect(5)]).is_empty());
+    // Too large besides: 13 goes before 11. Sick besides: the sickness has the name.
+    let key = |number: u16| [&[0, 0, 0, 1][..], &number.to_be_bytes()].concat();
+    let locks = (0..257).map(|number| (key(number), lock(1, 2).1)).collect();
+    both_differ(&[floored(1, locks, vec![])], Class::FlooredImage, 13, "Ok");
+    both_differ(&[floored(5, vec![lock(5, 1)], vec![])], Class::SickImage, 13, "Ok");
+}
+
+/// No class: the Rust has no collection and no floor. Over its maps the collection leaves what the paper's does, and its own
+/// reads at or above the floor answer as before.
+#[test]
+fn collections_are_made_over_the_maps() {
+    let put = |start, commit| one_step(start, commit, Kind::Put, &[0, 0, 0]);
+    let chain = [put(1, 2), rollback(3), put(4, 5), rollback(6), one_step(7, 8, Kind::Delete, &[]), put(9, 10)];
+    for floor in 0..12 {
+        let then = [collect(floor), read(floor), read(99), Call::Statistics, Call::Marks];
+        let written = [Call::WriteImage { table: 1, buffer: 400 }, collect(floor), collect(floor + 1)];
+        assert!(differences(&[&chain[..], &then, &written].concat()).is_empty(), "floor {floor}");
+    }
+    let held = [prewrite(9, 4, Kind::Delete, &[]), collect(4), collect(3), collect(2)];
+    assert!(differences(&held).is_empty());
+    let mut side = Side::<ragnor::shown::InMemoryMvcc>::default();
+    let said: Vec<Outcome> = held.iter().map(|call| run_rust(&mut side, call)).collect();
+    assert_eq!(said[1..2], [Outcome::Held { transaction: 9, start: 4 }]);
+    assert_eq!((said[2].name(), said[3].name(), side.floor), ("Ok", "below the floor", 3));
 }

@@ -8,14 +8,14 @@ use common::*;
 use generate::named;
 use judge::classes::{Class, Rust};
 use judge::one::differences;
-use judge::rust_side::{Outcome, run_rust};
+use judge::rust_side::{Outcome, Side, run_rust};
 use paper::trace::Call;
 use ragnor::engine::Engine;
 
 /// What a Rust says to the last of these calls, from a fresh store of its own.
 fn said<E: Engine>(calls: &[Call]) -> Outcome {
-    let mut engine = E::default();
-    calls.iter().map(|call| run_rust(&mut engine, call)).last().expect("a case has calls")
+    let mut side = Side::<E>::default();
+    calls.iter().map(|call| run_rust(&mut side, call)).last().expect("a case has calls")
 }
 
 /// The last of these calls: the paper's number, what both Rusts say, and the class if that differs. No other call differs.

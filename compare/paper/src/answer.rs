@@ -17,6 +17,7 @@ pub const BYTE_LIMIT: u8 = 10;
 pub const NO_ROOM: u8 = 11;
 pub const SHORT_BUFFER: u8 = 12;
 pub const IMAGE: u8 = 13;
+pub const BELOW_FLOOR: u8 = 14;
 
 /// Who holds a key. "Every other answer carries zeros there": the default is zeros.
 #[derive(Clone, Copy, Debug, Default, PartialEq, Eq)]

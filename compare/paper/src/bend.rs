@@ -9,7 +9,7 @@ use std::cell::Cell;
 pub use crate::bend_list::Bend;
 
 /// So many rules may be bent at once.
-const MOST: usize = 6;
+const MOST: usize = 10;
 
 thread_local! {
     static IN_FORCE: Cell<[Option<Bend>; MOST]> = const { Cell::new([None; MOST]) };

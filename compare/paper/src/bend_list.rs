@@ -7,6 +7,8 @@ use crate::bend::bends;
 #[macro_use]
 mod changes;
 #[macro_use]
+mod floor;
+#[macro_use]
 mod forms;
 #[macro_use]
 mod images;
@@ -20,4 +22,4 @@ const PUT_ROWS: &str = "a row stands for exactly the Put lines: restore asks it 
 const SOUND_LOCKS: &str = "every call leaves sound locks and restore refuses others";
 const SOUND_RECORDS: &str = "every call leaves sound records and restore refuses others";
 
-of_forms! { [] of_looks of_changes of_images of_others bends }
+of_forms! { [] of_looks of_changes of_images of_floor of_others bends }

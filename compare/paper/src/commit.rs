@@ -2,6 +2,7 @@
 
 use crate::answer::{BATCH, CONTRADICTION, EMPTY, HISTORY, KEY, Refusal, ZERO, refuse, refuse_held};
 use crate::bend::{Bend, bent};
+use crate::floor::COMMIT;
 use crate::form::{key_batch, key_in_form};
 use crate::row::row_in_form;
 use crate::single::single_key;
@@ -34,6 +35,7 @@ impl Store {
         if bent(Bend::CommitZeroFirst) {
             call.judged()?;
         }
+        self.start_misplaced(call.start, &COMMIT, Bend::CommitFloorFirst)?;
         // "6, 5"
         let Some(keys) = key_batch(batch) else {
             return refuse(BATCH);
@@ -50,8 +52,15 @@ impl Store {
     }
 
     fn commit_keys(&mut self, call: Commit, keys: &[Bytes]) -> Result<(), Refusal> {
+        self.start_misplaced(call.start, &COMMIT, Bend::CommitFloorBeforeZero)?;
         // "3"
         call.judged()?;
+        // "14, below the floor [..] for a start at or below F in any changing call (after the last 3, [..] and before any entry is
+        // judged)"
+        let start = if bent(Bend::CommitFloorByStamp) { call.commit } else { call.start };
+        let committed = |key: &Bytes| self.record_at(key, call.commit).is_some_and(|record| record.start == call.start);
+        let replay = || keys.iter().all(committed);
+        self.start_spared(start, &COMMIT, Bend::CommitFloorSparesReplays, replay)?;
         if bent(Bend::CommitKeysFirst) && !keys.iter().all(|key| key_in_form(key)) {
             return refuse(KEY);
         }
@@ -81,6 +90,7 @@ impl Store {
         if !key_in_form(key) {
             return refuse(KEY);
         }
+        self.start_misplaced(start, &COMMIT, Bend::CommitFloorAfterKeys)?;
         // "records sound, 9"
         self.records_judged(key)?;
         self.commit_first(call, key)?;

@@ -3,12 +3,13 @@
 use crate::answer::{IMAGE, Refusal, SHORT_BUFFER, refuse};
 use crate::bend::{Bend, bent};
 use crate::misconverted;
+use crate::misfloored;
 use crate::restore::Image;
 use crate::row::MOST;
 
-/// The old image with a zero count behind each row, into the lent buffer: the bytes written. Bytes beyond keep what they
-/// held, and so does the whole buffer on a refusal.
-pub fn convert(image: &[u8], buffer: &mut [u8]) -> Result<u64, Refusal> {
+/// The old image with a zero count behind each row and with floor 0, into the lent buffer: the bytes written. Bytes beyond
+/// keep what they held, and so does the whole buffer on a refusal. The store's floor is asked by a bend alone.
+pub fn convert(image: &[u8], buffer: &mut [u8], floor: u64) -> Result<u64, Refusal> {
     if misconverted::short_first(image, buffer.len()) {
         return refuse(SHORT_BUFFER);
     }
@@ -20,7 +21,8 @@ pub fn convert(image: &[u8], buffer: &mut [u8]) -> Result<u64, Refusal> {
     if let Some(number) = misconverted::refused(&old) {
         return refuse(number);
     }
-    let bytes = misconverted::bytes(&old, with_counts(old.clone()));
+    // "CR 4's converter writes floor 0"
+    let bytes = misfloored::converted(&old, misconverted::bytes(&old, with_counts(old.clone())), floor);
     // "then a short buffer 12"
     if misconverted::too_short(image.len(), bytes.len(), buffer.len()) {
         misconverted::leave_short(&bytes, buffer);
@@ -34,10 +36,13 @@ pub fn convert(image: &[u8], buffer: &mut [u8]) -> Result<u64, Refusal> {
     Ok(misconverted::count(image.len(), bytes.len(), buffer.len()))
 }
 
-/// The image, if it has no fault by document 01's own checks, with document 01's own rows.
+/// The image, if it has no fault by document 01's own checks, with document 01's own rows and without a floor.
 pub fn old_image(image: &[u8]) -> Option<Image> {
-    Image::read(image).filter(|image| image.old_store().is_some())
+    misfloored::old_image(image).filter(|image| image.old_store().is_some())
 }
+
+/// The bytes that a conversion needs beside those of the old image and of the counts: the floor's.
+pub const FLOOR: usize = 8;
 
 /// Has the image a row that has no place for one byte more?
 pub fn has_longest_row(image: &Image) -> bool {

@@ -46,6 +46,9 @@ impl Store {
         if !bent(Bend::MarksWithoutDefaults) {
             largest = self.defaults.values().flatten().map(|(start, _)| *start).fold(largest, u64::max);
         }
+        if bent(Bend::MarksWithFloor) {
+            largest = largest.max(self.floor);
+        }
         [transaction, largest]
     }
 }

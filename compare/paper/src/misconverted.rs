@@ -3,7 +3,7 @@
 
 use crate::answer::{Answer, IMAGE, NO_ROOM, SHORT_BUFFER};
 use crate::bend::{Bend, bent};
-use crate::convert::{has_longest_row, old_image, with_counts};
+use crate::convert::{FLOOR, has_longest_row, old_image, with_counts};
 use crate::restore::Image;
 use crate::room::LIVE_BYTES;
 use crate::row::{MOST, bones_of};
@@ -12,7 +12,7 @@ use crate::store::{Bytes, Store};
 
 /// Is a short buffer found before a fault?
 pub fn short_first(image: &[u8], buffer: usize) -> bool {
-    let needed = || Image::read(image).map_or(0, |read| read.defaults.len()) + image.len();
+    let needed = || Image::read_old(image).map_or(0, |read| read.defaults.len()) + image.len() + FLOOR;
     let all_but_longest = || old_image(image).is_some_and(|old| has_longest_row(&old));
     bent(Bend::ConvertShortFirst) && buffer < needed()
         || bent(Bend::ConvertShortBeforeLongestRow) && all_but_longest() && buffer < needed()
@@ -79,7 +79,7 @@ pub fn bytes(old: &Image, mut new: Image) -> Bytes {
     }
     let mut bytes = new.write();
     if bent(Bend::LengthByteKept) {
-        let mut at = 6;
+        let mut at = 6 + FLOOR;
         for (key, _, row) in &new.defaults {
             at += 1 + key.len() + 8;
             bytes[at] = bytes[at].wrapping_sub(1);
@@ -148,7 +148,7 @@ impl Store {
             && answer.number == SHORT_BUFFER
             && let Some(old) = old_image(image)
         {
-            answer.count = (image.len() + old.defaults.len()) as u64;
+            answer.count = (image.len() + FLOOR + old.defaults.len()) as u64;
         }
         if bent(Bend::ConvertRestores) && answer.number == 0 {
             let _ = self.restore(&answer.payload[..answer.count as usize]);

@@ -8,7 +8,7 @@ use crate::store::{Bytes, Kind, Lock, Store};
 use crate::trace::Call;
 
 /// The calls that give 7, by their ops, and the bend in which that of one of them has zeros for time to live and kind.
-const SHORT: [(u8, Bend); 9] = [
+const SHORT: [(u8, Bend); 10] = [
     (1, Bend::HolderShortInRead),
     (2, Bend::HolderShortInPage),
     (6, Bend::HolderShortInPrewrite),
@@ -18,6 +18,7 @@ const SHORT: [(u8, Bend); 9] = [
     (10, Bend::HolderShortInRollback),
     (11, Bend::HolderShortInRollbackBatch),
     (12, Bend::HolderShortInOneStep),
+    (13, Bend::HolderShortInCollect),
 ];
 
 /// The calls that change the store.
@@ -118,9 +119,9 @@ fn of_another(store: &Store, call: &Call, named: Holder) -> Holder {
     holder
 }
 
-/// May the call meet the lock of this key? A page may meet any.
+/// May the call meet the lock of this key? A page and a collection may meet any.
 fn met(call: &Call, key: &Bytes) -> bool {
-    matches!(call, Call::Page { .. }) || keys_of(call).contains(key)
+    matches!(call, Call::Page { .. } | Call::Collect { .. }) || keys_of(call).contains(key)
 }
 
 /// The keys that the call names one by one.

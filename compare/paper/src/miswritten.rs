@@ -43,7 +43,7 @@ fn chosen(store: &Store, mut image: Image) -> Image {
 
 /// The image of every table's entries, under this number.
 fn everything(store: &Store, table: u32) -> Image {
-    let mut all = Image { table, ..Image::default() };
+    let mut all = Image { table, floor: store.floor, ..Image::default() };
     for other in store.tables() {
         let part = store.image_of(other);
         all.defaults.extend(part.defaults);
@@ -100,18 +100,19 @@ fn ordered(store: &Store, mut image: Image) -> Image {
 
 /// The image's bytes, locks before defaults.
 pub fn locks_first(image: &Image) -> Bytes {
-    let [table, defaults, locks, writes] = sections(image);
-    [table, locks, defaults, writes].concat()
+    let [table, floor, defaults, locks, writes] = sections(image);
+    [table, floor, locks, defaults, writes].concat()
 }
 
-/// The table number, and each section with its count. Each is cut out of an image that has no other entries, so that the
-/// counts beside it have 2 bytes each.
-fn sections(image: &Image) -> [Bytes; 4] {
-    let Image { table, defaults, locks, writes } = image.clone();
-    let defaults = Image { table, defaults, ..Image::default() }.write();
+/// The table number, the floor, and each section with its count. Each is cut out of an image that has no other entries, so
+/// that the counts beside it have 2 bytes each.
+fn sections(image: &Image) -> [Bytes; 5] {
+    let Image { table, floor, defaults, locks, writes } = image.clone();
+    let defaults = Image { table, floor, defaults, ..Image::default() }.write();
     let locks = Image { table, locks, ..Image::default() }.write();
     let writes = Image { table, writes, ..Image::default() }.write();
-    [&defaults[..4], &defaults[4..defaults.len() - 4], &locks[6..locks.len() - 2], &writes[8..]].map(<[u8]>::to_vec)
+    let ends = [&defaults[12..defaults.len() - 4], &locks[14..locks.len() - 2], &writes[16..]];
+    [&defaults[..4], &defaults[4..12], ends[0], ends[1], ends[2]].map(<[u8]>::to_vec)
 }
 
 /// What a 12 leaves in the buffer, which is shorter than the image or taken to be.

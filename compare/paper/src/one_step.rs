@@ -4,6 +4,7 @@ use crate::answer::{BATCH, CONTRADICTION, HISTORY, Refusal, refuse, refuse_held}
 use crate::as_rust::no_conflict;
 use crate::bend::{Bend, bent};
 use crate::commit::Commit;
+use crate::floor::ONE_STEP;
 use crate::form::{Entry, mutation_batch};
 use crate::prewrite::contents;
 use crate::store::{Kind, Record, Store};
@@ -11,6 +12,7 @@ use crate::store::{Kind, Record, Store};
 impl Store {
     /// "**One-step batch:** 6; 3; each entry in turn 1, 2; empty, accepted with count 0. .."
     pub fn one_step(&mut self, call: Commit, batch: &[u8]) -> Result<u64, Refusal> {
+        self.start_misplaced(call.start, &ONE_STEP, Bend::OneStepFloorFirst)?;
         // "6"
         let Some(entries) = mutation_batch(batch) else {
             return refuse(BATCH);
@@ -18,8 +20,18 @@ impl Store {
         if bent(Bend::OneStepEmptyFirst) && entries.is_empty() {
             return Ok(0);
         }
+        self.start_misplaced(call.start, &ONE_STEP, Bend::OneStepFloorBeforeZero)?;
         // "3"
         call.judged()?;
+        // "14, below the floor [..] for a start at or below F in any changing call (after the last 3, [..] and before any entry is
+        // judged)": of an empty batch too
+        let start = if bent(Bend::OneStepFloorByStamp) { call.commit } else { call.start };
+        let applied = |entry: &Entry| self.record_at(&entry.key, call.commit).is_some_and(|at| at.start == call.start);
+        let replay = || !entries.is_empty() && entries.iter().all(applied);
+        self.start_spared(start, &ONE_STEP, Bend::OneStepFloorSparesReplays, replay)?;
+        if !entries.is_empty() {
+            self.start_misplaced(start, &ONE_STEP, Bend::OneStepEmptyBelowFloorTaken)?;
+        }
         // "each entry in turn 1, 2"
         if !bent(Bend::OneStepContentsLater) {
             entries.iter().try_for_each(|entry| {
@@ -27,6 +39,7 @@ impl Store {
                 self.default_first(call.start, entry)
             })?;
         }
+        self.start_misplaced(call.start, &ONE_STEP, Bend::OneStepFloorAfterContents)?;
         // "empty, accepted with count 0."
         let count = entries.len() as u64;
         if entries.is_empty() {

@@ -3,8 +3,9 @@
 use std::collections::BTreeSet;
 use std::ops::Bound::{self, Excluded, Included, Unbounded};
 
-use crate::answer::{BOUNDS, BYTE_LIMIT, CONTRADICTION, KEY, LOCKED, Refusal, SHORT_BUFFER, ZERO, refuse};
-use crate::bend::{Bend, bent};
+use crate::answer::{BELOW_FLOOR, BOUNDS, BYTE_LIMIT, CONTRADICTION, KEY, LOCKED, Refusal, SHORT_BUFFER, ZERO, refuse};
+use crate::bend::{Bend, any_bent, bent};
+use crate::floor::PageFloor;
 use crate::form::key_in_form;
 use crate::store::{Bytes, Lock, Store};
 
@@ -103,8 +104,8 @@ impl Page {
 }
 
 impl Bounds {
-    /// "start 1; end 1; 4; resume 1; resume at or past end, empty page without more." No span says the empty page.
-    fn judged(&self) -> Result<Option<Span<'_>>, Refusal> {
+    /// "start 1; end 1; 4; resume 1".
+    fn judged(&self, floor: PageFloor) -> Result<(), Refusal> {
         let in_form = |bound: &Option<Bytes>| bound.as_deref().is_none_or(key_in_form);
         let crossed = match (&self.start, &self.end) {
             (Some(start), Some(end)) => start > end || start == end && !bent(Bend::BoundsMayBeEqual),
@@ -120,15 +121,21 @@ impl Bounds {
         if bent(Bend::ResumeBeforeOrder) && !in_form(&self.resume) {
             return refuse(KEY);
         }
+        floor.misplaced(Bend::PageFloorBeforeOrder)?;
         // "4"
         if crossed {
             return refuse(BOUNDS);
         }
+        floor.misplaced(Bend::PageFloorBeforeResume)?;
         // "resume 1"
         if !in_form(&self.resume) && !bent(Bend::ResumeUnjudged) {
             return refuse(KEY);
         }
-        // "resume at or past end, empty page without more."
+        Ok(())
+    }
+
+    /// "resume at or past end, empty page without more." No span says the empty page.
+    fn span(&self) -> Result<Option<Span<'_>>, Refusal> {
         if let (Some(resume), Some(end)) = (&self.resume, &self.end)
             && resume >= end
         {
@@ -177,7 +184,8 @@ fn after(resume: &[u8]) -> Bound<&[u8]> {
 }
 
 impl Store {
-    /// "**Page:** .. 3; start 1; end 1; 4; resume 1; .. Each key is read first .. Last, 12."
+    /// "**Page:** .. 3; start 1; end 1; 4; resume 1; .. Each key is read first .. Last, 12." "14, below the floor, for a read or
+    /// row page moment below F ([..] in a page after the resume key's 1".
     pub fn page(
         &self,
         moment: u64,
@@ -186,7 +194,15 @@ impl Store {
         bounds: &Bounds,
         buffer: &mut [u8],
     ) -> Result<u64, Refusal> {
-        let span = limits_and_bounds(row_limit, Some(byte_limit), bounds)?;
+        let floor = PageFloor::of(self, moment);
+        floor.misplaced(Bend::PageFloorFirst)?;
+        limits_and_bounds(row_limit, Some(byte_limit), bounds, floor)?;
+        // "14, below the floor": before a resume at or past end is looked at
+        floor.judged()?;
+        let span = bounds.span()?;
+        if !(span.is_none() && bent(Bend::PageFloorAfterPastEnd)) {
+            floor.misplaced(Bend::PageFloorAfterPastEnd)?;
+        }
         if bent(Bend::ShortBufferFirst) && buffer.len() < 3 {
             return refuse(SHORT_BUFFER);
         }
@@ -197,6 +213,7 @@ impl Store {
                 page.more = true;
                 break;
             }
+            floor.misplaced(Bend::PageFloorOfKeysAlone)?;
             // "Each key is read first, and its refusal refuses the page even if the page is already full."
             let looked = self.read_key(moment, key);
             page.examined += looked.examined;
@@ -232,6 +249,10 @@ impl Store {
                 break;
             }
         }
+        floor.misplaced(Bend::PageFloorAfterWalk)?;
+        if any_bent() {
+            return floor.after_writing(buffer, |buffer| page.written(buffer));
+        }
         page.written(buffer)
     }
 
@@ -248,7 +269,8 @@ impl Store {
     /// "**Intent page:** Page's argument checks without byte limit; keys of locks only, none read; per lock the lock
     /// limit, then sound (9)." "Both: last, 12."
     pub fn intent_page(&self, lock_limit: u64, bounds: &Bounds, buffer: &mut [u8]) -> Result<u64, Refusal> {
-        let span = limits_and_bounds(lock_limit, None, bounds)?;
+        limits_and_bounds(lock_limit, None, bounds, PageFloor::NONE)?;
+        let span = bounds.span()?;
         let mut page = Page { past_end: span.is_none(), ..Page::default() };
         for (key, lock) in span.into_iter().flat_map(|span| self.locks.range::<[u8], _>(span)) {
             // "per lock the lock limit"
@@ -279,7 +301,11 @@ impl Store {
         bounds: &Bounds,
         buffer: &mut [u8],
     ) -> Result<u64, Refusal> {
-        let span = limits_and_bounds(lock_limit, Some(byte_limit), bounds)?;
+        limits_and_bounds(lock_limit, Some(byte_limit), bounds, PageFloor::NONE)?;
+        if bent(Bend::ConflictingFloorJudged) && moment < self.floor {
+            return refuse(BELOW_FLOOR);
+        }
+        let span = bounds.span()?;
         let mut page = Page { past_end: span.is_none(), ..Page::default() };
         let mut visited = false;
         for (key, lock) in span.into_iter().flat_map(|span| self.locks.range::<[u8], _>(span)) {
@@ -319,9 +345,9 @@ impl Store {
 }
 
 /// "3; start 1; end 1; 4; resume 1": the limits, then the bounds.
-fn limits_and_bounds(limit: u64, byte_limit: Option<u64>, bounds: &Bounds) -> Result<Option<Span<'_>>, Refusal> {
+fn limits_and_bounds(limit: u64, byte_limit: Option<u64>, bounds: &Bounds, floor: PageFloor) -> Result<(), Refusal> {
     if bent(Bend::LimitsAfterBounds) {
-        bounds.judged()?;
+        bounds.judged(floor)?;
     }
     if limit == 0 && !bent(Bend::LimitZeroTaken) {
         return refuse(ZERO);
@@ -329,5 +355,6 @@ fn limits_and_bounds(limit: u64, byte_limit: Option<u64>, bounds: &Bounds) -> Re
     if byte_limit == Some(0) && !bent(Bend::ByteLimitZeroTaken) {
         return refuse(ZERO);
     }
-    bounds.judged()
+    floor.misplaced(Bend::PageFloorBeforeBounds)?;
+    bounds.judged(floor)
 }

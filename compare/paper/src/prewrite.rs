@@ -3,6 +3,7 @@
 use crate::answer::{BATCH, CONTRADICTION, EMPTY, HISTORY, KEY, NO_ROOM, ROW, Refusal, ZERO, refuse, refuse_held};
 use crate::as_rust::no_conflict;
 use crate::bend::{Bend, bent};
+use crate::floor::PREWRITE;
 use crate::form::{Entry, key_in_form, mutation_batch, table_of};
 use crate::row::row_in_form;
 use crate::single::{single_key, single_row};
@@ -19,6 +20,7 @@ pub struct Prewrite<'a> {
 impl Store {
     /// "**Prewrite:** batch 6, 5; .."
     pub fn prewrite_batch(&mut self, call: &Prewrite, batch: &[u8]) -> Result<(), Refusal> {
+        self.start_misplaced(call.start, &PREWRITE, Bend::PrewriteFloorFirst)?;
         // "batch 6, 5"
         let Some(entries) = mutation_batch(batch) else {
             return refuse(BATCH);
@@ -37,6 +39,7 @@ impl Store {
     }
 
     fn prewrite_entries(&mut self, call: &Prewrite, entries: &[Entry]) -> Result<(), Refusal> {
+        self.start_misplaced(call.start, &PREWRITE, Bend::PrewriteFloorBeforeZero)?;
         // "transaction, start 3"
         if call.transaction == 0 && !bent(Bend::PrewriteTransactionZero) || call.start == 0 {
             return refuse(ZERO);
@@ -44,14 +47,21 @@ impl Store {
         if bent(Bend::TimeToLiveBeforePrimary) && call.time_to_live == 0 {
             return refuse(ZERO);
         }
+        self.start_misplaced(call.start, &PREWRITE, Bend::PrewriteFloorBeforePrimary)?;
         // "primary 1"
         if !key_in_form(call.primary) && !bent(Bend::PrimaryUnjudged) {
             return refuse(KEY);
         }
+        self.start_misplaced(call.start, &PREWRITE, Bend::PrewriteFloorBeforeTimeToLive)?;
         // "time to live 3"
         if call.time_to_live == 0 && !bent(Bend::TimeToLiveZeroTaken) {
             return refuse(ZERO);
         }
+        // "14, below the floor [..] for a start at or below F in any changing call ([..] in a prewrite after the time to live, and
+        // before any entry is judged)"
+        let own = |entry: &Entry| self.lock_of(&entry.key).is_some_and(|lock| lock.own(call.transaction, call.start));
+        let replay = || entries.iter().all(own);
+        self.start_spared(call.start, &PREWRITE, Bend::PrewriteFloorSparesReplays, replay)?;
         if bent(Bend::PrimaryMustBeAnEntry) && !entries.iter().any(|entry| entry.key == call.primary) {
             return refuse(KEY);
         }
@@ -80,6 +90,12 @@ impl Store {
 
     /// The steps of one entry: true says that it is not yet locked.
     fn prewrite_judged(&self, call: &Prewrite, entry: &Entry) -> Result<bool, Refusal> {
+        let new = self.prewrite_entry(call, entry)?;
+        self.start_misplaced(call.start, &PREWRITE, Bend::PrewriteFloorAfterEntry)?;
+        Ok(new)
+    }
+
+    fn prewrite_entry(&self, call: &Prewrite, entry: &Entry) -> Result<bool, Refusal> {
         let key = &entry.key;
         // "1, 2"
         if bent(Bend::RowAfterHistory) {
@@ -89,6 +105,7 @@ impl Store {
             self.prewrite_history(call, key)?;
         }
         contents(entry)?;
+        self.start_misplaced(call.start, &PREWRITE, Bend::PrewriteFloorAfterContents)?;
         self.default_first(call.start, entry)?;
         if bent(Bend::PrewritePrimaryOfTable) && table_of(call.primary) != table_of(key) {
             return refuse(KEY);

@@ -1,7 +1,8 @@
 //! **Read**, with the count of change request 6, and "One intent at a point".
 
-use crate::answer::{CONTRADICTION, KEY, Refusal, ZERO, refuse, refuse_held};
+use crate::answer::{BELOW_FLOOR, CONTRADICTION, KEY, Refusal, ZERO, refuse, refuse_held};
 use crate::bend::{Bend, any_bent, bent};
+use crate::floor::READ;
 use crate::form::key_in_form;
 use crate::row::row_in_form;
 use crate::store::{Bytes, Kind, Lock, Record, Store};
@@ -15,8 +16,15 @@ pub struct Looked<'a> {
 type Shown<'a> = Result<Option<&'a Bytes>, Refusal>;
 
 impl Store {
-    /// "**Read:** 1; lock with start at or below the moment, 7; then records .."
+    /// "**Read:** 1; lock with start at or below the moment, 7; then records .." "14, below the floor, for a read or row page
+    /// moment below F (in a read after 1".
     pub fn read(&self, moment: u64, key: &[u8]) -> Looked<'_> {
+        let below = self.moment_at_floor(moment, READ);
+        if bent(Bend::ReadFloorFirst)
+            && let Err(refusal) = below
+        {
+            return unexamined(Err(refusal));
+        }
         // "1"
         if !key_in_form(key) && !bent(Bend::ReadKeyUnjudged) {
             return unexamined(refuse(KEY));
@@ -24,8 +32,22 @@ impl Store {
         if bent(Bend::ReadMomentZeroRefused) && moment == 0 {
             return unexamined(refuse(ZERO));
         }
+        // "14, below the floor"
+        if let Err(refusal) = below
+            && !self.floor_misread(moment, key)
+        {
+            let by = self.records_by(moment, key).len() as u64;
+            return Looked { shown: Err(refusal), examined: by * u64::from(bent(Bend::ReadFloorCounts)) };
+        }
         let looked = self.read_key(moment, key);
         if any_bent() { self.miscounted(moment, key, looked) } else { looked }
+    }
+
+    /// Is a read below the floor let through, or refused for something else?
+    fn floor_misread(&self, moment: u64, key: &[u8]) -> bool {
+        bent(Bend::ReadFloorOfRecordsAlone) && !self.records.contains_key(key)
+            || bent(Bend::ReadFloorAfterLock) && self.lock_by(moment, key).is_err()
+            || bent(Bend::ReadFloorAfterHistory) && !matches!(self.read_key(moment, key).shown, Ok(None))
     }
 
     /// The read's steps after its key was judged, as a page takes them for each key.
@@ -104,6 +126,9 @@ impl Store {
         // "1"
         if !key_in_form(key) {
             return refuse(KEY);
+        }
+        if bent(Bend::OneIntentFloorJudged) && moment < self.floor {
+            return refuse(BELOW_FLOOR);
         }
         // "no lock or one above the moment, nothing"
         let Some(lock) = self.lock_of(key) else {

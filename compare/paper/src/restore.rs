@@ -4,6 +4,7 @@ use crate::answer::{IMAGE, NO_ROOM, Refusal, refuse};
 use crate::bend::{Bend, bent};
 use crate::convert::{old_image, with_counts};
 use crate::form::{Reader, key_in_form, table_of};
+use crate::misfloored;
 use crate::misread;
 use crate::room::{DEFAULTS, LINES, LOCKS};
 use crate::row::{old_row_in_form, row_in_form};
@@ -13,6 +14,7 @@ use crate::store::{Bytes, Kind, Lock, Record, Store};
 #[derive(Clone, Debug, Default, PartialEq, Eq)]
 pub struct Image {
     pub table: u32,
+    pub floor: u64,
     pub defaults: Vec<(Bytes, u64, Bytes)>,
     pub locks: Vec<(Bytes, RawLock)>,
     pub writes: Vec<(Bytes, u64, RawRecord)>,
@@ -39,10 +41,22 @@ pub struct RawRecord {
 impl Image {
     /// "Image: 4-byte table number; 2-byte count of defaults (key length, key, 8-byte start, row length, row); 2-byte
     /// count of locks (key length, key, lock); 2-byte count of writes (key length, key, 8-byte write stamp, start,
-    /// commit, kind byte)." Start and commit have 8 bytes.
+    /// commit, kind byte)." Start and commit have 8 bytes. The floor "stands in the image, 8 bytes, after the table number".
     pub fn read(bytes: &[u8]) -> Option<Image> {
         let mut reader = Reader::new(bytes);
-        let mut image = Image { table: reader.four()?, ..Image::default() };
+        let (table, floor) = (reader.four()?, reader.eight()?);
+        Image { table, floor, ..Image::default() }.sections(reader)
+    }
+
+    /// An image of document 01's own form, which has no floor.
+    pub fn read_old(bytes: &[u8]) -> Option<Image> {
+        let mut reader = Reader::new(bytes);
+        Image { table: reader.four()?, ..Image::default() }.sections(reader)
+    }
+
+    /// The three sections, after which nothing may follow.
+    fn sections(self, mut reader: Reader) -> Option<Image> {
+        let mut image = self;
         for _ in 0..reader.two()? {
             image.defaults.push((reader.short()?, reader.eight()?, reader.short()?));
         }
@@ -66,7 +80,16 @@ impl Image {
 
     /// The image's bytes, whatever it holds; a key, primary or row of more than 255 bytes has no form.
     pub fn write(&self) -> Bytes {
-        let mut out = self.table.to_be_bytes().to_vec();
+        [&self.table.to_be_bytes()[..], &self.floor.to_be_bytes(), &self.written_sections()].concat()
+    }
+
+    /// The same in document 01's own form, without the floor.
+    pub fn write_old(&self) -> Bytes {
+        [&self.table.to_be_bytes()[..], &self.written_sections()].concat()
+    }
+
+    fn written_sections(&self) -> Bytes {
+        let mut out = Bytes::new();
         let short = |out: &mut Bytes, bytes: &[u8]| {
             out.push(bytes.len() as u8);
             out.extend_from_slice(bytes);
@@ -121,7 +144,8 @@ impl Image {
     /// "then each entry, in any order": entries need not be sorted, and since every fault is 13 the order of the
     /// checks can't be seen.
     fn judged(&self, row_decodes: fn(&[u8]) -> bool) -> Option<Store> {
-        let mut store = Store::default();
+        // "a restored store taking the image's" floor
+        let mut store = Store { floor: self.floor, ..Store::default() };
         // "table number not zero"
         fine(self.table != 0 || bent(Bend::ImageTableZero))?;
         // "key of this table"
@@ -188,15 +212,19 @@ impl Store {
     /// "**Restore** (replaces the whole store): form, table number not zero, then each entry [..] Any fault 13, then
     /// 11." A refusal leaves the former store.
     pub fn restore(&mut self, image: &[u8]) -> Result<(), Refusal> {
-        let next = match restored(image) {
+        let next = match restored(self, image) {
             Ok(next) => next,
             Err(refusal) => {
+                if bent(Bend::RefusedImageSetsFloor) {
+                    self.floor = Image::read(image).map_or(self.floor, |image| image.floor);
+                }
                 if bent(Bend::RefusedImageEmpties) {
                     *self = Store::default();
                 }
                 return Err(refusal);
             }
         };
+        let floor = misfloored::restored(self.floor, next.floor);
         if bent(Bend::ImageAddsToStore) {
             self.locks.extend(next.locks);
             self.defaults.extend(next.defaults);
@@ -204,13 +232,21 @@ impl Store {
         } else {
             *self = next;
         }
+        self.floor = floor;
+        if bent(Bend::ImageCollected) {
+            self.collect(floor)?;
+        }
         Ok(())
     }
 }
 
-/// The store that an image brings: document 01's checks, then those of sick images, then the room.
-fn restored(image: &[u8]) -> Result<Store, Refusal> {
+/// The store that an image brings: document 01's checks, then those of sick images, then its locks against its floor, then
+/// the room.
+fn restored(former: &Store, image: &[u8]) -> Result<Store, Refusal> {
     let mut read = Image::read(image);
+    if bent(Bend::ImageWithoutFloorTaken) {
+        read = read.or_else(|| Image::read_old(image));
+    }
     if bent(Bend::RestoreConverts)
         && let Some(old) = old_image(image)
     {
@@ -226,6 +262,13 @@ fn restored(image: &[u8]) -> Result<Store, Refusal> {
     // "all are 13, after 01's image checks and before 11"
     if next.sick() {
         return refuse(if beyond && bent(Bend::SickRoomFirst) { NO_ROOM } else { IMAGE });
+    }
+    // "an image with such a lock is 13": one at or below its own floor
+    if let Some(number) = misfloored::refused(former, &next) {
+        return refuse(number);
+    }
+    if next.has_lock_by(next.floor) {
+        return refuse(misfloored::number(beyond));
     }
     if beyond {
         return refuse(if bent(Bend::ImageWithoutRoom13) { IMAGE } else { NO_ROOM });

@@ -2,6 +2,7 @@
 
 use crate::answer::{BATCH, CONTRADICTION, EMPTY, HISTORY, KEY, Refusal, ZERO, refuse, refuse_held};
 use crate::bend::{Bend, bent};
+use crate::floor::ROLLBACK;
 use crate::form::{key_batch, key_in_form};
 use crate::row::row_in_form;
 use crate::single::single_key;
@@ -10,6 +11,7 @@ use crate::store::{Bytes, Kind, Record, Store};
 impl Store {
     /// "**Rollback:** 6, 5; 3; per key: .."
     pub fn rollback_batch(&mut self, transaction: u64, start: u64, batch: &[u8]) -> Result<(), Refusal> {
+        self.start_misplaced(start, &ROLLBACK, Bend::RollbackFloorFirst)?;
         // "6, 5"
         let Some(keys) = key_batch(batch) else {
             return refuse(BATCH);
@@ -26,10 +28,16 @@ impl Store {
     }
 
     fn rollback_keys(&mut self, transaction: u64, start: u64, keys: &[Bytes]) -> Result<(), Refusal> {
+        self.start_misplaced(start, &ROLLBACK, Bend::RollbackFloorBeforeZero)?;
         // "3"
         if transaction == 0 && !bent(Bend::RollbackTransactionZero) || start == 0 {
             return refuse(ZERO);
         }
+        // "14, below the floor [..] for a start at or below F in any changing call (after the last 3, [..] and before any entry is
+        // judged)"
+        let undone = |key: &Bytes| self.record_at(key, start).is_some_and(|record| record.start == start);
+        let replay = || keys.iter().all(undone);
+        self.start_spared(start, &ROLLBACK, Bend::RollbackFloorSparesReplays, replay)?;
         // "per key"
         let mut next = self.clone();
         for key in keys {
@@ -54,6 +62,7 @@ impl Store {
         if !key_in_form(key) {
             return refuse(KEY);
         }
+        self.start_misplaced(start, &ROLLBACK, Bend::RollbackFloorAfterKeys)?;
         let lock = self.lock_of(key);
         if bent(Bend::RollbackLockFirst)
             && let Some(lock) = lock.filter(|lock| !lock.own(transaction, start))

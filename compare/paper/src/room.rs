@@ -23,7 +23,10 @@ impl Store {
     /// "Live bytes: for a default, key plus row; a lock, key plus primary; a record, key." The key counts once for
     /// each of them.
     pub fn room_used(&self) -> Use {
-        let mut used = Use { locks: self.locks.len(), lines: self.locks.len(), ..Use::default() };
+        let mut used = self.unfreed;
+        used.locks += self.locks.len();
+        used.lines += self.locks.len();
+        used.live_bytes += 8 * usize::from(self.floor > 0 && bent(Bend::FloorTakesRoom));
         for (key, lock) in &self.locks {
             used.live_bytes += key.len() + if bent(Bend::PrimaryTakesNoRoom) { 0 } else { lock.primary.len() };
             used.lines += usize::from(bent(Bend::LockKeepsASecondLine));

@@ -78,6 +78,11 @@ fn answer_of(store: &mut Store, call: &Call) -> Answer {
             let call = Commit { transaction: *transaction, start: *start, commit: *commit };
             counted(store.one_step(call, batch))
         }
+        // No count, although it may drop lines.
+        Call::Collect { floor } => {
+            let dropped = if bent(Bend::CollectCounts) { store.dropped_by(*floor) } else { 0 };
+            counted(store.collect(*floor).map(|()| dropped))
+        }
         Call::Bone { number, row } => {
             // "one byte, 1 if shown, else 0; 0 on a refusal"
             asked(bone_shown(*number, row).map(u8::from))
@@ -92,7 +97,7 @@ fn answer_of(store: &mut Store, call: &Call) -> Answer {
             if any_bent() { store.after_writing(*table, answer) } else { answer }
         }
         Call::Convert { buffer, image } => {
-            let answer = lent(*buffer, |buffer| convert(image, buffer));
+            let answer = lent(*buffer, |buffer| convert(image, buffer, store.floor));
             if any_bent() { store.after_converting(image, answer) } else { answer }
         }
     }

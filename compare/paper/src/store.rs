@@ -5,6 +5,7 @@ use std::collections::BTreeMap;
 use crate::answer::{CONTRADICTION, Refusal, refuse};
 use crate::bend::{Bend, bent};
 use crate::form::key_in_form;
+use crate::room::Use;
 
 pub type Bytes = Vec<u8>;
 
@@ -115,6 +116,10 @@ pub struct Store {
     pub defaults: BTreeMap<Bytes, BTreeMap<u64, Bytes>>,
     pub locks: BTreeMap<Bytes, Lock>,
     pub records: BTreeMap<Bytes, BTreeMap<u64, Record>>,
+    /// "The floor is part of the store, begins at 0".
+    pub floor: u64,
+    /// Room that collections have freed and that is taken still; by a bend alone.
+    pub unfreed: Use,
 }
 
 impl Store {

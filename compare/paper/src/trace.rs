@@ -26,6 +26,7 @@ pub enum Call {
     Rollback { transaction: u64, start: u64, key: Bytes },
     RollbackBatch { transaction: u64, start: u64, batch: Bytes },
     OneStep { transaction: u64, start: u64, commit: u64, batch: Bytes },
+    Collect { floor: u64 },
     Bone { number: u64, row: Bytes },
     Bones { row: Bytes },
     Restore { image: Bytes },
@@ -50,6 +51,7 @@ impl Call {
             Call::Rollback { .. } => 10,
             Call::RollbackBatch { .. } => 11,
             Call::OneStep { .. } => 12,
+            Call::Collect { .. } => 13,
             Call::Bone { .. } => 17,
             Call::Bones { .. } => 18,
             Call::Restore { .. } => 32,
@@ -112,6 +114,7 @@ impl Call {
                 commit: r.eight()?,
                 batch: r.rest().to_vec(),
             },
+            13 => Call::Collect { floor: r.eight()? },
             17 => Call::Bone { number: r.eight()?, row: r.long()? },
             18 => Call::Bones { row: r.long()? },
             32 => Call::Restore { image: r.rest().to_vec() },
@@ -172,6 +175,7 @@ impl Call {
                 numbers(&mut out, &[*transaction, *start]);
                 out.extend_from_slice(batch);
             }
+            Call::Collect { floor } => numbers(&mut out, &[*floor]),
             Call::Bone { number, row } => {
                 numbers(&mut out, &[*number]);
                 long(&mut out, row);

@@ -5,20 +5,25 @@ use std::collections::BTreeSet;
 use crate::answer::{Refusal, SHORT_BUFFER, ZERO, refuse};
 use crate::bend::{Bend, any_bent, bent};
 use crate::form::table_of;
+use crate::misfloored;
 use crate::miswritten;
 use crate::restore::{Image, RawLock, RawRecord};
 use crate::store::{Lock, Record, Store};
 
-/// An image without entries: the table number and three counts.
-pub const WITHOUT_ENTRIES: usize = 10;
+/// An image without entries: the table number, the floor and three counts.
+pub const WITHOUT_ENTRIES: usize = 18;
 
 impl Store {
     /// The image of a table, into the lent buffer. "A writing call also gives the bytes written"; bytes beyond the image keep
     /// what they held, and so does the whole buffer on a refusal.
     pub fn write_image(&self, table: u32, buffer: &mut [u8]) -> Result<u64, Refusal> {
         let image = self.image_of(table);
-        let image = if any_bent() { miswritten::seen(self, image) } else { image };
-        let bytes = if bent(Bend::LocksBeforeDefaults) { miswritten::locks_first(&image) } else { image.write() };
+        let image = if any_bent() { self.floor_miswritten(miswritten::seen(self, image)) } else { image };
+        let bytes = match () {
+            () if bent(Bend::LocksBeforeDefaults) => miswritten::locks_first(&image),
+            () if any_bent() => misfloored::written(&image),
+            () => image.write(),
+        };
         let short = too_short(buffer.len(), bytes.len());
         // "Refusals: a zero table number 3,"
         if table == 0 && !bent(Bend::TableZeroWritten) && !(short && bent(Bend::ShortBeforeTableZero)) {
@@ -43,7 +48,8 @@ impl Store {
     }
 
     /// "that table's image: defaults, locks, writes, each ascending by key, then stamp". An entry is of the table of its key,
-    /// whatever a lock's primary is; the stamp of a default is its start. The maps ascend by key, each chain by stamp.
+    /// whatever a lock's primary is; the stamp of a default is its start. The maps ascend by key, each chain by stamp. The floor
+    /// "stands in the image", of any table the store's.
     pub fn image_of(&self, table: u32) -> Image {
         let of_table = |key: &[u8]| table_of(key) == table;
         let defaults = self.defaults.iter().filter(|(key, _)| of_table(key));
@@ -51,6 +57,7 @@ impl Store {
         let writes = self.records.iter().filter(|(key, _)| of_table(key));
         Image {
             table,
+            floor: self.floor,
             defaults: defaults
                 .flat_map(|(key, chain)| chain.iter().map(move |(start, row)| (key.clone(), *start, row.clone())))
                 .collect(),

@@ -1,9 +1,11 @@
-//! The converter of change request 4: which images it takes, what it writes, its refusals, and its buffer.
+//! The converter of change request 4: which images it takes, what it writes, its refusals, and its buffer. Old images have no
+//! floor; what it writes has floor 0 (change request 7).
 
 mod common;
 
 use common::*;
 use paper::answer::{IMAGE, NO_ROOM, SHORT_BUFFER};
+use paper::convert::FLOOR;
 use paper::restore::{Image, RawLock, RawRecord};
 use paper::room::LIVE_BYTES;
 use paper::run::{BEFORE, run_call};
@@ -34,6 +36,7 @@ fn image(rows: [usize; 2]) -> Image {
         defaults: vec![(b(), 5, old_row(rows[0])), (a(), 6, old_row(rows[1]))],
         locks: vec![(b(), lock(9)), (a(), lock(8))],
         writes: vec![put(a(), 6, 7), put(b(), 5, 6)],
+        ..Image::default()
     }
 }
 
@@ -52,9 +55,10 @@ fn each_row_gets_a_zero_count() {
     let old = image([2, 40]);
     let mut new = old.clone();
     new.defaults.iter_mut().for_each(|(_, _, row)| row.push(0));
-    let bytes = old.write();
-    assert_eq!(converted(&bytes, bytes.len() + 2), Ok(new.write()));
-    assert_eq!(converted(&bytes, bytes.len() + 9), Ok(new.write()));
+    let bytes = old.write_old();
+    assert_eq!(converted(&bytes, bytes.len() + FLOOR + 2), Ok(new.write()));
+    assert_eq!(converted(&bytes, bytes.len() + FLOOR + 9), Ok(new.write()));
+    assert_eq!(new.write()[..13], [0, 0, 0, 1, 0, 0, 0, 0, 0, 0, 0, 0, 0]);
     assert_eq!(numbers(&[restore(&old), restore(&new), read(a(), 7)]), [IMAGE, 0, 0]);
     assert_eq!(shown(&last(&[restore(&new), read(b(), 6)])), Some(ROW.to_vec()));
     // Once more: its rows are not document 01's.
@@ -64,8 +68,8 @@ fn each_row_gets_a_zero_count() {
 /// "then a short buffer 12".
 #[test]
 fn buffers() {
-    let bytes = image([2, 2]).write();
-    for short in [0, 1, 4, bytes.len(), bytes.len() + 1] {
+    let bytes = image([2, 2]).write_old();
+    for short in [0, 1, 4, bytes.len(), bytes.len() + FLOOR + 1] {
         assert_eq!(converted(&bytes, short), Err(SHORT_BUFFER), "a buffer of {short}");
     }
     for fault in [&bytes[1..], &bytes[..bytes.len() - 1], &[&bytes[..], &[0]].concat(), &[]] {
@@ -79,10 +83,10 @@ fn buffers() {
 #[test]
 fn long_rows() {
     for rows in [[255, 2], [2, 255], [254, 255]] {
-        let bytes = image(rows).write();
+        let bytes = image(rows).write_old();
         assert_eq!([0, 999].map(|buffer| converted(&bytes, buffer)), [Err(IMAGE), Err(IMAGE)]);
     }
-    let longest = converted(&image([253, 254]).write(), 999).expect("254 bytes have place for one more");
+    let longest = converted(&image([253, 254]).write_old(), 999).expect("254 bytes have place for one more");
     let lengths: Vec<usize> = Image::read(&longest).expect("in form").defaults.iter().map(|d| d.2.len()).collect();
     assert_eq!(lengths, [254, 255]);
     assert_eq!(last(&[Call::Restore { image: longest }]).number, 0);
@@ -100,7 +104,7 @@ fn sick_images_are_converted() {
         lines(vec![delete(3, 4), delete(3, 7)]),
     ];
     for old in sick {
-        let new = converted(&old.write(), 99).expect("it has no fault by document 01's checks");
+        let new = converted(&old.write_old(), 99).expect("it has no fault by document 01's checks");
         assert_eq!(last(&[Call::Restore { image: new }]).number, IMAGE);
     }
     let faults = [
@@ -113,17 +117,19 @@ fn sick_images_are_converted() {
         lines(vec![delete(4, 4)]),
     ];
     for old in faults {
-        assert_eq!(converted(&old.write(), 99), Err(IMAGE), "{old:?}");
+        assert_eq!(converted(&old.write_old(), 99), Err(IMAGE), "{old:?}");
     }
 }
 
-/// An image without defaults is given back as it is.
+/// An image without defaults gets its floor alone. Then it is no old image any more: the floor's zero bytes read as counts, and
+/// bytes are left over.
 #[test]
 fn without_defaults() {
     for old in [Image { table: 9, ..Image::default() }, image_of_lines(3, 2)] {
-        let bytes = old.write();
-        assert_eq!(converted(&bytes, bytes.len()), Ok(bytes.clone()));
-        assert_eq!(converted(&bytes, bytes.len() - 1), Err(SHORT_BUFFER));
+        let bytes = old.write_old();
+        assert_eq!(converted(&bytes, bytes.len() + FLOOR), Ok(old.write()));
+        assert_eq!(converted(&bytes, bytes.len() + FLOOR - 1), Err(SHORT_BUFFER));
+        assert_eq!(converted(&old.write(), 999), Err(IMAGE));
     }
 }
 
@@ -142,12 +148,12 @@ fn the_room_is_not_judged() {
             break;
         }
     }
-    let bytes = full.write();
-    let new = converted(&bytes, bytes.len() + full.defaults.len()).expect("it is not judged by the room");
+    let bytes = full.write_old();
+    let new = converted(&bytes, bytes.len() + FLOOR + full.defaults.len()).expect("it is not judged by the room");
     assert_eq!(last(&[Call::Restore { image: new }]).number, NO_ROOM);
-    let beyond = image_of_lines(2000, 300).write();
-    assert_eq!(converted(&beyond, beyond.len()), Ok(beyond.clone()));
-    assert_eq!(last(&[Call::Restore { image: beyond }]).number, NO_ROOM);
+    let beyond = image_of_lines(2000, 300);
+    assert_eq!(converted(&beyond.write_old(), beyond.write().len()), Ok(beyond.write()));
+    assert_eq!(last(&[restore(&beyond)]).number, NO_ROOM);
 }
 
 /// The store of the trace is not touched.
@@ -157,7 +163,7 @@ fn the_store_stays() {
     run_call(&mut store, &prewrite(a(), 10));
     let before = store.clone();
     for buffer in [0, 999, LONG_BUFFER as usize] {
-        run_call(&mut store, &convert(image([2, 2]).write(), buffer));
+        run_call(&mut store, &convert(image([2, 2]).write_old(), buffer));
     }
     assert_eq!(store, before);
 }

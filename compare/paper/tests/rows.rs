@@ -124,7 +124,7 @@ fn an_old_row_is_2_as_an_argument_and_13_in_an_image() {
             assert_eq!(last(&[call]).number, if taken { 0 } else { NO_ROW }, "{row:?}");
         }
         let writes = vec![(a(), 12, RawRecord { start: 10, commit: 12, kind: 1 })];
-        let image = Image { table: 1, defaults: vec![(a(), 10, row.to_vec())], locks: vec![], writes };
+        let image = Image { table: 1, defaults: vec![(a(), 10, row.to_vec())], writes, ..Image::default() };
         let read = last(&[restore(&image), read(a(), 12)]);
         assert_eq!(last(&[restore(&image)]).number, if taken { 0 } else { IMAGE }, "{row:?}");
         assert_eq!(shown(&read), taken.then(|| row.to_vec()));

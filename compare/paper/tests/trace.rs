@@ -66,6 +66,7 @@ fn every_call_reads_back() {
         restore(&image_of_lines(3, 2)),
         Call::Statistics,
         Call::Marks,
+        Call::Collect { floor: 0x0102_0304_0506_0708 },
         Call::WriteImage { table: 0x0102_0304, buffer: 0x0001_0203 },
     ];
     assert_eq!(read_trace(&write_trace(&calls)).as_deref(), Some(&calls[..]));

@@ -1,6 +1,6 @@
 -- One entry: what its checks say to the change, and that the change is the definition's.
 -- Assumes nothing.
-use Prim.Native.Nat.{ℕ, _+_, _≤_, _<_}
+use Prim.Native.Nat.{ℕ, _+_, _≤_}
 use native.Mathlib.Omega.{arith}
 use mathlib.Core.Path.{_≡_, refl, sym, ap, _∙_, subst}
 use mathlib.Core.Bool.{Bool, true, false, _&&_, not}
@@ -8,11 +8,12 @@ use mathlib.Core.List.{List}
 use mathlib.Core.Option.{Option, none, some}
 use lib.Dec.{eqb}
 use lib.ListN.{length}
-use borrow.Author.Tests.{ltb-true, lt-ltb, eq-eqb, ne-eqb}
+use borrow.Author.Tests.{ltb-true, eq-eqb, ne-eqb}
 use Rattle.forms.specs.Bytes.{Bytes, bytesAt}
 use Rattle.forms.specs.Key.{Key, keyForm}
 use Rattle.forms.specs.Row.{Row}
 use Rattle.forms.specs.Readers.{when}
+use Rattle.forms.specs.Batch.{Mutation}
 use Rattle.forms.proofs.KeyFormLaws.{key-bounds}
 use Rattle.rules.specs.declared.answers.Answer.the-variants.{Accepted}
 use Rattle.rules.specs.declared.records.Kind.{Kind}
@@ -20,14 +21,14 @@ use Rattle.rules.specs.declared.records.Kind.the-variants.{Delete, Rollback}
 use Rattle.rules.specs.declared.records.Record.{Record}
 use Rattle.rules.specs.Answers.{_▸_, need}
 use Rattle.rules.specs.Box as box
-use Rattle.rules.specs.Calls.{kindOf, zeroStep, allBelow, stampedAt, recordFor}
+use Rattle.rules.specs.Calls.{kindOf, allBelow, stampedAt, recordFor}
 use Rattle.rules.specs.Sound.{soundLock, soundRecord, kindFits}
 use Rattle.rules.specs.Prewrite.{PrewriteTerms, prewriteTermsStep, lockFor, lockLine, applyPrewrite}
 use Rattle.rules.specs.declared.terms.CommitTerms.{CommitTerms}
 use Rattle.rules.specs.Commit.{commitTermsStep, withStart, commitTo, applyCommit}
 use Rattle.rules.specs.Rollback.{applyRollback}
 use Rattle.rules.specs.OneStep.{stepLock, replaceIf, applyStep}
-use Rattle.laws.proofs.StepLaws.{then-left, then-right, need-true}
+use Rattle.laws.proofs.StepLaws.{passed}
 use Rattle.laws.proofs.BoxOrder.{order-lines, ordered-dropLock}
 use Rattle.laws.proofs.KeyLaws.{stampBefore, lock-new, records-dropLock, records-new, dropRow-none}
 use Rattle.laws.specs.Places.{finishedAt}
@@ -36,6 +37,9 @@ use Rattle.laws.proofs.PrewriteLaws.{PrewritePassed, prewrite-passed, prewrite-
 use Rattle.laws.proofs.CommitLaws.{committed, CommitWay, commit-replay, commit-first, commit-way, commit-old, committed-lock}
 use Rattle.laws.proofs.RollbackLaws.{RollbackWay, rollback-replay, rollback-first, RollbackLock, lock-free, lock-own, rollback-passed, rollback-way, rollback-old, rollback-new, rolledBack-stamped}
 use Rattle.laws.proofs.OneStepLaws.{stepCheck, StepPassed, step-passed, step-own}
+use Rattle.ledger.specs.Tidy.{LocksAbove}
+use Rattle.ledger.proofs.SoundEntries.{start-some, commit-above}
+use Rattle.ledger.proofs.Tidiness.{above-prewritten, above-committed, above-rolled-back, above-stepped}
 use Rattle.lookups.specs.declared.lookup.Found.the-variants.{Nothing, Is}
 use Rattle.lookups.specs.declared.lookup.Locked.{Locked}
 use Rattle.lookups.specs.declared.lookup.Locked.the-variants.{Nobody, By}
@@ -48,12 +52,13 @@ use Rattle.store.specs.Made.{Built}
 use Rattle.store.specs.Views.{lockIn}
 use Rattle.lookups.specs.KeyStates.{lockedBy, said, LockThere, IntentThere, KeyStateAt}
 use Rattle.changes.specs.declared.change.Change.{Change}
-use Rattle.changes.specs.Changes.{entryFor, recordOver, Owned, LockAsks, RecordAsks, EndAsks, Leaves, changed, ChangeAsks}
+use Rattle.changes.specs.Changes.{prewriteTermsFor, entryFor, recordOver, Owned, LockAsks, RecordAsks, EndAsks, Leaves, changed, ChangeAsks}
 use Rattle.changes.proofs.KeptLaws.{row-short}
 use Rattle.changes.proofs.PutRecordLaws.{no-row}
-use Rattle.actions.specs.EntryAsks.{Applied, PrewriteAsks, CommitAsks, RollbackAsks, StepAsks}
+use Rattle.actions.specs.EntryAsks.{Applied, commitTermsFor, PrewriteAsks, CommitAsks, RollbackAsks, StepAsks}
 use Rattle.actions.specs.declared.action.Action.{Action}
-use Rattle.actions.specs.Actions.{pointOf, mostOf, applyOf, EntryAsks}
+use Rattle.actions.specs.declared.action.Action.the-variants as deed
+use Rattle.actions.specs.Actions.{pointOf, mostOf, applyOf, EntryAsks, StartsAbove}
 
 never : {A : Type 0} {x : A} → _≡_ {A = Option A} none (some x) → ⊥
 never e = let z : _≡_ {A = ℕ} 0 1 = cc in omega arith
@@ -72,33 +77,25 @@ leaves-lower e h l = record { built = l .built; shown = l .shown ∙ e; top-most
 stays : {st : Store} {area : Bytes} {b : box.Box} (n : ℕ) → Built st area → b ≡ boxOf st area → Applied st area b (st .top + n) st area
 stays n b e = record { leaves = record { built = b; shown = sym e; top-most = omega arith }; still = λ _. (refl, refl) }
 
--- the change is made
-pub made : {st r s : Store} {area area′ : Bytes} {b : box.Box} {top : ℕ} → r ≡ s → Applied st area b top s area′ → Applied st area b top r area′
-made {st} {r} {s} {area} {area′} {b} {top} e d = subst (λ (x : Store). Applied st area b top x area′) (sym e) d
-
 -- ---- prewrite
 
 -- the head's steps make a sound lock
-head-sound : (h : PrewriteTerms) (put : Bool) (row : Row) → prewriteTermsStep h ≡ Accepted → soundLock (lockFor h (kindOf (when put row))) ≡ true
+head-sound : (floor : ℕ) (h : PrewriteTerms) (put : Bool) (row : Row) → prewriteTermsStep floor h ≡ Accepted → soundLock (lockFor h (kindOf (when put row))) ≡ true
 unfolding prewriteTermsStep soundLock
-head-sound h put row p =
-    let p₁ = then-right (need (not (eqb (h .txn) 0)) 3) _ p in
-    let p₂ = then-right (need (not (eqb (h .start) 0)) 3) _ p₁ in
-    let a = need-true _ 3 (then-left (need (not (eqb (h .txn) 0)) 3) _ p) in
-    let b = need-true _ 3 (then-left (need (not (eqb (h .start) 0)) 3) _ p₁) in
-    let c = need-true _ 1 (then-left (need (keyForm (h .primary)) 1) _ p₂) in
-    let d = need-true _ 3 (then-right (need (keyForm (h .primary)) 1) _ p₂) in
+head-sound floor h put row p =
+    let a : not (eqb (h .txn) 0) ≡ true = search passed in
+    let b : not (eqb (h .start) 0) ≡ true = search passed in
+    let c : keyForm (h .primary) ≡ true = search passed in
+    let d : not (eqb (h .ttl) 0) ≡ true = search passed in
     rw (a, b, d, c) (go put)
   where
     go : (t : Bool) → not (box.eqKind (kindOf (when t row)) Rollback) && true ≡ true
     go true = refl
     go false = refl
 
-pub head-primary : (h : PrewriteTerms) → prewriteTermsStep h ≡ Accepted → length (h .primary) ≤ 48
+pub head-primary : (floor : ℕ) (h : PrewriteTerms) → prewriteTermsStep floor h ≡ Accepted → length (h .primary) ≤ 48
 unfolding prewriteTermsStep
-head-primary h p =
-    key-bounds (h .primary)
-    (need-true _ 1 (then-left (need (keyForm (h .primary)) 1) _ (then-right (need (not (eqb (h .start) 0)) 3) _ (then-right (need (not (eqb (h .txn) 0)) 3) _ p)))) .short
+head-primary floor h p = let c : keyForm (h .primary) ≡ true = search passed in key-bounds (h .primary) c .short
 
 module _ {st : Store} {area : Bytes} {h : PrewriteTerms} {key : Key} {put : Bool} {row : Row} (asks : PrewriteAsks st area h key put row) {stamp : ℕ} {seen : KeyState} (f : KeyStateAt st area key (h .start) stamp seen) where
   p : PrewritePassed h (boxOf st area) (entryFor key put row)
@@ -109,7 +106,7 @@ module _ {st : Store} {area : Bytes} {h : PrewriteTerms} {key : Key} {put : Bool
     free = lock-none area (f .lock-is) e
 
     size : length key + 8 + 8 + length row + 8 + length (h .primary) ≤ 375
-    size = let k = key-bounds key (p .key) in omega (arith, row-short (kindOf (when put row)) row (asks .row-fits), head-primary h (asks .head))
+    size = let k = key-bounds key (p .key) in omega (arith, row-short (kindOf (when put row)) row (asks .row-fits), head-primary (asks .floor) h (asks .head))
 
     pub prewrite-asks : LockAsks st area seen h key put row
     prewrite-asks = record {
@@ -120,7 +117,7 @@ module _ {st : Store} {area : Bytes} {h : PrewriteTerms} {key : Key} {put : Bool
       fresh = below-started (h .start) (box.recordsOf key (boxOf st area .lines)) (p .sound) (p .below);
       form = p .key;
       row-fits = asks .row-fits;
-      sound = head-sound h put row (asks .head);
+      sound = head-sound (asks .floor) h put row (asks .head);
       slot-free = asks .slot-free free;
       area-room = omega (arith, size, asks .area-room);
     }
@@ -138,16 +135,6 @@ module _ {st : Store} {area : Bytes} {h : PrewriteTerms} {key : Key} {put : Bool
 
   pub prewrite-stays : {i : LockView} → seen .lock ≡ By i → Applied st area (applyPrewrite h (entryFor key put row) (boxOf st area)) (st .top + 376) st area
   prewrite-stays e = stays 376 (asks .built) (prewrite-old h (entryFor key put row) (boxOf st area) _ (sym (f .lock-is) ∙ ap (lockedBy area) e))
-
--- ---- what a head says
-
-ending-later : (h : CommitTerms) → commitTermsStep h ≡ Accepted → h .start < h .commit
-unfolding commitTermsStep
-ending-later h p = ltb-true _ _ (need-true _ 3 (then-right (zeroStep (h .txn) (h .start)) _ p))
-
-ending-start : (h : CommitTerms) → commitTermsStep h ≡ Accepted → not (eqb (h .start) 0) ≡ true
-unfolding commitTermsStep zeroStep
-ending-start h p = need-true _ 3 (then-right (need (not (eqb (h .txn) 0)) 3) _ (then-left (need (not (eqb (h .txn) 0)) 3 ▸ need (not (eqb (h .start) 0)) 3) _ p))
 
 -- ---- commit
 
@@ -181,7 +168,7 @@ module _ {st : Store} {area : Bytes} {h : CommitTerms} {key : Key} (asks : Commi
       own = owned area (h .start) (seen .lock) (box.lockOf key (boxOf st area .lines)) (f .lock-is) (λ l q. ap (λ (x : box.Lock). x .start) (same-lock (sym q ∙ c .held)) ∙ c .own);
       fresh = fresh;
       free = below-stamped (h .commit) (box.recordsOf key (boxOf st area .lines)) (c .below);
-      later = ending-later h (asks .head);
+      later = ltb-true _ _ (commit-above (asks .floor) h (asks .head));
       area-room = asks .area-room;
     }
 
@@ -251,12 +238,12 @@ module _ {st : Store} {area : Bytes} {txn start : ℕ} {key : Key} (asks : Rollb
 
 -- ---- one-step
 
-step-sound : (h : CommitTerms) (put : Bool) (row : Row) → commitTermsStep h ≡ Accepted → soundRecord (recordFor (h .start) (h .commit) (kindOf (when put row))) ≡ true
-step-sound h put row p = rw (eq-eqb (h .commit) (h .commit) refl, ending-start h p) (go put)
+step-sound : (floor : ℕ) (h : CommitTerms) (put : Bool) (row : Row) → commitTermsStep floor h ≡ Accepted → soundRecord (recordFor (h .start) (h .commit) (kindOf (when put row))) ≡ true
+step-sound floor h put row p = rw (eq-eqb (h .commit) (h .commit) refl, start-some floor h p) (go put)
   where
     go : (t : Bool) → kindFits (kindOf (when t row)) (h .start) (h .commit) ≡ true
-    go true = lt-ltb _ _ (ending-later h p)
-    go false = lt-ltb _ _ (ending-later h p)
+    go true = commit-above floor h p
+    go false = commit-above floor h p
 
 -- the definition's change, where a Delete's start has no row
 step-is : (h : CommitTerms) (key : Key) (put : Bool) (row : Row) (b : box.Box) → (put ≡ false → box.rowOf key (h .start) (b .defaults) ≡ none)
@@ -266,12 +253,12 @@ step-is h key true row b n = refl
 step-is h key false row b n = ap (λ (ds : List box.Default). record { lines = box.insertLine (finishedAt key (recordFor (h .start) (h .commit) Delete)) (box.dropLock key (b .lines)); defaults = ds }) (dropRow-none key (h .start) (b .defaults) (n refl))
 
 module _ {st : Store} {area : Bytes} {h : CommitTerms} {key : Key} {put : Bool} {row : Row} (asks : StepAsks st area h key put row) {seen : KeyState} (f : KeyStateAt st area key (h .start) (h .commit) seen) where
-  passed : StepPassed h (boxOf st area) (entryFor key put row)
+  steps : StepPassed h (boxOf st area) (entryFor key put row)
   unfolding stepCheck _▸_ need
-  passed = step-passed h (boxOf st area) (entryFor key put row) (rw (asks .passed, asks .newest))
+  steps = step-passed h (boxOf st area) (entryFor key put row) (rw (asks .passed, asks .newest))
 
   step-lock : (l : box.Lock) → box.lockOf key (boxOf st area .lines) ≡ some l → (l .txn ≡ h .txn) × (l .start ≡ h .start) × (l .kind ≡ kindOf (when put row))
-  step-lock l q = step-own h (kindOf (when put row)) l (ap (stepLock h (kindOf (when put row))) (sym q) ∙ passed .lock)
+  step-lock l q = step-own h (kindOf (when put row)) l (ap (stepLock h (kindOf (when put row))) (sym q) ∙ steps .lock)
 
   count-fits : length key + 8 + 8 + length row ≤ 319
   count-fits = let k = key-bounds key (asks .form) in omega (arith, row-short (kindOf (when put row)) row (asks .row-fits))
@@ -281,11 +268,11 @@ module _ {st : Store} {area : Bytes} {h : CommitTerms} {key : Key} {put : Bool} 
     built = asks .built;
     looked = f;
     own = owned area (h .start) (seen .lock) (box.lockOf key (boxOf st area .lines)) (f .lock-is) (λ l q. step-lock l q .1);
-    fresh = below-started (h .start) (box.recordsOf key (boxOf st area .lines)) (passed .sound) (passed .below);
-    free = below-stamped (h .commit) (box.recordsOf key (boxOf st area .lines)) (passed .newest);
+    fresh = below-started (h .start) (box.recordsOf key (boxOf st area .lines)) (steps .sound) (steps .below);
+    free = below-stamped (h .commit) (box.recordsOf key (boxOf st area .lines)) (steps .newest);
     form = asks .form;
     row-fits = asks .row-fits;
-    sound = step-sound h put row (asks .head);
+    sound = step-sound (asks .floor) h put row (asks .head);
     slot-free = λ q. asks .slot-free (lock-none area (f .lock-is) q);
     area-room = omega (arith, count-fits, asks .area-room);
   }
@@ -339,3 +326,12 @@ module _ {d e : Action} (q : d ≡ e) (primary : Key) (st : Store) (area : Bytes
 
   pub done-as : (c : Change) {area′ : Bytes} → Done e primary st area key put row c area′ → Done d primary st area key put row c area′
   done-as c {area′} a = subst (λ (x : Action). Done x primary st area key put row c area′) (sym q) a
+
+-- ---- the floor
+
+-- every lock still starts above it
+pub applied-above : (floor : ℕ) (d : Action) (primary : Key) (m : Mutation) (b : box.Box) → StartsAbove floor d → LocksAbove floor b → LocksAbove floor (applyOf d primary m b)
+applied-above floor (deed.Prewrite txn start ttl) primary m b a = above-prewritten floor (prewriteTermsFor txn start primary ttl) m b a
+applied-above floor (deed.Commit txn start commit) primary m b a = above-committed floor (commitTermsFor txn start commit) (m .key) b
+applied-above floor (deed.Rollback txn start) primary m b a = above-rolled-back floor start (m .key) b
+applied-above floor (deed.Step txn start commit) primary m b a = above-stepped floor (commitTermsFor txn start commit) m b

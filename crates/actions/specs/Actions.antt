@@ -1,7 +1,7 @@
 -- What a changing call does with each entry of its batch: the definition's change of one entry, what that asks, and how many bytes of the
 -- area it takes at most. A commit and a rollback look at an entry's key alone.
 -- Assumes nothing.
-use Prim.Native.Nat.{ℕ}
+use Prim.Native.Nat.{ℕ, _<_}
 use mathlib.Core.Bool.{Bool}
 use Rattle.forms.specs.Bytes.{Bytes}
 use Rattle.forms.specs.Key.{Key}
@@ -44,3 +44,10 @@ EntryAsks (Prewrite txn start ttl) primary st area key put row = PrewriteAsks st
 EntryAsks (Commit txn start commit) primary st area key put row = CommitAsks st area (commitTermsFor txn start commit) key
 EntryAsks (Rollback txn start) primary st area key put row = RollbackAsks st area txn start key
 EntryAsks (Step txn start commit) primary st area key put row = StepAsks st area (commitTermsFor txn start commit) key put row
+
+-- document 02, CR 7: 14 "for a start at or below F in any changing call"; only a prewrite brings locks
+abbrev pub StartsAbove : ℕ → Action → Type 0
+StartsAbove floor (Prewrite txn start ttl) = floor < start
+StartsAbove floor (Commit txn start commit) = Unit {0}
+StartsAbove floor (Rollback txn start) = Unit {0}
+StartsAbove floor (Step txn start commit) = Unit {0}

@@ -32,7 +32,8 @@ commitTermsFor txn start commit = record { txn = txn; start = start; commit = co
 -- at most 376 bytes come: two keys of 48, a row of 255, three numbers, and one where the stretch begins at a pair of bytes
 pub record PrewriteAsks (st : Store) (area : Bytes) (h : PrewriteTerms) (key : Key) (put : Bool) (row : Row) : Type 0 where
   pub built : Built st area
-  pub head : prewriteTermsStep h ≡ Accepted
+  pub floor : ℕ
+  pub head : prewriteTermsStep floor h ≡ Accepted
   pub passed : prewriteEntry h (boxOf st area) (entryFor key put row) ≡ Accepted
   pub row-fits : RowFits (kindOf (when put row)) row
   pub slot-free : box.lockOf key (boxOf st area .lines) ≡ none → st .load .lines < 1024
@@ -40,7 +41,8 @@ pub record PrewriteAsks (st : Store) (area : Bytes) (h : PrewriteTerms) (key : K
 
 pub record CommitAsks (st : Store) (area : Bytes) (h : CommitTerms) (key : Key) : Type 0 where
   pub built : Built st area
-  pub head : commitTermsStep h ≡ Accepted
+  pub floor : ℕ
+  pub head : commitTermsStep floor h ≡ Accepted
   pub passed : commitKey h (boxOf st area) key ≡ Accepted
   pub area-room : st .top + 320 ≤ 131072
 
@@ -53,7 +55,8 @@ pub record RollbackAsks (st : Store) (area : Bytes) (txn start : ℕ) (key : Key
 
 pub record StepAsks (st : Store) (area : Bytes) (h : CommitTerms) (key : Key) (put : Bool) (row : Row) : Type 0 where
   pub built : Built st area
-  pub head : commitTermsStep h ≡ Accepted
+  pub floor : ℕ
+  pub head : commitTermsStep floor h ≡ Accepted
   pub form : keyForm key ≡ true
   pub row-fits : RowFits (kindOf (when put row)) row
   pub passed : stepEntry h (boxOf st area) (entryFor key put row) ≡ Accepted

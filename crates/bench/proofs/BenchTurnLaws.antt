@@ -11,6 +11,7 @@ use Rattle.forms.specs.Bytes.{Bytes}
 use Rattle.forms.specs.Writers.{Laid}
 use Rattle.forms.proofs.WriterLaws.{laid-stands}
 use Rattle.rules.specs.Box as box
+use Rattle.ledger.specs.Tidy.{LocksAbove}
 use Rattle.store.specs.declared.table.Store.{Store}
 use Rattle.store.specs.View.{lineOf, defaultIn, stored, boxOf}
 use Rattle.store.specs.Made.{SlotBelow, Tallied, Made}
@@ -41,6 +42,7 @@ module _ {st : Store} {area copy : Bytes} (t : TurnAsks st area copy) where
         record {
           built = record { area-long = a .length-is ∙ t .length-is; top-in = t .made .built .top-in; lines = t .made .built .lines; kept = subst (λ (x : box.Box). Tallied x (st .load)) (sym same-box) (t .made .built .kept) };
           fit = t .made .fit;
+          above = subst (λ (x : box.Box). LocksAbove (st .floor) x) (sym same-box) (t .made .above);
         }
 
 -- what the loops keep

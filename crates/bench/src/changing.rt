@@ -95,3 +95,10 @@ pub fn restore_once(store: Store, area: &mut [u8; AREA], image: &[u8]) -> u64
 {
     of_changed(mvcc::restore(store, area, image))
 }
+
+// A collection reads the area and changes none of it.
+pub fn collect_once(store: Store, area: &[u8; AREA], floor: u64) -> u64
+    requires { ⌜ Made store (now area) ⌝ }
+{
+    of_changed(mvcc::collect(store, area, floor))
+}

@@ -1,11 +1,13 @@
 // The turns: each makes every call of the input once, each call on the same box. All calls of an input are of one kind, a number: 1 read,
-// 2 page, 3 statistics, 11 image; and, each on a copy of the area, 5 prewrite, 6 commit, 7 prewrite and commit, 8 rollback, 9 one-step batch, 10 restore.
+// 2 page, 3 statistics, 11 image, 12 collection; and, each on a copy of the area, 5 prewrite, 6 commit, 7 prewrite and commit, 8 rollback, 9 one-step
+// batch, 10 restore.
 // 0 makes no call, and 4 only the copy: what such a turn takes is to be subtracted.
 ghost use mathlib.Core.Path.{_≡_};
 ghost use lib.ListN.{length};
 ghost use Rattle.bench.specs.Asks.{AskedIn, CallAsks, TurnAsks};
 use crate::asked::Asked;
 use crate::asked::asked_at;
+use crate::changing::collect_once;
 use crate::changing::commit_once;
 use crate::changing::copy_below;
 use crate::changing::pair_once;
@@ -21,8 +23,8 @@ use mvcc::AREA;
 use mvcc::Store;
 use std::num::wrapping_add_u64;
 
-// A call that shows something; a page or an image is written over the front of `out`. The moment is the call's and one above it, turn about: no record of
-// the boxes stands between the two.
+// A call that leaves the area as it was: one that shows something, or a collection. A page or an image is written over the front of `out`. The moment is
+// the call's and one above it, turn about: no record of the boxes stands between the two.
 fn show_call(
     store: Store,
     area: &[u8; AREA],
@@ -42,6 +44,7 @@ fn show_call(
         2 => page_once(store, area, out, &s[k..r], moment, a.two),
         3 => stats_once(store, area),
         11 => image_once(store, area, out, a.one),
+        12 => collect_once(store, area, a.one),
         _ => a.one,
     }
 }
@@ -91,8 +94,9 @@ fn change_on_copy(
     change_call(store, copy, image, s, a, way)
 }
 
-fn shows(way: u8) -> bool {
-    if way == 11 {
+// Whether the call leaves the area as it was.
+fn leaves_area(way: u8) -> bool {
+    if 10 < way {
         return true;
     }
     way < 4
@@ -112,7 +116,7 @@ fn one_call(
     requires { ⌜ (TurnAsks store (now area) (now copy)) × (AskedIn (length (now s)) a) ⌝ }
     ensures { λ _. ⌜ length (now (copy .exit)) ≡ 131072 ⌝ }
 {
-    if shows(way) {
+    if leaves_area(way) {
         return show_call(store, area, copy, s, a, way, turn);
     }
     change_on_copy(store, area, copy, s, a, way, image)

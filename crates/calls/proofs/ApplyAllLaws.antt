@@ -12,7 +12,7 @@ use Rattle.seqs.proofs.Tables.{table-at, shown-length, shown-next}
 use Rattle.forms.specs.Bytes.{Bytes}
 use Rattle.forms.specs.Key.{Key}
 use Rattle.forms.specs.Batch.{Mutation, ascend}
-use Rattle.forms.specs.Places.{keyAt, noEntry, Listed}
+use Rattle.forms.specs.Places.{keyAt, mutationOf, noEntry, Listed}
 use Rattle.forms.specs.declared.batch.Entry.{Entry}
 use Rattle.rules.specs.declared.answers.Answer.{Answer}
 use Rattle.rules.specs.declared.answers.Answer.the-variants.{Accepted}
@@ -20,15 +20,20 @@ use Rattle.rules.specs.Box.{Box}
 use Rattle.laws.proofs.StepLaws.{then-left}
 use Rattle.laws.proofs.FrameLaws.{ascend-rest}
 use Rattle.laws.proofs.BatchLaws.{checkAll, applyAll, Depends, Only, still-pass}
+use Rattle.ledger.specs.Tidy.{LocksAbove}
 use Rattle.store.specs.declared.table.Store.{Store}
 use Rattle.store.specs.View.{boxOf}
 use Rattle.store.specs.Made.{Built, Made}
-use Rattle.changes.specs.Changes.{entryFor}
+use Rattle.store.proofs.FloorLaws.{above-same}
+use Rattle.changes.specs.declared.change.Change.{Change}
+use Rattle.changes.specs.Changes.{entryFor, changed}
 use Rattle.changes.specs.Packs.{Repacked}
+use Rattle.changes.proofs.TableLaws.{changed-floor}
 use Rattle.actions.specs.declared.action.Action.{Action}
 use Rattle.actions.specs.declared.action.Action.the-variants.{Prewrite, Commit, Rollback, Step}
 use Rattle.actions.specs.EntryAsks.{Applied}
-use Rattle.actions.specs.Actions.{mostOf, applyOf}
+use Rattle.actions.specs.Actions.{mostOf, applyOf, StartsAbove}
+use Rattle.actions.proofs.ApplyEntryLaws.{applied-above}
 use Rattle.calls.specs.Settled.{Untouched}
 use Rattle.calls.specs.Entries.{rowAt}
 use Rattle.calls.specs.Passes.{applyEntry, EntryReady, EntryAt, Ready, counted, ApplyAsks, AllApplied}
@@ -88,10 +93,17 @@ module _ {A : Type 0} (c : Changes A) (item : Entry → A) (d : Action) (primary
 
 -- ---- `apply_all`
 
+-- document 02, CR 7: after all entries each lock still starts above the floor
+all-above : (floor : ℕ) (d : Action) (primary : Key) (s : Bytes) → StartsAbove floor d → (es : List Entry) (b : Box) → LocksAbove floor b → LocksAbove floor (applyAll (applyEntry d primary s) es b)
+unfolding applyAll
+all-above floor d primary s h [] b v = v
+all-above floor d primary s h (e ∷ es) b v = all-above floor d primary s h es (applyEntry d primary s e b) (applied-above floor d primary (mutationOf s e) b h v)
+
 -- before the entries: the box is the same, and has been packed anew only where there are entries
 pub record Packing (st : Store) (area : Bytes) (n : ℕ) (area′ : Bytes) (cur : Store) : Type 0 where
   pub made : Made cur area′
   pub shown : boxOf cur area′ ≡ boxOf st area
+  pub floor-is : cur .floor ≡ st .floor
   pub still : n ≡ 0 → Untouched st area cur area′
 
 -- the entries that are left are ready, lead to the box that is wanted, and have place
@@ -103,6 +115,7 @@ pub record Left (d : Action) (primary : Key) (want : Box) (s area : Bytes) (rest
 
 pub record Underway (d : Action) (primary : Key) (st : Store) (area s : Bytes) (n : ℕ) (es : List Entry) (i : ℕ) (area′ : Bytes) (cur : Store) : Type 0 where
   pub left : Left d primary (applyAll (applyEntry d primary s) (counted n es) (boxOf st area)) s area′ (drop i (counted n es)) cur
+  pub floor-is : cur .floor ≡ st .floor
   pub still : n ≡ 0 → Untouched st area cur area′
 
 -- the bytes of all entries
@@ -128,24 +141,32 @@ counted-past n {es} l i h = let g : length (counted n es) ≤ i = omega (arith, 
 
 module _ {d : Action} {primary : Key} {st : Store} {area s : Bytes} {n : ℕ} {es : List Entry} (a : ApplyAsks d primary st area s n es) where
   pub packing-start : Packing st area n area st
-  packing-start = record { made = a .made; shown = refl; still = λ _. record { store-is = refl; area-is = refl } }
+  packing-start = record { made = a .made; shown = refl; floor-is = refl; still = λ _. record { store-is = refl; area-is = refl } }
 
   module _ {area₁ : Bytes} {cur : Store} (v : Packing st area n area₁ cur) where
     module _ {need : ℕ} (q : need ≡ n * mostOf d) (full : 131072 - cur .top < need) {r : Store} {area₂ : Bytes} (p : Repacked cur area₁ r area₂) where
       pub packing-more : Packing st area n area₂ r
-      packing-more = record { made = p .made; shown = p .shown ∙ v .shown; still = λ z. absurd (omega (arith, none-needed d z, q, full)) }
+      packing-more = record { made = p .made; shown = p .shown ∙ v .shown; floor-is = p .floor-is ∙ v .floor-is; still = λ z. absurd (omega (arith, none-needed d z, q, full)) }
 
       pub packing-less : r .top < cur .top
       packing-less = omega (arith, p .top-most, full, q, few-bytes d (a .count-fits))
 
     -- the entries may be applied to the store as it is then, which is as good as to the one that came
     pub packed-asks : ApplyAsks d primary cur area₁ s n es
-    packed-asks = record { made = v .made; count-fits = a .count-fits; listed = a .listed; ready = subst (Ready d primary s (counted n es)) (sym (v .shown)) (a .ready) }
+    packed-asks = record {
+      made = v .made;
+      count-fits = a .count-fits;
+      listed = a .listed;
+      ready = subst (Ready d primary s (counted n es)) (sym (v .shown)) (a .ready);
+      above = subst (λ (f : ℕ). StartsAbove f d) (sym (v .floor-is)) (a .above);
+    }
 
     pub packed-applied : {r : Store} {area₂ : Bytes} → AllApplied d primary cur area₁ s n es r area₂ → AllApplied d primary st area s n es r area₂
     packed-applied w = record {
       built = w .built;
       shown = w .shown ∙ ap (applyAll (applyEntry d primary s) (counted n es)) (v .shown);
+      floor-is = w .floor-is ∙ v .floor-is;
+      above = w .above;
       still = λ z. record { store-is = w .still z .store-is ∙ v .still z .store-is; area-is = w .still z .area-is ∙ v .still z .area-is };
     }
 
@@ -157,6 +178,7 @@ module _ {d : Action} {primary : Key} {st : Store} {area s : Bytes} {n : ℕ} {e
       is = refl;
       room = subst (λ (m : ℕ). st .top + m * mostOf d ≤ 131072) (sym (counted-length n (a .listed))) (omega (arith, h, q, a .made .built .top-in));
     };
+    floor-is = refl;
     still = λ _. record { store-is = refl; area-is = refl };
   }
 
@@ -184,10 +206,11 @@ module _ {d : Action} {primary : Key} {st : Store} {area s : Bytes} {n : ℕ} {e
     unfolding Ready
     underway-at = record { built = here .built; inside = table-at listed i more; asks = here .ready .0 cur area′ (here .built) refl (omega (arith, room-here)) }
 
-    pub underway-more : {r : Store} {area″ : Bytes} → Applied cur area′ (applyOf d primary (entryFor (keyAt s (getD es i noEntry)) (getD es i noEntry .put) (rowAt s (getD es i noEntry))) (boxOf cur area′)) (cur .top + mostOf d) r area″
+    pub underway-more : (c : Change) {r : Store} {area″ : Bytes} → r ≡ changed cur c → Applied cur area′ (applyOf d primary (entryFor (keyAt s (getD es i noEntry)) (getD es i noEntry .put) (rowAt s (getD es i noEntry))) (boxOf cur area′)) (cur .top + mostOf d) (changed cur c) area″
         → Underway d primary st area s n es (i + 1) area″ r
     unfolding Ready applyAll
-    underway-more {r} {area″} l =
+    underway-more c {r} {area″} q w =
+        let l = subst (λ (x : Store). Applied cur area′ (applyOf d primary (entryFor (keyAt s e) (e .put) (rowAt s e)) (boxOf cur area′)) (cur .top + mostOf d) x area″) (sym q) w in
         let z : boxOf r area″ ≡ applyEntry d primary s e (boxOf cur area′) = l .leaves .shown ∙ ap (λ (m : Mutation). applyOf d primary m (boxOf cur area′)) (parts-are s e) in
         record {
           left = record {
@@ -196,13 +219,18 @@ module _ {d : Action} {primary : Key} {st : Store} {area s : Bytes} {n : ℕ} {e
             is = ap (applyAll (applyEntry d primary s) rest) z ∙ here .is;
             room = omega (arith, room-here, l .leaves .top-most);
           };
+          floor-is = ap (λ (x : Store). x .floor) q ∙ changed-floor cur c ∙ v .floor-is;
           still = λ z. absurd (omega arith);
         }
 
   pub underway-end : n ≤ i → AllApplied d primary st area s n es cur area′
   unfolding applyAll
-  underway-end z = record {
-    built = v .left .built;
-    shown = subst (λ (l : List Entry). applyAll (applyEntry d primary s) l (boxOf cur area′) ≡ applyAll (applyEntry d primary s) (counted n es) (boxOf st area)) (counted-past n (a .listed) i z) (v .left .is);
-    still = v .still;
-  }
+  underway-end z =
+      let is = subst (λ (l : List Entry). applyAll (applyEntry d primary s) l (boxOf cur area′) ≡ applyAll (applyEntry d primary s) (counted n es) (boxOf st area)) (counted-past n (a .listed) i z) (v .left .is) in
+      record {
+        built = v .left .built;
+        shown = is;
+        floor-is = v .floor-is;
+        above = above-same (v .floor-is) is (all-above (st .floor) d primary s (a .above) (counted n es) (boxOf st area) (a .made .above));
+        still = v .still;
+      }

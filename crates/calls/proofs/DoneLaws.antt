@@ -29,6 +29,7 @@ use Rattle.store.specs.declared.table.Store.{Store}
 use Rattle.store.specs.View.{boxOf}
 use Rattle.store.specs.Made.{Made}
 use Rattle.actions.specs.declared.action.Action.{Action}
+use Rattle.actions.specs.Actions.{StartsAbove}
 use Rattle.calls.specs.Settled.{Settled}
 use Rattle.calls.specs.Entries.{onlyIf, AllAsks}
 use Rattle.calls.specs.Passes.{allDone, Judged, applyEntry, Ready, counted, ApplyAsks, AllApplied}
@@ -47,13 +48,13 @@ settle-still (Held h) new old e = refl
 
 -- the entries are applied where the call moves
 pub asks-if : {st : Store} {area s : Bytes} {n : ℕ} {es : List Entry} → AllAsks st area s n es → {moves : Bool} {m : ℕ} → m ≡ onlyIf moves n → {d : Action} {primary : Key}
-    → (moves ≡ true → Ready d primary s (counted n es) (boxOf st area)) → ApplyAsks d primary st area s m es
+    → (moves ≡ true → Ready d primary s (counted n es) (boxOf st area)) → StartsAbove (st .floor) d → ApplyAsks d primary st area s m es
 unfolding shown Ready
-asks-if {st} {area} {s} {n} {es} a {moves} q {d} {primary} r = subst (λ (i : ℕ). ApplyAsks d primary st area s i es) (sym q) (go moves refl)
+asks-if {st} {area} {s} {n} {es} a {moves} q {d} {primary} r u = subst (λ (i : ℕ). ApplyAsks d primary st area s i es) (sym q) (go moves refl)
   where
     go : (t : Bool) → moves ≡ t → ApplyAsks d primary st area s (onlyIf t n) es
-    go true e = record { made = a .made; count-fits = a .form .listed .count-fits; listed = λ _. a .form .listed; ready = r e }
-    go false e = record { made = a .made; count-fits = omega arith; listed = λ z. absurd (omega arith); ready = tt }
+    go true e = record { made = a .made; count-fits = a .form .listed .count-fits; listed = λ _. a .form .listed; ready = r e; above = u }
+    go false e = record { made = a .made; count-fits = omega arith; listed = λ z. absurd (omega arith); ready = tt; above = u }
 
 module _ {A : Type 0} {check : Box → A → Answer} {apply : A → Box → Box} (item : Entry → A) where
   -- ---- from its entries on
@@ -89,7 +90,7 @@ module _ {A : Type 0} {check : Box → A → Answer} {apply : A → Box → Box}
           go : (x : Bool) → v .moves ≡ x → Settled st area (allDone check apply (shown item n es) b) (record { store = t; answer = v .answer }) area′
           go true e =
               subst (λ (x : Answer). Settled st area (allDone check apply (shown item n es) b) (record { store = t; answer = x }) area′) (sym (j .passes e))
-              (settled-new (record { built = w .built; fit = subst Fits (sym (w .built .kept .load-is ∙ ap loadOf (same e))) (pass-fit e) })
+              (settled-new (record { built = w .built; fit = subst Fits (sym (w .built .kept .load-is ∙ ap loadOf (same e))) (pass-fit e); above = w .above }) (w .floor-is)
               (done-is ∙ settle-new (v .answer) new b (j .passes e) ∙ ap (λ (c : Box). record { answer = Accepted; box = c }) (sym (same e))) (λ z. j .moves e (sym (same e) ∙ z)))
           go false e = settled-still (w .still (q ∙ ap (λ (x : Bool). onlyIf x n) e)) (a .made) (done-is ∙ settle-still (v .answer) new b (j .stays e))
 

@@ -51,6 +51,7 @@ settled-same {st} {area} {d} m e = record {
   answer-is = answered (sym (ap (λ (x : Done). x .answer) e));
   made = m;
   shown = sym (ap (λ (x : Done). x .box) e);
+  floor-is = refl;
   refused = λ n. untouched;
   unchanged = λ s. untouched;
 }
@@ -61,12 +62,13 @@ settled-still {st} {r} {area} {area′} {d} {a} u m e =
     (subst (λ (y : Bytes). Settled st area d (record { store = st; answer = a }) y) (sym (u .area-is)) (settled-same m e))
 
 -- the box is the definition's, and another one than it was
-pub settled-new : {st : Store} {area : Bytes} {d : Done} {r : Store} {area′ : Bytes} → Made r area′ → d ≡ record { answer = Accepted; box = boxOf r area′ } → (boxOf r area′ ≡ boxOf st area → ⊥)
+pub settled-new : {st : Store} {area : Bytes} {d : Done} {r : Store} {area′ : Bytes} → Made r area′ → r .floor ≡ st .floor → d ≡ record { answer = Accepted; box = boxOf r area′ } → (boxOf r area′ ≡ boxOf st area → ⊥)
     → Settled st area d (record { store = r; answer = Accepted }) area′
-settled-new {st} {area} {d} {r} {area′} m e n = record {
+settled-new {st} {area} {d} {r} {area′} m f e n = record {
   answer-is = answered (sym (ap (λ (x : Done). x .answer) e));
   made = m;
   shown = sym (ap (λ (x : Done). x .box) e);
-  refused = λ f. absurd (f refl);
+  floor-is = f;
+  refused = λ z. absurd (z refl);
   unchanged = λ s. absurd (n (sym (ap (λ (x : Done). x .box) e) ∙ s));
 }

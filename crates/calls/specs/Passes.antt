@@ -22,12 +22,13 @@ use Rattle.laws.specs.Adds.{plus, minus}
 use Rattle.laws.proofs.BatchLaws.{checkAll, applyAll}
 use Rattle.store.specs.declared.table.Store.{Store}
 use Rattle.store.specs.View.{boxOf}
+use Rattle.ledger.specs.Tidy.{LocksAbove}
 use Rattle.store.specs.Made.{Built, Made}
 use Rattle.changes.specs.declared.change.Change.{Change}
 use Rattle.changes.specs.Changes.{entryFor, changed, ChangeAsks}
 use Rattle.actions.specs.declared.action.Action.{Action}
 use Rattle.actions.specs.EntryAsks.{Applied}
-use Rattle.actions.specs.Actions.{mostOf, applyOf, EntryAsks}
+use Rattle.actions.specs.Actions.{mostOf, applyOf, EntryAsks, StartsAbove}
 use Rattle.calls.specs.Entries.{rowAt}
 use Rattle.calls.specs.Settled.{isAccepted, Untouched}
 use Rattle.calls.specs.declared.weights.Weight.{Weight}
@@ -92,9 +93,12 @@ pub record ApplyAsks (d : Action) (primary : Key) (st : Store) (area s : Bytes) 
   pub count-fits : n ≤ 32
   pub listed : 0 < n → Listed s n es
   pub ready : Ready d primary s (counted n es) (boxOf st area)
+  pub above : StartsAbove (st .floor) d
 
--- the box is the definition's; without entries nothing has changed
+-- the box is the definition's, on the same floor, and each lock starts above it; without entries nothing has changed
 pub record AllApplied (d : Action) (primary : Key) (st : Store) (area s : Bytes) (n : ℕ) (es : List Entry) (r : Store) (area′ : Bytes) : Type 0 where
   pub built : Built r area′
   pub shown : boxOf r area′ ≡ applyAll (applyEntry d primary s) (counted n es) (boxOf st area)
+  pub floor-is : r .floor ≡ st .floor
+  pub above : LocksAbove (r .floor) (boxOf r area′)
   pub still : n ≡ 0 → Untouched st area r area′

@@ -6,9 +6,9 @@ use crate::steps::zero_step;
 use rules::Answer;
 use rules::CommitTerms;
 
-// "3": "zero transaction, start ..; commit not above start"
-pub fn commit_terms_step(terms: CommitTerms) -> Answer
-    ensures { λ r. ⌜ r ≡ commitTermsStep terms ⌝ }
+// "3": "zero transaction, start ..; commit not above start"; "after the last 3" 14, a start at or below the floor
+pub fn commit_terms_step(floor: u64, terms: CommitTerms) -> Answer
+    ensures { λ r. ⌜ r ≡ commitTermsStep floor terms ⌝ }
 {
     let zero = zero_step(terms.txn, terms.start);
     if !accepted(zero) {
@@ -16,6 +16,9 @@ pub fn commit_terms_step(terms: CommitTerms) -> Answer
     }
     if terms.commit <= terms.start {
         return Answer::No(3);
+    }
+    if terms.start <= floor {
+        return Answer::No(14);
     }
     Answer::Accepted
 }

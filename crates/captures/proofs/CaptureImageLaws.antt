@@ -32,7 +32,7 @@ use Rattle.captures.specs.declared.slots.Section.the-variants.{Locks, Wr
 use Rattle.captures.specs.declared.sizes.Sizes.{Sizes}
 use Rattle.captures.specs.Lines.{inSection, belongs, entryBytes, linesIn, rowsIn, linesBytes, entriesIn}
 use Rattle.captures.specs.Sizes.{SizesAre}
-use Rattle.captures.specs.Asks.{SectionAsks, LinesAsk, ImageAsks}
+use Rattle.captures.specs.Asks.{LinesAsk, ImageAsks}
 
 -- ---- the lines of a section are its entries
 
@@ -72,7 +72,7 @@ module _ (t : ℕ) where
 
 -- ---- the sections in their order
 
-module _ {lines : List Slot} {n : ℕ} {area : Bytes} {t : ℕ} {z : Sizes} (sizes : SizesAre lines n area t z) where
+module _ (floor : ℕ) {lines : List Slot} {n : ℕ} {area : Bytes} {t : ℕ} {z : Sizes} (sizes : SizesAre lines n area t z) where
   abbrev rowsOf : Bytes
   rowsOf = allBytes defaultBytes (rowsIn lines n area t)
 
@@ -84,41 +84,41 @@ module _ {lines : List Slot} {n : ℕ} {area : Bytes} {t : ℕ} {z : Sizes} (siz
 
   -- as they are written
   abbrev flat : Bytes
-  flat = digits 4 t ++ (digits 2 (z .defaults) ++ (rowsOf ++ (digits 2 (z .locks) ++ (locksIn ++ (digits 2 (z .writes) ++ writesIn)))))
+  flat = digits 4 t ++ (digits 8 floor ++ (digits 2 (z .defaults) ++ (rowsOf ++ (digits 2 (z .locks) ++ (locksIn ++ (digits 2 (z .writes) ++ writesIn))))))
 
-  flat-is : flat ≡ imageBytes (entriesIn lines n area t)
+  flat-is : flat ≡ imageBytes (entriesIn floor lines n area t)
   unfolding imageBytes sectionBytes entriesOf partOf
   flat-is =
       let l = locks-are t (shown (lineOf area) n lines) in
       let w = writes-are t (shown (lineOf area) n lines) in
       rw (sizes .defaults, sizes .locks ∙ l .1, sizes .writes ∙ w .1, l .0, w .0) (simp append-assoc)
 
-  flat-long : length flat ≡ z .bytes + 10
+  flat-long : length flat ≡ z .bytes + 18
   flat-long =
       omega (
         arith,
         sizes .bytes,
-        length-append (digits 4 t) (digits 2 (z .defaults) ++ (rowsOf ++ (digits 2 (z .locks) ++ (locksIn ++ (digits 2 (z .writes) ++ writesIn))))),
+        length-append (digits 4 t) (digits 8 floor ++ (digits 2 (z .defaults) ++ (rowsOf ++ (digits 2 (z .locks) ++ (locksIn ++ (digits 2 (z .writes) ++ writesIn)))))),
+        length-append (digits 8 floor) (digits 2 (z .defaults) ++ (rowsOf ++ (digits 2 (z .locks) ++ (locksIn ++ (digits 2 (z .writes) ++ writesIn))))),
         length-append (digits 2 (z .defaults)) (rowsOf ++ (digits 2 (z .locks) ++ (locksIn ++ (digits 2 (z .writes) ++ writesIn)))),
         length-append rowsOf (digits 2 (z .locks) ++ (locksIn ++ (digits 2 (z .writes) ++ writesIn))),
         length-append (digits 2 (z .locks)) (locksIn ++ (digits 2 (z .writes) ++ writesIn)),
         length-append locksIn (digits 2 (z .writes) ++ writesIn),
         length-append (digits 2 (z .writes)) writesIn,
         length-digits 4 t,
+        length-digits 8 floor,
         length-digits 2 (z .defaults),
         length-digits 2 (z .locks),
         length-digits 2 (z .writes),
       )
 
-  pub image-long : length (imageBytes (entriesIn lines n area t)) ≡ z .bytes + 10
+  pub image-long : length (imageBytes (entriesIn floor lines n area t)) ≡ z .bytes + 18
   image-long = ap length (sym flat-is) ∙ flat-long
 
 -- ---- one section after the other
 
-module _ {lines : List Slot} {n : ℕ} {area : Bytes} {t : ℕ} {z : Sizes} {s : Bytes} (q : ImageAsks lines n area t z s) {a b : ℕ} {u v : Bytes} (one : Laid 0 4 (digits 4 t) s a u) (two : Laid a 2 (digits 2 (z .defaults)) u b v) where
-  pub defaults-asked : SectionAsks lines n area (allBytes defaultBytes (rowsIn lines n area t)) (take (length v - b) (drop b v))
-  defaults-asked = record { lined = q .lined; room = omega (arith, q .room, q .sizes .bytes, one .next, one .length-is, two .next, two .length-is, rest-long v b) }
-
+module _ {lines : List Slot} {n : ℕ} {area : Bytes} {t : ℕ} {z : Sizes} {s : Bytes} (q : ImageAsks lines n area t z s) (floor : ℕ) {a c b : ℕ} {u x v : Bytes} (one : Laid 0 4 (digits 4 t) s a u)
+    (floored : Laid a 8 (digits 8 floor) u c x) (two : Laid c 2 (digits 2 (z .defaults)) x b v) where
   module _ {k d : ℕ} {part w : Bytes} (three : Laid 0 (length (allBytes defaultBytes (rowsIn lines n area t))) (allBytes defaultBytes (rowsIn lines n area t)) (take (length v - b) (drop b v)) k part)
       (four : Laid (b + k) 2 (digits 2 (z .locks)) (putMid b (length v - b) v part) d w) where
     rows-laid : Laid b (length (allBytes defaultBytes (rowsIn lines n area t))) (allBytes defaultBytes (rowsIn lines n area t)) v (b + k) (putMid b (length v - b) v part)
@@ -128,55 +128,55 @@ module _ {lines : List Slot} {n : ℕ} {area : Bytes} {t : ℕ} {z : Sizes} {s :
     lines-asked = record {
       lined = q .lined;
       place = q .sizes .held;
-      room = omega (arith, q .room, q .sizes .held, q .sizes .bytes, one .next, one .length-is, two .next, two .length-is, rows-laid .next, rows-laid .length-is, four .next, four .length-is, rest-long w d);
+      room = omega (arith, q .room, q .sizes .held, q .sizes .bytes, one .next, one .length-is, floored .next, floored .length-is, two .next, two .length-is, rows-laid .next, rows-laid .length-is, four .next, four .length-is, rest-long w d);
     }
 
     module _ {k2 : ℕ} {part2 : Bytes} (five : Laid 0 (length (linesBytes lines n area t (z .writes))) (linesBytes lines n area t (z .writes)) (take (length w - d) (drop d w)) k2 part2) where
-      pub image-laid : Laid 0 (length (imageBytes (entriesIn lines n area t))) (imageBytes (entriesIn lines n area t)) s (d + k2) (putMid d (length w - d) w part2)
-      image-laid = laid-as (laid-then one (laid-then two (laid-then rows-laid (laid-then four (laid-lent w d (omega (arith, four .within, four .length-is)) five))))) (flat-is (q .sizes))
+      pub image-laid : Laid 0 (length (imageBytes (entriesIn floor lines n area t))) (imageBytes (entriesIn floor lines n area t)) s (d + k2) (putMid d (length w - d) w part2)
+      image-laid = laid-as (laid-then one (laid-then floored (laid-then two (laid-then rows-laid (laid-then four (laid-lent w d (omega (arith, four .within, four .length-is)) five)))))) (flat-is floor (q .sizes))
 
-      pub image-fits : d + k2 ≤ 2097162
-      image-fits = omega (arith, image-laid .next, image-long (q .sizes), q .sizes .small)
+      pub image-fits : d + k2 ≤ 2097170
+      image-fits = omega (arith, image-laid .next, image-long floor (q .sizes), q .sizes .small)
 
 -- ---- the answer
 
 module _ (st : Store) (area : Bytes) (t : ℕ) (out : Bytes) where
   -- "a zero table number 3"
-  pub captured-zero : t ≡ 0 → {r : Wrote} → r ≡ record { answer = No 3; count = 0 } → WroteAs (captureImage t (boxOf st area) out) r out
+  pub captured-zero : t ≡ 0 → {r : Wrote} → r ≡ record { answer = No 3; count = 0 } → WroteAs (captureImage (st .floor) t (boxOf st area) out) r out
   unfolding captureImage captureIf
   captured-zero e {r} p =
-      subst (λ (b : Bool). WroteAs (captureIf (not b) (imageOf t (boxOf st area)) out) r out) (sym (eq-eqb t 0 e))
+      subst (λ (b : Bool). WroteAs (captureIf (not b) (imageOf (st .floor) t (boxOf st area)) out) r out) (sym (eq-eqb t 0 e))
       (record { answer-is = answered (ap (λ (x : Wrote). x .answer) p); count-is = ap (λ (x : Wrote). x .count) p; out-is = refl })
 
   module _ (h : t ≡ 0 → ⊥) {z : Sizes} (sizes : SizesAre (st .lines) (st .load .lines) area t z) where
-    length-is : length (imageOf t (boxOf st area)) ≡ z .bytes + 10
+    length-is : length (imageOf (st .floor) t (boxOf st area)) ≡ z .bytes + 18
     unfolding imageOf
-    length-is = image-long sizes
+    length-is = image-long (st .floor) sizes
 
-    by : (b : Bool) → leb (length (imageOf t (boxOf st area))) (length out) ≡ b → {r : Wrote} {out′ : Bytes} → WroteAs (writeIf b (imageOf t (boxOf st area)) out) r out′ → WroteAs (captureImage t (boxOf st area) out) r out′
+    by : (b : Bool) → leb (length (imageOf (st .floor) t (boxOf st area))) (length out) ≡ b → {r : Wrote} {out′ : Bytes} → WroteAs (writeIf b (imageOf (st .floor) t (boxOf st area)) out) r out′ → WroteAs (captureImage (st .floor) t (boxOf st area) out) r out′
     unfolding captureImage captureIf
     by b e {r} {out′} p =
-        subst (λ (x : Bool). WroteAs (captureIf (not x) (imageOf t (boxOf st area)) out) r out′) (sym (ne-eqb t 0 h))
-        (subst (λ (x : Bool). WroteAs (writeIf x (imageOf t (boxOf st area)) out) r out′) (sym e) p)
+        subst (λ (x : Bool). WroteAs (captureIf (not x) (imageOf (st .floor) t (boxOf st area)) out) r out′) (sym (ne-eqb t 0 h))
+        (subst (λ (x : Bool). WroteAs (writeIf x (imageOf (st .floor) t (boxOf st area)) out) r out′) (sym e) p)
 
     -- "then a short buffer 12"
-    pub captured-short : length out < z .bytes + 10 → {r : Wrote} → r ≡ record { answer = No 12; count = 0 } → WroteAs (captureImage t (boxOf st area) out) r out
+    pub captured-short : length out < z .bytes + 18 → {r : Wrote} → r ≡ record { answer = No 12; count = 0 } → WroteAs (captureImage (st .floor) t (boxOf st area) out) r out
     unfolding writeIf
     captured-short l p =
-        by false (lt-leb (length (imageOf t (boxOf st area))) (length out) (omega (arith, length-is)))
+        by false (lt-leb (length (imageOf (st .floor) t (boxOf st area))) (length out) (omega (arith, length-is)))
         (record { answer-is = answered (ap (λ (x : Wrote). x .answer) p); count-is = ap (λ (x : Wrote). x .count) p; out-is = refl })
 
     -- what is written is the image
-    pub put-front : {m : ℕ} {out′ : Bytes} → Laid 0 (length (imageBytes (entriesIn (st .lines) (st .load .lines) area t))) (imageBytes (entriesIn (st .lines) (st .load .lines) area t)) out m out′ → take m out′ ≡ imageOf t (boxOf st area)
+    pub put-front : {m : ℕ} {out′ : Bytes} → Laid 0 (length (imageBytes (entriesIn (st .floor) (st .lines) (st .load .lines) area t))) (imageBytes (entriesIn (st .floor) (st .lines) (st .load .lines) area t)) out m out′ → take m out′ ≡ imageOf (st .floor) t (boxOf st area)
     unfolding imageOf
     put-front x = laid-front x
 
-    pub captured-put : z .bytes + 10 ≤ length out → {m : ℕ} {out′ : Bytes} → Laid 0 (length (imageBytes (entriesIn (st .lines) (st .load .lines) area t))) (imageBytes (entriesIn (st .lines) (st .load .lines) area t)) out m out′
-        → WroteAs (captureImage t (boxOf st area) out) (record { answer = Accepted; count = m }) out′
+    pub captured-put : z .bytes + 18 ≤ length out → {m : ℕ} {out′ : Bytes} → Laid 0 (length (imageBytes (entriesIn (st .floor) (st .lines) (st .load .lines) area t))) (imageBytes (entriesIn (st .floor) (st .lines) (st .load .lines) area t)) out m out′
+        → WroteAs (captureImage (st .floor) t (boxOf st area) out) (record { answer = Accepted; count = m }) out′
     unfolding writeIf imageOf
     captured-put l {m} x =
-        by true (le-leb (length (imageOf t (boxOf st area))) (length out) (omega (arith, length-is)))
-        (record { answer-is = answered refl; count-is = all; out-is = x .is ∙ ap (λ (k : ℕ). imageOf t (boxOf st area) ++ drop k out) all })
+        by true (le-leb (length (imageOf (st .floor) t (boxOf st area))) (length out) (omega (arith, length-is)))
+        (record { answer-is = answered refl; count-is = all; out-is = x .is ∙ ap (λ (k : ℕ). imageOf (st .floor) t (boxOf st area) ++ drop k out) all })
       where
-        all : m ≡ length (imageBytes (entriesIn (st .lines) (st .load .lines) area t))
+        all : m ≡ length (imageBytes (entriesIn (st .floor) (st .lines) (st .load .lines) area t))
         all = omega (arith, x .next)

@@ -1,4 +1,5 @@
--- Document 02's sentence on a written image, carried to stores: of a made store, whose area holds bytes, it restores to the table's part.
+-- Document 02's sentence on a written image, carried to stores: of a made store, whose area holds bytes, it restores to the table's part and the
+-- floor.
 -- Assumes nothing.
 use Prim.Native.Nat.{ℕ, zero, suc, _+_, _<_}
 use native.Mathlib.Omega.{arith}
@@ -13,9 +14,10 @@ use Rattle.rules.specs.declared.answers.Answer.the-variants.{Accepted, No}
 use Rattle.rules.specs.declared.records.Kind.{Kind}
 use Rattle.rules.specs.declared.records.Kind.the-variants.{Put, Delete, Rollback}
 use Rattle.rules.specs.Box as box
-use Rattle.rules.specs.Box.{Box, startOf, kindIn, putIn, insertBy}
+use Rattle.rules.specs.Box.{startOf, kindIn, putIn, insertBy}
 use Rattle.rules.specs.Room.{Fits, loadOf, roomFor}
 use Rattle.rules.specs.declared.written.Wrote.{Wrote}
+use Rattle.rules.specs.Calls.{State}
 use Rattle.rules.specs.Restore.{restore}
 use Rattle.rules.specs.Capture.{partOf, imageOf, Word, LineWords, Words}
 use Rattle.rules.proofs.RoomLaws.{fits-in}
@@ -73,7 +75,7 @@ module _ (area : Bytes) (g : AllBytes area) where
 
 -- ---- stores
 
-module _ {st : Store} {area : Bytes} (m : Made st area) (g : AllBytes area) where
+module _ {st : Store} {area : Bytes} (m : Made st area) (g : AllBytes area) (f : Word (st .floor)) where
   words : Words (boxOf st area)
   unfolding shown
   words = record {
@@ -81,18 +83,21 @@ module _ {st : Store} {area : Bytes} (m : Made st area) (g : AllBytes area) wher
     defaults = row-words area g (take (st .load .lines) (st .lines));
   }
 
-  pub made-stored : Stored (boxOf st area)
+  pub made-stored : Stored (st .floor) (boxOf st area)
   unfolding roomFor
   made-stored = record {
     tidy = built-tidy (m .built);
     order = m .built .kept .sorted;
     room = fits-in (loadOf (boxOf st area)) (subst Fits (m .built .kept .load-is) (m .fit));
     words = words;
+    above = m .above;
+    floor-word = f;
   }
 
   -- "Restoring what was written gives that table's part of the store"
-  pub written-restores : (t : ℕ) → TableNumber t → {s : Bytes} → s ≡ imageOf t (boxOf st area) → (old : Box) → restore s old ≡ record { answer = Accepted; box = partOf t (boxOf st area) }
-  written-restores t n e old = ap (λ (s : Bytes). restore s old) e ∙ capture-restores t n (boxOf st area) made-stored old
+  pub written-restores : (t : ℕ) → TableNumber t → {s : Bytes} → s ≡ imageOf (st .floor) t (boxOf st area)
+      → (old : State) → restore s old ≡ record { answer = Accepted; state = record { box = partOf t (boxOf st area); floor = st .floor } }
+  written-restores t n e old = ap (λ (s : Bytes). restore s old) e ∙ capture-restores (st .floor) t n (boxOf st area) made-stored old
 
 -- a refusal wrote nothing
 pub refused : (n : ℕ) {r : Wrote} → r ≡ record { answer = No n; count = 0 } → r .answer ≡ Accepted → ⊥

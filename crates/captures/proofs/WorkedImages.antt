@@ -1,4 +1,4 @@
--- Document 02, CR 1, worked: what the definition writes of some boxes, and what the call answers; the list of those which differ is empty.
+-- Document 02, CR 1 and CR 7, worked: what the definition writes of some boxes, and what the call answers; the list of those which differ is empty.
 -- Keys and numbers as in rules/proofs/Worked: a = 00 00 00 01 61, row 00 00 00, transaction 7, time to live 1; c is a key of table 2.
 -- Assumes nothing.
 use Prim.Native.Nat.{ℕ}
@@ -51,35 +51,40 @@ pieceC = 5 ∷ 0 ∷ 0 ∷ 0 ∷ 2 ∷ 99 ∷ []
 pieceRow : Bytes
 pieceRow = 3 ∷ 0 ∷ 0 ∷ 0 ∷ []
 
+-- a table number of one byte, and a floor
+head : ℕ → ℕ → Bytes
+head t f = 0 ∷ 0 ∷ 0 ∷ t ∷ eight f
+
 -- number, count, and the buffer
 saw : Written → List ℕ
 saw w = number (w .answer) ∷ w .count ∷ w .buffer
 
 pub imageTable : List Case
 imageTable =
-    record { name = "a fresh store"; got = imageOf 1 fresh; wanted = 0 ∷ 0 ∷ 0 ∷ 1 ∷ 0 ∷ 0 ∷ 0 ∷ 0 ∷ 0 ∷ 0 ∷ [] } ∷
+    record { name = "a fresh store"; got = imageOf 0 1 fresh; wanted = head 1 0 ++ (0 ∷ 0 ∷ 0 ∷ 0 ∷ 0 ∷ 0 ∷ []) } ∷
+    record { name = "a floor"; got = imageOf 9 1 fresh; wanted = head 1 9 ++ (0 ∷ 0 ∷ 0 ∷ 0 ∷ 0 ∷ 0 ∷ []) } ∷
     record {
       name = "rows by start, writes by stamp";
-      got = imageOf 1 crossed;
+      got = imageOf 0 1 crossed;
       wanted =
-          (0 ∷ 0 ∷ 0 ∷ 1 ∷ 0 ∷ 2 ∷ []) ++ pieceA ++ eight 5 ++ pieceRow ++ pieceA ++ eight 6 ++ pieceRow ++ (0 ∷ 0 ∷ 0 ∷ 2 ∷ [])
+          head 1 0 ++ (0 ∷ 2 ∷ []) ++ pieceA ++ eight 5 ++ pieceRow ++ pieceA ++ eight 6 ++ pieceRow ++ (0 ∷ 0 ∷ 0 ∷ 2 ∷ [])
           ++ pieceA ++ eight 10 ++ eight 6 ++ eight 10 ++ (1 ∷ []) ++ pieceA ++ eight 20 ++ eight 5 ++ eight 20 ++ (1 ∷ []);
     } ∷
     record {
       name = "a primary of another table";
-      got = imageOf 1 mixed;
-      wanted = (0 ∷ 0 ∷ 0 ∷ 1 ∷ 0 ∷ 0 ∷ 0 ∷ 1 ∷ []) ++ pieceA ++ eight 7 ++ pieceC ++ eight 3 ++ eight 1 ++ (2 ∷ 0 ∷ 0 ∷ []);
+      got = imageOf 2 1 mixed;
+      wanted = head 1 2 ++ (0 ∷ 0 ∷ 0 ∷ 1 ∷ []) ++ pieceA ++ eight 7 ++ pieceC ++ eight 3 ++ eight 1 ++ (2 ∷ 0 ∷ 0 ∷ []);
     } ∷
     record {
-      name = "the other table";
-      got = imageOf 2 mixed;
-      wanted = (0 ∷ 0 ∷ 0 ∷ 2 ∷ 0 ∷ 1 ∷ []) ++ pieceC ++ eight 4 ++ pieceRow ++ (0 ∷ 0 ∷ 0 ∷ 1 ∷ []) ++ pieceC ++ eight 9 ++ eight 4 ++ eight 9 ++ (1 ∷ []);
+      name = "the other table, with the same floor";
+      got = imageOf 2 2 mixed;
+      wanted = head 2 2 ++ (0 ∷ 1 ∷ []) ++ pieceC ++ eight 4 ++ pieceRow ++ (0 ∷ 0 ∷ 0 ∷ 1 ∷ []) ++ pieceC ++ eight 9 ++ eight 4 ++ eight 9 ++ (1 ∷ []);
     } ∷
-    record { name = "table 0 and an empty buffer"; got = saw (captureImage 0 crossed []); wanted = 3 ∷ 0 ∷ [] } ∷
-    record { name = "a buffer that is one byte short"; got = saw (captureImage 1 fresh (eight 8 ++ (9 ∷ []))); wanted = 12 ∷ 0 ∷ eight 8 ++ (9 ∷ []) } ∷
-    record { name = "a longer buffer"; got = saw (captureImage 1 fresh (eight 8 ++ (9 ∷ 9 ∷ 9 ∷ []))); wanted = 0 ∷ 10 ∷ 0 ∷ 0 ∷ 0 ∷ 1 ∷ 0 ∷ 0 ∷ 0 ∷ 0 ∷ 0 ∷ 0 ∷ 9 ∷ [] } ∷
+    record { name = "table 0 and an empty buffer"; got = saw (captureImage 0 0 crossed []); wanted = 3 ∷ 0 ∷ [] } ∷
+    record { name = "a buffer that is one byte short"; got = saw (captureImage 0 1 fresh (eight 8 ++ eight 8 ++ (9 ∷ []))); wanted = 12 ∷ 0 ∷ eight 8 ++ eight 8 ++ (9 ∷ []) } ∷
+    record { name = "a longer buffer"; got = saw (captureImage 0 1 fresh (eight 8 ++ eight 8 ++ (9 ∷ 9 ∷ 9 ∷ []))); wanted = 0 ∷ 18 ∷ head 1 0 ++ (0 ∷ 0 ∷ 0 ∷ 0 ∷ 0 ∷ 0 ∷ 9 ∷ []) } ∷
     []
 
 pub image-worked : differing imageTable ≡ []
-unfolding keyC stored locked wrote crossed mixed eight pieceA pieceC pieceRow saw imageTable keyA row nameUnless differing cmp eqBytes numberFrom digits tableOf keyForm fresh keepIf locksOf lockBytes keyLockBytes allBytes writeIf those partOf writesOf entriesOf defaultBytes recordBytes writeBytes sectionBytes imageBytes imageOf captureIf captureImage
+unfolding keyC stored locked wrote crossed mixed eight head pieceA pieceC pieceRow saw imageTable keyA row nameUnless differing cmp eqBytes numberFrom digits tableOf keyForm fresh keepIf locksOf lockBytes keyLockBytes allBytes writeIf those partOf writesOf entriesOf defaultBytes recordBytes writeBytes sectionBytes imageBytes imageOf captureIf captureImage
 image-worked = refl

@@ -41,4 +41,4 @@ pub record LinesAsk (lines : List Slot) (n : ℕ) (area : Bytes) (t w writes : �
 pub record ImageAsks (lines : List Slot) (n : ℕ) (area : Bytes) (t : ℕ) (z : Sizes) (out : Bytes) : Type 0 where
   pub lined : Lined lines n area
   pub sizes : SizesAre lines n area t z
-  pub room : z .bytes + 10 ≤ length out
+  pub room : z .bytes + 18 ≤ length out

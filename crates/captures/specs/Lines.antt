@@ -92,5 +92,5 @@ rowsIn lines n area t = those (rowOfTable t) (stored (shown (defaultIn area) n l
 abbrev pub linesBytes : List Slot → ℕ → Bytes → ℕ → ℕ → Bytes
 linesBytes lines n area t writes = allBytes entryBytes (linesIn lines n area t Locks) ++ (digits 2 writes ++ allBytes entryBytes (linesIn lines n area t Writes))
 
-abbrev pub entriesIn : List Slot → ℕ → Bytes → ℕ → Image
-entriesIn lines n area t = entriesOf t (boxIn lines n area)
+abbrev pub entriesIn : ℕ → List Slot → ℕ → Bytes → ℕ → Image
+entriesIn floor lines n area t = entriesOf floor t (boxIn lines n area)

@@ -1,5 +1,5 @@
 -- What the writer of an image promises: the definition's answer, count and buffer; and document 02's "Restoring what was written gives that
--- table's part of the store", of the bytes that it wrote. Assumes nothing.
+-- table's part of the store", of the bytes that it wrote, with the floor that stands in them. Assumes nothing.
 use Prim.Native.Nat.{ℕ}
 use mathlib.Core.Path.{_≡_}
 use lib.ListN.{take}
@@ -8,6 +8,7 @@ use Rattle.rules.specs.declared.answers.Answer.the-variants.{Accepted}
 use Rattle.rules.specs.declared.written.Wrote.{Wrote}
 use Rattle.rules.specs.Box.{Box}
 use Rattle.rules.specs.Written.{WroteAs}
+use Rattle.rules.specs.Calls.{State}
 use Rattle.rules.specs.Restore.{restore}
 use Rattle.rules.specs.Capture.{partOf, captureImage}
 
@@ -15,7 +16,7 @@ use Rattle.rules.specs.Capture.{partOf, captureImage}
 abbrev pub imageIn : Wrote → Bytes → Bytes
 imageIn r out = take (r .count) out
 
-pub record ImageWritten (t : ℕ) (b : Box) (buffer : Bytes) (r : Wrote) (out : Bytes) : Type 0 where
-  pub captured : WroteAs (captureImage t b buffer) r out
-  -- into whatever box
-  pub restores : r .answer ≡ Accepted → (old : Box) → restore (imageIn r out) old ≡ record { answer = Accepted; box = partOf t b }
+pub record ImageWritten (floor t : ℕ) (b : Box) (buffer : Bytes) (r : Wrote) (out : Bytes) : Type 0 where
+  pub captured : WroteAs (captureImage floor t b buffer) r out
+  -- into whatever store
+  pub restores : r .answer ≡ Accepted → (old : State) → restore (imageIn r out) old ≡ record { answer = Accepted; state = record { box = partOf t b; floor = floor } }

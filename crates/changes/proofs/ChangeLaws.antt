@@ -62,7 +62,7 @@ module _ {st : Store} {area : Bytes} (b : Built st area) {area′ : Bytes} {top�
     -- a line comes at i
     pub line-in : {i : ℕ} → l .lines ≡ n + 1 → i ≤ n → n < 1024 → noneLike likeLine e es ≡ true → box.insertLine e es ≡ insertAt i e es → addIf (carries e r) (boxOf st area .defaults) ≡ ds
         → Tallied (record { lines = box.insertLine e es; defaults = ds }) l
-        → Leaves (record { lines = box.insertLine e es; defaults = ds }) top′ (record { lines = inserted i n s (st .lines); load = l; top = top′ }) area′
+        → Leaves (record { lines = box.insertLine e es; defaults = ds }) top′ (record { lines = inserted i n s (st .lines); load = l; top = top′; floor = st .floor }) area′
     unfolding shown
     line-in {i} m h room once place q k =
         let length-is : n < length (st .lines) = omega (arith, b .lines .length-is) in
@@ -77,7 +77,7 @@ module _ {st : Store} {area : Bytes} (b : Built st area) {area′ : Bytes} {top�
 
     -- the line at i goes, and this one stands before what was at j
     pub line-over : {i j : ℕ} → l .lines ≡ n → i < j → j ≤ n → noneLike likeLine e (removeAt i es) ≡ true → {es′ : List box.KeyLine} → es′ ≡ moveTo i j e es → addIf (carries e r) (stored (removeAt i os)) ≡ ds
-        → Tallied (record { lines = es′; defaults = ds }) l → Leaves (record { lines = es′; defaults = ds }) top′ (record { lines = moveTo i j s (st .lines); load = l; top = top′ }) area′
+        → Tallied (record { lines = es′; defaults = ds }) l → Leaves (record { lines = es′; defaults = ds }) top′ (record { lines = moveTo i j s (st .lines); load = l; top = top′; floor = st .floor }) area′
     unfolding shown
     line-over {i} {j} m h g once place q k =
         shows-box (p .length-is ∙ b .area-long) high

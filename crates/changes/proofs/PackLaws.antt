@@ -24,6 +24,7 @@ use Rattle.store.specs.View.{placeOf, Pairs, sizeOf, lineOf, carries, defaultIn
 use Rattle.store.specs.Made.{SlotBelow, Tallied, Made}
 use Rattle.forms.proofs.WriterLaws.{bytes-long, laid-kept, laid-stands}
 use Rattle.store.proofs.NeedLaws.{area-enough}
+use Rattle.store.proofs.FloorLaws.{above-same}
 use Rattle.changes.specs.Changes.{Leaves}
 use Rattle.changes.specs.Packs.{PackAsks, Packed, Repacked}
 use Rattle.changes.proofs.StretchLaws.{SameBytes, slot-same, row-same, slot-kept, default-kept}
@@ -44,6 +45,7 @@ pub record Packing (st : Store) (area : Bytes) (n i at : ℕ) (l : Store) (into 
   pub length-is : length into ≡ 68608
   pub room : at + at + sumOf sizeOf (drop i (take n (st .lines))) + (n - i) ≤ 68608
   pub load-is : l .load ≡ st .load
+  pub floor-is : l .floor ≡ st .floor
   pub table-is : length (l .lines) ≡ 1024
   pub holds : All (SlotBelow (at + at)) (take i (l .lines))
   pub rest : drop i (l .lines) ≡ drop i (st .lines)
@@ -58,6 +60,7 @@ module _ {st : Store} {area into₀ : Bytes} (asks : PackAsks st area into₀) w
     length-is = asks .length-is;
     room = omega (arith, asks .room, asks .table .count-fits);
     load-is = refl;
+    floor-is = refl;
     table-is = asks .table .length-is;
     holds = tt;
     rest = refl;
@@ -72,7 +75,7 @@ module _ {st : Store} {area into₀ : Bytes} (asks : PackAsks st area into₀) w
     abbrev n : ℕ
     n = st .load .lines
 
-    pub packing-end : n ≤ i → Packed st area (record { lines = l .lines; load = l .load; top = at + at }) into
+    pub packing-end : n ≤ i → Packed st area (record { lines = l .lines; load = l .load; top = at + at; floor = l .floor }) into
     packing-end h =
         let e : i ≡ n = omega (arith, v .low) in
         record {
@@ -86,6 +89,7 @@ module _ {st : Store} {area into₀ : Bytes} (asks : PackAsks st area into₀) w
           lines = subst (λ (m : ℕ). shown (lineOf into) m (l .lines) ≡ shown (lineOf area) m (st .lines)) e (v .lines);
           rows = subst (λ (m : ℕ). shown (defaultIn into) m (l .lines) ≡ shown (defaultIn area) m (st .lines)) e (v .rows);
           load-is = v .load-is;
+          floor-is = v .floor-is;
           top-most = omega (arith, v .room);
         }
 
@@ -135,13 +139,14 @@ module _ {st : Store} {area into₀ : Bytes} (asks : PackAsks st area into₀) w
         default : defaultIn into′ t ≡ defaultIn area s
         default = ap₂ carries line (row-same (s .at) at same (s .len) (s .line) (omega arith) true (s .used))
 
-        go : Packing st area n (i + 1) next (record { lines = set (l .lines) i t; load = l .load; top = l .top }) into′
+        go : Packing st area n (i + 1) next (record { lines = set (l .lines) i t; load = l .load; top = l .top; floor = l .floor }) into′
         unfolding shown
         go = record {
           low = omega arith;
           length-is = w .length-is ∙ v .length-is;
           room = omega (arith, v .room, sum-next, ap (λ (m : ℕ). sumOf sizeOf (drop m (take n (st .lines)))) (add-one i), near .fewest, h);
           load-is = v .load-is;
+          floor-is = v .floor-is;
           table-is = length-set (l .lines) i t ∙ v .table-is;
           holds =
               subst (All (SlotBelow (next + next))) (sym (ap (λ (m : ℕ). take m (set (l .lines) i t)) (add-one i) ∙ take-suc-set (l .lines) i t inside′))
@@ -166,7 +171,7 @@ module _ {st : Store} {area into₀ : Bytes} (asks : PackAsks st area into₀) w
 
       pub packing-more : {into′ : Bytes} {from size : ℕ} → from ≡ placeOf (getD (l .lines) i noSlot) → size ≡ sizeOf (getD (l .lines) i noSlot) → {r : ℕ} → Laid (at + at) (length (bytesAt area from (from + size - from))) (bytesAt area from (from + size - from)) into r into′
           → {next : ℕ} → Pairs r next
-          → Packing st area (st .load .lines) (i + 1) next (record { lines = set (l .lines) i (record { at = at; len = getD (l .lines) i noSlot .len; used = true; line = getD (l .lines) i noSlot .line }); load = l .load; top = l .top }) into′
+          → Packing st area (st .load .lines) (i + 1) next (record { lines = set (l .lines) i (record { at = at; len = getD (l .lines) i noSlot .len; used = true; line = getD (l .lines) i noSlot .line }); load = l .load; top = l .top; floor = l .floor }) into′
       packing-more {into′} {from} {size} f q {r} w {next} near =
           let p : from + size - from ≡ size = omega arith in
           let u : size ≡ sizeOf s = q ∙ ap sizeOf as-was in
@@ -196,7 +201,7 @@ module _ {st : Store} {area : Bytes} (m : Made st area) where
       (ap (λ (n : ℕ). shown (lineOf area′) n (r .lines)) count ∙ shown-same (lineOf area′) (lineOf into) (SlotBelow (r .top)) (slot-kept into area′ (r .top) front) (st .load .lines) (r .lines) (p .table .holds) ∙ p .lines)
       (ap stored (ap (λ (n : ℕ). shown (defaultIn area′) n (r .lines)) count ∙ shown-same (defaultIn area′) (defaultIn into) (SlotBelow (r .top)) (default-kept into area′ (r .top) front) (st .load .lines) (r .lines) (p .table .holds) ∙ p .rows))
       (subst (Tallied (boxOf st area)) (sym (p .load-is)) (m .built .kept)) (omega arith) in
-      record { made = record { built = l .built; fit = rw (p .load-is) (m .fit) }; shown = l .shown; load-is = p .load-is; top-most = p .top-most }
+      record { made = record { built = l .built; fit = rw (p .load-is) (m .fit); above = above-same (p .floor-is) (l .shown) (m .above) }; shown = l .shown; load-is = p .load-is; floor-is = p .floor-is; top-most = p .top-most }
     where
       count : r .load .lines ≡ st .load .lines
       count = ap (λ (x : Load). x .lines) (p .load-is)

@@ -35,13 +35,15 @@ use Rattle.store.specs.declared.table.Line.the-variants.{Finished}
 use Rattle.store.specs.declared.table.Slot.{Slot}
 use Rattle.store.specs.declared.table.Store.{Store}
 use Rattle.store.specs.View.{Pairs, rowIf, lineOf, rowIn, carries, defaultIn, addIf, stored, boxOf, noSlot}
-use Rattle.store.specs.Made.{SlotBelow, Tallied}
+use Rattle.store.specs.Made.{SlotBelow, Tallied, storeOf}
 use Rattle.store.specs.Views.{lockIn}
 use Rattle.lookups.specs.KeyStates.{lockedBy, LockThere, IntentThere}
 use Rattle.store.proofs.StoredLaws.{row-none, row-out}
 use Rattle.forms.proofs.WriterLaws.{bytes-long}
 use Rattle.store.proofs.BuiltLaws.{lines-order}
+use Rattle.store.proofs.FloorLaws.{built-on}
 use Rattle.store.proofs.NeedLaws.{counted}
+use Rattle.lookups.proofs.LookUpLaws.{looked-on}
 use Rattle.changes.specs.declared.change.NewSlot.{NewSlot}
 use Rattle.changes.specs.declared.change.Change.{Change}
 use Rattle.changes.specs.declared.change.Change.the-variants.{Inserts}
@@ -139,6 +141,21 @@ module _ {st : Store} {area : Bytes} {seen : KeyState} {key : Key} {start stamp 
         ap₂ (λ (k : Key) (t : ℕ). box.dropRow k t ds) (ap (λ (f : box.KeyLine). f .key) (sym l)) (sym (ap (λ (f : box.KeyLine). startOf (f .line)) l ∙ own))
         ∙ row-out (lineOf area) (rowIn area) (take n (st .lines)) (seen .first) noSlot (omega (arith, length-take-le n (st .lines) (table-long (asks .built .lines)), first-in)) (asks .built .kept .once)
         ∙ ap stored (map-remove (defaultIn area) (seen .first) (take n (st .lines)))
+
+  -- the floor is none of it
+  pub asks-on : (floor : ℕ) → RecordAsks (storeOf (st .lines) (st .load) (st .top) floor) area seen key start stamp kind row
+  asks-on floor = record {
+    built = built-on floor (asks .built);
+    looked = looked-on floor (asks .looked);
+    own = asks .own;
+    fresh = asks .fresh;
+    free = asks .free;
+    form = asks .form;
+    row-fits = asks .row-fits;
+    sound = asks .sound;
+    slot-free = asks .slot-free;
+    area-room = asks .area-room;
+  }
 
   -- ---- what goes
 

@@ -60,8 +60,8 @@ ChangeAsks st (Replaces i c) = ReplaceAsks st i (c .to)
 
 abbrev pub changed : Store → Change → Store
 changed st Stays = st
-changed st (Inserts c) = record { lines = inserted (c .to) (st .load .lines) (c .slot) (st .lines); load = c .load; top = c .top }
-changed st (Replaces i c) = record { lines = moveTo i (c .to) (c .slot) (st .lines); load = c .load; top = c .top }
+changed st (Inserts c) = record { lines = inserted (c .to) (st .load .lines) (c .slot) (st .lines); load = c .load; top = c .top; floor = st .floor }
+changed st (Replaces i c) = record { lines = moveTo i (c .to) (c .slot) (st .lines); load = c .load; top = c .top; floor = st .floor }
 
 -- ---- a line's row
 

@@ -21,6 +21,7 @@ pub record Packed (st : Store) (area : Bytes) (r : Store) (into : Bytes) : Type 
   pub lines : shown (lineOf into) (st .load .lines) (r .lines) ≡ shown (lineOf area) (st .load .lines) (st .lines)
   pub rows : shown (defaultIn into) (st .load .lines) (r .lines) ≡ shown (defaultIn area) (st .load .lines) (st .lines)
   pub load-is : r .load ≡ st .load
+  pub floor-is : r .floor ≡ st .floor
   pub top-most : r .top ≤ 68608
 
 -- the same box, in no more than the worst need: 67,584 bytes, and one for each line that begins at a pair of bytes
@@ -28,4 +29,5 @@ pub record Repacked (st : Store) (area : Bytes) (r : Store) (area′ : Bytes) : 
   pub made : Made r area′
   pub shown : boxOf r area′ ≡ boxOf st area
   pub load-is : r .load ≡ st .load
+  pub floor-is : r .floor ≡ st .floor
   pub top-most : r .top ≤ 68608

@@ -2,7 +2,7 @@
 // top; where the slot goes is the change that comes back.
 ghost use mathlib.Core.Path.{_≡_};
 ghost use mathlib.Core.Option.{none};
-ghost use Prim.Native.Nat.{_+_, _≤_};
+ghost use Prim.Native.Nat.{ℕ, _+_, _≤_};
 ghost use lib.ListN.{length};
 ghost use Rattle.forms.specs.Readers.{when};
 ghost use Rattle.forms.specs.Row.{Row};
@@ -149,8 +149,8 @@ pub fn put_record(
     kind: Kind,
     row: &[u8],
 ) -> Change
-    requires { ⌜ RecordAsks (storeOf lines old top) (now area) seen (now key) start stamp kind (now row) ⌝ }
-    ensures { λ r. ⌜ (ChangeAsks (storeOf lines old top) r) × (Leaves (recordOver (now (key .entry)) (recordFor start stamp kind) (now (row .entry)) (boxOf (storeOf lines old top) (now (area .entry)))) (top + 1 + length (now (key .entry)) + 8 + 8 + length (now (row .entry))) (changed (storeOf lines old top) r) (now (area .exit))) ⌝ }
+    requires { ⌜ ((floor : ℕ) × RecordAsks (storeOf lines old top floor) (now area) seen (now key) start stamp kind (now row)) ⌝ }
+    ensures { λ r. ⌜ ((floor : ℕ) → (ChangeAsks (storeOf lines old top floor) r) × (Leaves (recordOver (now (key .entry)) (recordFor start stamp kind) (now (row .entry)) (boxOf (storeOf lines old top floor) (now (area .entry)))) (top + 1 + length (now (key .entry)) + 8 + 8 + length (now (row .entry))) (changed (storeOf lines old top floor) r) (now (area .exit)))) ⌝ }
 {
     let at = pairs_in(top);
     let end = append_record(area, at + at, key, stamp, start, row);

@@ -32,7 +32,7 @@ use Rattle.calls.proofs.AnswerLaws.{head-out, head-on, bad-batch, empty-batch, 
 use Rattle.commits.specs.Passes.{allDone}
 
 module _ {st : Store} {area : Bytes} (made : Made st area) (h : CommitTerms) {s : Bytes} {r : Entries} (d : Decoded (keyAt s) s (keys s) r)
-    {a : Answer} (e : a ≡ need (r .ok) 6 ▸ need (not (eqb (r .count) 0)) 5 ▸ commitTermsStep h) where
+    {a : Answer} (e : a ≡ need (r .ok) 6 ▸ need (not (eqb (r .count) 0)) 5 ▸ commitTermsStep (st .floor) h) where
   abbrev b : Box
   b = boxOf st area
 
@@ -42,26 +42,26 @@ module _ {st : Store} {area : Bytes} (made : Made st area) (h : CommitTerms) {s 
   abbrev rest : Answer
   rest = commitKeys h b ks
 
-  batch-is : commitBatch h s b ≡ settle (a ▸ rest) (applyCommits h ks b) b
+  batch-is : commitBatch (st .floor) h s b ≡ settle (a ▸ rest) (applyCommits h ks b) b
   unfolding commitBatch commitAll commitSteps need _▸_ settle
   batch-is = go (r .ok) (eqb (r .count) 0) refl refl ∙ ap (λ (x : Answer). settle (x ▸ rest) (applyCommits h ks b) b) (sym e)
     where
-      go : (t u : Bool) → r .ok ≡ t → eqb (r .count) 0 ≡ u → commitBatch h s b ≡ settle ((need t 6 ▸ need (not u) 5 ▸ commitTermsStep h) ▸ rest) (applyCommits h ks b) b
-      go false u p q = bad-batch d (commitSteps h) (applyCommits h) b (ap not p)
-      go true true p q = empty-batch d (commitSteps h) (applyCommits h) b (ap not p) (eqb-true _ _ q)
-      go true false p q = full-batch d (commitSteps h) (applyCommits h) b (ap not p) (eqb-false _ _ q)
+      go : (t u : Bool) → r .ok ≡ t → eqb (r .count) 0 ≡ u → commitBatch (st .floor) h s b ≡ settle ((need t 6 ▸ need (not u) 5 ▸ commitTermsStep (st .floor) h) ▸ rest) (applyCommits h ks b) b
+      go false u p q = bad-batch d (commitSteps (st .floor) h) (applyCommits h) b (ap not p)
+      go true true p q = empty-batch d (commitSteps (st .floor) h) (applyCommits h) b (ap not p) (eqb-true _ _ q)
+      go true false p q = full-batch d (commitSteps (st .floor) h) (applyCommits h) b (ap not p) (eqb-false _ _ q)
 
-  -- 6, 5 or 3
-  pub batch-refused : (a ≡ Accepted → ⊥) → Settled st area (commitBatch h s (boxOf st area)) (record { store = st; answer = a }) area
+  -- 6, 5, 3 or 14
+  pub batch-refused : (a ≡ Accepted → ⊥) → Settled st area (commitBatch (st .floor) h s (boxOf st area)) (record { store = st; answer = a }) area
   batch-refused n = settled-same made (batch-is ∙ head-out a rest (applyCommits h ks b) b n)
 
   module _ (p : a ≡ Accepted) where
-    pub batch-asks : (AllAsks st area s (r .count) (r .list)) × (commitTermsStep h ≡ Accepted)
+    pub batch-asks : (AllAsks st area s (r .count) (r .list)) × (commitTermsStep (st .floor) h ≡ Accepted)
     batch-asks =
         let q = sym e ∙ p in
         let ok : r .ok ≡ true = search passed in
         (record { made = made; form = keys-in-form d (denies _ ok) }, then-right (need (not (eqb (r .count) 0)) 5) _ (then-right (need (r .ok) 6) _ q))
 
-    pub batch-done : {t : Changed} {area′ : Bytes} → Settled st area (allDone h (shown (keyAt s) (r .count) (r .list)) (boxOf st area)) t area′ → Settled st area (commitBatch h s (boxOf st area)) t area′
+    pub batch-done : {t : Changed} {area′ : Bytes} → Settled st area (allDone h (shown (keyAt s) (r .count) (r .list)) (boxOf st area)) t area′ → Settled st area (commitBatch (st .floor) h s (boxOf st area)) t area′
     unfolding allDone
     batch-done {t} {area′} v = subst (λ (x : Done). Settled st area x t area′) (sym (batch-is ∙ head-on a rest (applyCommits h ks b) b p)) v

@@ -91,12 +91,12 @@ abbrev pub deedOf : CommitTerms → Action
 deedOf h = Commit (h .txn) (h .start) (h .commit)
 
 -- what each key asks in its turn, where all would pass
-pub ends-ready : (h : CommitTerms) (primary : Key) {s : Bytes} {n : ℕ} {es : List Entry} (b : Box) → commitTermsStep h ≡ Accepted → InForm s n es → commitKeys h b (shown (keyAt s) n es) ≡ Accepted → Ready (deedOf h) primary s (counted n es) b
-ends-ready h primary {s} {n} {es} b p form c =
+pub ends-ready : (floor : ℕ) (h : CommitTerms) (primary : Key) {s : Bytes} {n : ℕ} {es : List Entry} (b : Box) → commitTermsStep floor h ≡ Accepted → InForm s n es → commitKeys h b (shown (keyAt s) n es) ≡ Accepted → Ready (deedOf h) primary s (counted n es) b
+ends-ready floor h primary {s} {n} {es} b p form c =
     ready-all (changesOf h) (keyAt s) (deedOf h) primary s (λ e x. refl) one n es b (record { ascends = form .ascends; passed = sym (commitKeys-all h b (shown (keyAt s) n es)) ∙ c; is = refl })
   where
     one : {want : Box} (e : Entry) (rest : List Key) (x : Box) → Applying (changesOf h) want x (keyAt s e ∷ rest) → EntryReady (deedOf h) primary s e x
-    one e rest x v st area built q room = record { built = built; head = p; passed = ap (λ (y : Box). commitKey h y (keyAt s e)) q ∙ applying-passed v; area-room = room }
+    one e rest x v st area built q room = record { built = built; floor = floor; head = p; passed = ap (λ (y : Box). commitKey h y (keyAt s e)) q ∙ applying-passed v; area-room = room }
 
 -- ---- the ways out
 
@@ -149,7 +149,7 @@ module _ {st : Store} {area s : Bytes} {n : ℕ} {es : List Entry} (a : AllAsks 
           let z = load-fields (a .made .built .kept .load-is) in
           let m = commits-less h ks b in
           subst (λ (x : Answer). Settled st area (allDone h ks b) (record { store = t; answer = x }) area′) (sym (passes e))
-          (settled-new (record { built = w .built; fit = omega (arith, y, z, m, a .made .fit) })
+          (settled-new (record { built = w .built; fit = omega (arith, y, z, m, a .made .fit); above = w .above }) (w .floor-is)
           (done-is ∙ settle-new (v .answer) (applyCommits h ks b) b (passes e) ∙ ap (λ (c : Box). record { answer = Accepted; box = c }) (sym (same e)))
           (λ r. omega (arith, load-fields (ap loadOf (sym (same e) ∙ r)) .locks, some-fewer h b ks (pass-checked e) (and-right (isAccepted (v .answer)) _ (both e)))))
       go false e = settled-still (w .still (q ∙ ap (λ (x : Bool). onlyIf x n) e)) (a .made) (done-is ∙ stays-is e)

@@ -27,7 +27,7 @@ fn commit_all(
     n: usize,
     list: [Entry; 32],
 ) -> Changed
-    requires { ⌜ (AllAsks store (now area) (now batch) n list) × (commitTermsStep terms ≡ Accepted) ⌝ }
+    requires { ⌜ (AllAsks store (now area) (now batch) n list) × (commitTermsStep (store .floor) terms ≡ Accepted) ⌝ }
     ensures { λ r. ⌜ Settled store (now (area .entry)) (allDone terms (shown (keyAt (now (batch .entry))) n list) (boxOf store (now (area .entry)))) r (now (area .exit)) ⌝ }
 {
     let v = check_all(store, area, terms, batch, n, list);
@@ -46,7 +46,7 @@ fn commit_all(
     }
 }
 
-// "6, 5; 3; per key: .."
+// "6, 5; 3"; 14; "per key: .."
 pub fn commit_intents_batch(
     store: Store,
     area: &mut [u8; AREA],
@@ -56,7 +56,7 @@ pub fn commit_intents_batch(
     batch: &[u8],
 ) -> Changed
     requires { ⌜ Made store (now area) ⌝ }
-    ensures { λ r. ⌜ Settled store (now (area .entry)) (commitBatch (record { txn = txn; start = start; commit = commit }) (now (batch .entry)) (boxOf store (now (area .entry)))) r (now (area .exit)) ⌝ }
+    ensures { λ r. ⌜ Settled store (now (area .entry)) (commitBatch (store .floor) (record { txn = txn; start = start; commit = commit }) (now (batch .entry)) (boxOf store (now (area .entry)))) r (now (area .exit)) ⌝ }
 {
     let entries = forms::keys_of(batch);
     let n = entries.count;
@@ -65,7 +65,7 @@ pub fn commit_intents_batch(
         start: start,
         commit: commit,
     };
-    let answer = calls::batch_step(entries.ok, n, calls::commit_terms_step(terms));
+    let answer = calls::batch_step(entries.ok, n, calls::commit_terms_step(store.floor, terms));
     if !calls::accepted(answer) {
         return Changed {
             store: store,

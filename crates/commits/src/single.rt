@@ -18,7 +18,7 @@ pub fn commit_intent(
     key: &[u8],
 ) -> Changed
     requires { ⌜ Made store (now area) ⌝ }
-    ensures { λ r. ⌜ Settled store (now (area .entry)) (rule.commit (record { txn = txn; start = start; commit = commit }) (now (key .entry)) (boxOf store (now (area .entry)))) r (now (area .exit)) ⌝ }
+    ensures { λ r. ⌜ Settled store (now (area .entry)) (rule.commit (store .floor) (record { txn = txn; start = start; commit = commit }) (now (key .entry)) (boxOf store (now (area .entry)))) r (now (area .exit)) ⌝ }
 {
     let mut batch = [0u8; 258];
     let n = forms::one_key(&mut batch, key);

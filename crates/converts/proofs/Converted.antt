@@ -1,12 +1,12 @@
--- Document 02, CR 4, of what the converter writes: the same entries, each row with its count and in form; an old image that document 01's checks
--- let in is converted, unless a row is full; and a converted image that has a row is not converted again.
+-- Document 02, CR 4, of what the converter writes: the same entries with floor 0, each row with its count and in form; an old image that document
+-- 01's checks let in is converted, unless a row is full; and a converted image is not converted again.
 -- Assumes nothing.
 use Prim.Native.Nat.{ℕ, zero, suc, _+_, _≤_, _<_, _^_}
 use native.Mathlib.Omega.{arith}
 use mathlib.Core.Path.{_≡_, refl, sym, ap, _∙_, subst}
 use mathlib.Core.Bool.{Bool, true, false, not, _&&_, true≢false, false≢true}
-use mathlib.Core.List.{List, [], _∷_, map}
-use mathlib.Core.Option.{Option, some}
+use mathlib.Core.List.{List, [], _∷_, _++_, map}
+use mathlib.Core.Option.{Option, none, some}
 use lib.ListN.{length, take, drop, length-map}
 use lib.Seq.{length-take-le}
 use lib.Dec.{leb, eqb}
@@ -14,20 +14,18 @@ use borrow.Author.Tests.{le-leb, leb-true, eq-eqb}
 use Rattle.seqs.specs.Tables.{All}
 use Rattle.seqs.proofs.Tests.{and-left, and-right, and-both}
 use Rattle.forms.specs.Bytes.{Bytes, AllBytes}
-use Rattle.forms.specs.Readers.{Read, just, byte, stretch, piece, times, section, ended, whole, isSome}
-use Rattle.forms.specs.Numbers.{number, numberOf}
+use Rattle.forms.specs.Readers.{Read, Reader, just, byte, stretch, piece, times, section, ended, whole, isSome}
+use Rattle.forms.specs.Numbers.{number, digits, numberOf}
 use Rattle.forms.specs.Row.{Row, oldRowForm, rowForm}
-use Rattle.forms.proofs.NumberLaws.{power-pos, number-below, bytes-take, bytes-drop}
-use Rattle.forms.proofs.BoneLaws.{not-both}
+use Rattle.forms.proofs.NumberLaws.{length-digits, power-pos, number-below, bytes-take, bytes-drop}
 use Rattle.rules.specs.declared.answers.Answer.the-variants.{Accepted, No}
 use Rattle.rules.specs.Box.{Default}
 use Rattle.rules.specs.Written.{writeIf}
-use Rattle.rules.specs.Image.{Image, defaultFrom, imageFrom, image}
-use Rattle.rules.specs.Restore.{ofTable, allGood, noSecond, goodDefaultBy, goodLock, goodWrite, likeDefault, likeLock, likeWrite, hasDefault, goodImageBy}
+use Rattle.rules.specs.Image.{Image, defaultFrom, keyLockFrom, writeFrom, sectionsFrom, imageFrom, oldImageFrom, image, oldImage}
+use Rattle.rules.specs.Restore.{ofTable, allGood, goodDefaultBy, goodImageBy}
 use Rattle.rules.specs.Capture.{defaultBytes, Word, Few}
 use Rattle.rules.specs.Convert.{withCount, convertedBytes, converted, growing, convertible, convertIf, convertImage}
-use Rattle.laws.proofs.ImageBackLaws.{then-reads, number-back, default-back, section-back}
-use Rattle.images.proofs.TestLaws.{and-out, and-last}
+use Rattle.laws.proofs.ImageBackLaws.{then-reads, stretch-back, number-back, default-back, section-back}
 use Rattle.converts.proofs.ReadApartLaws.{restOr, gotOr, apart, Sectioned, sectioned, stretch-read, number-read, times-read}
 use Rattle.converts.proofs.GrownLaws.{converted-is}
 use Rattle.converts.proofs.RowGainsLaws.{row-gains}
@@ -82,7 +80,7 @@ count-words (d ∷ ds) a = (a .0, count-words ds (a .1))
 
 -- ---- what is written is read back: the same entries, each row with its count
 
-module _ (s : Bytes) (i : Image) (g : AllBytes s) (e : image s ≡ some i) where
+module _ (s : Bytes) (i : Image) (g : AllBytes s) (e : oldImage s ≡ some i) where
   abbrev v : Sectioned s i
   v = sectioned s i e
 
@@ -99,14 +97,15 @@ module _ (s : Bytes) (i : Image) (g : AllBytes s) (e : image s ≡ some i) where
       }
 
   pub converted-reads : image (convertedBytes s) ≡ some (converted i)
-  unfolding image whole ended imageFrom just converted
+  unfolding image whole ended imageFrom sectionsFrom just converted
   converted-reads =
       ap ended
       (ap imageFrom (converted-is v)
       ∙ then-reads _ _ _ (number-back 4 (i .table) _ (number-small 4 s _ g (v .table) .0))
-      (then-reads _ _ _ (section-back defaultFrom defaultBytes Started default-back (map withCount (i .defaults)) (v .rest) few) (then-reads _ _ _ (v .locks) (then-reads _ _ _ (v .writes) refl))))
+      (then-reads _ _ _ (number-back 8 0 _ (power-pos 8))
+      (then-reads _ _ _ (section-back defaultFrom defaultBytes Started default-back (map withCount (i .defaults)) (v .rest) few) (then-reads _ _ _ (v .locks) (then-reads _ _ _ (v .writes) refl)))))
 
--- ---- each row is in form, and in the old form no more
+-- ---- each row is in form
 
 row-short : (r : Row) → oldRowForm r ≡ true → not (eqb (length r) 255) ≡ true → length r ≤ 254
 unfolding oldRowForm
@@ -130,37 +129,33 @@ rows-in-form t (d ∷ ds) h g =
     and-both (goodDefaultBy rowForm t (withCount d)) _ (and-both (ofTable t (d .key) && not (eqb (d .start) 0)) _ (and-left _ (oldRowForm (d .row)) x) (gains t d x y))
     (rows-in-form t ds (and-right (goodDefaultBy oldRowForm t d) _ h) (and-right (growing d) _ g))
 
-rows-not-old : (t : ℕ) (ds : List Default) → (ds ≡ [] → ⊥) → allGood (goodDefaultBy oldRowForm t) ds ≡ true → allGood growing ds ≡ true → allGood (goodDefaultBy oldRowForm t) (map withCount ds) ≡ false
-unfolding allGood
-rows-not-old t [] n h g = absurd (n refl)
-rows-not-old t (d ∷ ds) n h g =
-    let x : goodDefaultBy oldRowForm t d ≡ true = and-left _ _ h in
-    let y : growing d ≡ true = and-left _ _ g in
-    and-out (goodDefaultBy oldRowForm t (withCount d)) _ (and-last (ofTable t (d .key) && not (eqb (d .start) 0)) _ (not-both (withCount d .row) (gains t d x y)))
-
 -- ---- which images are converted
 
-module _ (form : Row → Bool) (i : Image) where
-  rows-of : goodImageBy form i ≡ true → allGood (goodDefaultBy form (i .table)) (i .defaults) ≡ true
-  rows-of h = and-right (not (eqb (i .table) 0)) _ (and-left _ _ (and-left _ _ (and-left _ _ (and-left _ _ (and-left _ _ (and-left _ _ h))))))
-
-  bad-rows : allGood (goodDefaultBy form (i .table)) (i .defaults) ≡ false → goodImageBy form i ≡ false
-  bad-rows e =
-      and-out _ (allGood (hasDefault (i .defaults)) (i .writes)) (and-out _ (noSecond likeWrite (i .writes)) (and-out _ (noSecond likeLock (i .locks)) (and-out _ (noSecond likeDefault (i .defaults))
-      (and-out _ (allGood (goodWrite (i .table)) (i .writes)) (and-out _ (allGood (goodLock (i .table)) (i .locks)) (and-last (not (eqb (i .table) 0)) _ e))))))
-
 -- an old image that document 01's checks let in, without a 255-byte row, is converted where there is room
-pub sound-converts : (s buffer : Bytes) (i : Image) → image s ≡ some i → goodImageBy oldRowForm i ≡ true → allGood growing (i .defaults) ≡ true → length (convertedBytes s) ≤ length buffer → convertImage s buffer .answer ≡ Accepted
+pub sound-converts : (s buffer : Bytes) (i : Image) → oldImage s ≡ some i → goodImageBy oldRowForm i ≡ true → allGood growing (i .defaults) ≡ true → length (convertedBytes s) ≤ length buffer → convertImage s buffer .answer ≡ Accepted
 unfolding convertImage convertIf convertible writeIf
 sound-converts s buffer i e h g l =
     ap (λ (o : Option Image). convertIf (convertible o) (convertedBytes s) buffer .answer) e
     ∙ ap (λ (b : Bool). convertIf b (convertedBytes s) buffer .answer) (and-both (goodImageBy oldRowForm i) _ h g)
     ∙ ap (λ (b : Bool). writeIf b (convertedBytes s) buffer .answer) (le-leb (length (convertedBytes s)) (length buffer) l)
 
--- a converted image that has a row is refused by the converter
-pub converts-once : (s buffer : Bytes) (i : Image) → AllBytes s → image s ≡ some i → convertible (some i) ≡ true → (i .defaults ≡ [] → ⊥) → convertImage (convertedBytes s) buffer .answer ≡ No 13
-unfolding convertImage convertIf convertible converted
-converts-once s buffer i g e h n =
-    ap (λ (o : Option Image). convertIf (convertible o) (convertedBytes (convertedBytes s)) buffer .answer) (converted-reads s i g e)
-    ∙ ap (λ (b : Bool). convertIf b (convertedBytes (convertedBytes s)) buffer .answer)
-    (and-out _ _ (bad-rows oldRowForm (converted i) (rows-not-old (i .table) (i .defaults) n (rows-of oldRowForm i (and-left _ _ h)) (and-right (goodImageBy oldRowForm i) _ h))))
+-- a converted image is refused by the converter: the zero bytes of its floor read as three zero counts, and bytes are left over
+table-read : (t : ℕ) (u : Bytes) → numberOf 4 (digits 4 t ++ u) ≡ some (record { got = number (digits 4 t); rest = u })
+unfolding numberOf just
+table-read t u = then-reads _ _ _ (stretch-back 4 (digits 4 t) u (length-digits 4 t)) refl
+
+no-entries : {A : Type 0} (r : Reader A) (u : Bytes) → section (numberOf 2) r (0 ∷ 0 ∷ u) ≡ some (record { got = []; rest = u })
+unfolding section times just digits
+no-entries r u = then-reads _ _ _ (number-back 2 0 u (power-pos 2)) refl
+
+floor-left : (t : ℕ) (u : Bytes) → oldImage (digits 4 t ++ (digits 8 0 ++ u)) ≡ none
+unfolding oldImage whole ended oldImageFrom sectionsFrom just digits
+floor-left t u =
+    ap ended
+    (then-reads _ _ _ (table-read t (digits 8 0 ++ u))
+    (then-reads _ _ _ (no-entries defaultFrom _) (then-reads _ _ _ (no-entries keyLockFrom _) (then-reads _ _ _ (no-entries writeFrom (0 ∷ 0 ∷ u)) refl))))
+
+pub converts-once : (s buffer : Bytes) (i : Image) → oldImage s ≡ some i → convertImage (convertedBytes s) buffer .answer ≡ No 13
+unfolding convertImage convertIf convertible
+converts-once s buffer i e =
+    ap (λ (o : Option Image). convertIf (convertible o) (convertedBytes (convertedBytes s)) buffer .answer) (ap oldImage (converted-is (sectioned s i e)) ∙ floor-left (i .table) _)

@@ -44,7 +44,7 @@ counts-long (d ∷ ds) =
     omega (arith, counts-long ds, length-append (defaultBytes (withCount d)) (allBytes defaultBytes (map withCount ds)), length-append (defaultBytes d) (allBytes defaultBytes ds), default-long d, default-long (withCount d), length-append (d .row) (0 ∷ []))
 
 module _ {s : Bytes} {i : Image} (v : Sectioned s i) where
-  pub converted-is : convertedBytes s ≡ digits 4 (i .table) ++ (sectionBytes defaultBytes (map withCount (i .defaults)) ++ v .rest)
+  pub converted-is : convertedBytes s ≡ digits 4 (i .table) ++ (digits 8 0 ++ (sectionBytes defaultBytes (map withCount (i .defaults)) ++ v .rest))
   unfolding convertedBytes frontBytes frontFrom just
   converted-is = ap frontBytes (then-reads _ _ s (v .table) (then-reads _ _ (v .body) (v .defaults) refl))
 
@@ -75,16 +75,18 @@ module _ {s : Bytes} {i : Image} (v : Sectioned s i) where
         size = omega (arith, q .1);
       }
 
-  pub converted-long : length (convertedBytes s) ≡ length s + length (i .defaults)
+  pub converted-long : length (convertedBytes s) ≡ length s + 8 + length (i .defaults)
   unfolding sectionBytes
   converted-long =
       omega (
         arith,
         ap length converted-is,
-        length-append (digits 4 (i .table)) (sectionBytes defaultBytes (map withCount (i .defaults)) ++ v .rest),
+        length-append (digits 4 (i .table)) (digits 8 0 ++ (sectionBytes defaultBytes (map withCount (i .defaults)) ++ v .rest)),
+        length-append (digits 8 0) (sectionBytes defaultBytes (map withCount (i .defaults)) ++ v .rest),
         length-append (sectionBytes defaultBytes (map withCount (i .defaults))) (v .rest),
         length-append (digits 2 (length (map withCount (i .defaults)))) (allBytes defaultBytes (map withCount (i .defaults))),
         length-digits 4 (i .table),
+        length-digits 8 0,
         length-digits 2 (length (map withCount (i .defaults))),
         counts-long (i .defaults),
         counted .size,
@@ -97,10 +99,10 @@ module _ {s : Bytes} {i : Image} (v : Sectioned s i) where
     rows = ap growable (counted .rows) ∙ g;
     is =
         converted-is
-        ∙ ap (λ (u : Bytes). digits 4 (i .table) ++ u) (append-assoc (digits 2 (length (map withCount (i .defaults)))) (allBytes defaultBytes (map withCount (i .defaults))) (v .rest))
-        ∙ ap (λ (n : ℕ). digits 4 n ++ (digits 2 (length (map withCount (i .defaults))) ++ (allBytes defaultBytes (map withCount (i .defaults)) ++ v .rest))) (sym (counted .table))
-        ∙ ap (λ (n : ℕ). digits 4 (number (take 4 s)) ++ (digits 2 n ++ (allBytes defaultBytes (map withCount (i .defaults)) ++ v .rest))) (length-map (i .defaults) withCount)
-        ∙ ap (λ (u : Bytes). digits 4 (number (take 4 s)) ++ (digits 2 (length (i .defaults)) ++ u)) (sym (ap grown (counted .rows)));
+        ∙ ap (λ (u : Bytes). digits 4 (i .table) ++ (digits 8 0 ++ u)) (append-assoc (digits 2 (length (map withCount (i .defaults)))) (allBytes defaultBytes (map withCount (i .defaults))) (v .rest))
+        ∙ ap (λ (n : ℕ). digits 4 n ++ (digits 8 0 ++ (digits 2 (length (map withCount (i .defaults))) ++ (allBytes defaultBytes (map withCount (i .defaults)) ++ v .rest)))) (sym (counted .table))
+        ∙ ap (λ (n : ℕ). digits 4 (number (take 4 s)) ++ (digits 8 0 ++ (digits 2 n ++ (allBytes defaultBytes (map withCount (i .defaults)) ++ v .rest)))) (length-map (i .defaults) withCount)
+        ∙ ap (λ (u : Bytes). digits 4 (number (take 4 s)) ++ (digits 8 0 ++ (digits 2 (length (i .defaults)) ++ u))) (sym (ap grown (counted .rows)));
     room = r;
   }
 
@@ -247,17 +249,17 @@ module _ {s out : Bytes} {count : ℕ} (v : PutAsks s count out) where
   abbrev rows : Bytes
   rows = grown (rowsFrom s 6 count)
 
-  parts-long : length (convertedBytes s) ≡ 6 + length (grown (rowsFrom s 6 count))
+  parts-long : length (convertedBytes s) ≡ 14 + length (grown (rowsFrom s 6 count))
   parts-long =
-      omega (arith, ap length (v .is), length-append (digits 4 (number (take 4 s))) (digits 2 count ++ rows), length-append (digits 2 count) rows, length-digits 4 (number (take 4 s)), length-digits 2 count)
+      omega (arith, ap length (v .is), length-append (digits 4 (number (take 4 s))) (digits 8 0 ++ (digits 2 count ++ rows)), length-append (digits 8 0) (digits 2 count ++ rows), length-append (digits 2 count) rows, length-digits 4 (number (take 4 s)), length-digits 8 0, length-digits 2 count)
 
-  pub put-room : 6 + length (grown (rowsFrom s 6 count)) ≤ length out
+  pub put-room : 14 + length (grown (rowsFrom s 6 count)) ≤ length out
   put-room = omega (arith, parts-long, v .room)
 
-  pub put-rows-ask : {out′ : Bytes} {b : ℕ} → length out′ ≡ length out → b ≡ 6 → RowsAsk s count b out′
+  pub put-rows-ask : {out′ : Bytes} {b : ℕ} → length out′ ≡ length out → b ≡ 14 → RowsAsk s count b out′
   put-rows-ask e f = record { long = v .long; rows = v .rows; room = omega (arith, put-room) }
 
-  pub put-all : {t : Number} {a b r : ℕ} {o₁ o₂ o₃ : Bytes} → NumberAt 4 s 0 t → Laid 0 4 (digits 4 (t .value)) out a o₁ → Laid a 2 (digits 2 count) o₁ b o₂ → Laid b (length (grown (rowsFrom s 6 count))) (grown (rowsFrom s 6 count)) o₂ r o₃
-      → Laid 0 (length (convertedBytes s)) (convertedBytes s) out r o₃
-  put-all {t} n x y z =
-      laid-as (laid-then x (laid-then y z)) (ap (λ (k : ℕ). digits 4 k ++ (digits 2 count ++ rows)) (number-value n (omega (arith, v .long))) ∙ sym (v .is))
+  pub put-all : {t : Number} {a f b r : ℕ} {o₁ o₂ o₃ o₄ : Bytes} → NumberAt 4 s 0 t → Laid 0 4 (digits 4 (t .value)) out a o₁ → Laid a 8 (digits 8 0) o₁ f o₂ → Laid f 2 (digits 2 count) o₂ b o₃
+      → Laid b (length (grown (rowsFrom s 6 count))) (grown (rowsFrom s 6 count)) o₃ r o₄ → Laid 0 (length (convertedBytes s)) (convertedBytes s) out r o₄
+  put-all {t} n x w y z =
+      laid-as (laid-then x (laid-then w (laid-then y z))) (ap (λ (k : ℕ). digits 4 k ++ (digits 8 0 ++ (digits 2 count ++ rows))) (number-value n (omega (arith, v .long))) ∙ sym (v .is))

@@ -2,7 +2,7 @@
 pub mod OldImageLaws
 pub mod ReadApartLaws
 pub mod GrownLaws
-pub mod CallLaws
 pub mod RowGainsLaws
 pub mod Converted
+pub mod CallLaws
 pub mod WorkedConversions

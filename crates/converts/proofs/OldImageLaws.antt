@@ -2,21 +2,20 @@
 -- Assumes nothing.
 use Prim.Native.Nat.{ℕ, _+_, _≤_, _<_}
 use native.Mathlib.Omega.{arith}
-use native.Mathlib.Numerals.{add-one}
 use mathlib.Core.Path.{_≡_, refl, sym, _∙_, ap, ap₂}
 use mathlib.Core.Bool.{Bool, true, false, not, _&&_, and-true, and-false, and-assoc, true≢false}
 use mathlib.Core.List.{List, [], _∷_, _++_, map, map-map}
 use mathlib.Core.Option.{Option, none, some}
 use lib.Dec.{eqb}
-use lib.ListN.{length, getD, take, drop, length-map, List·getD-map, drop-of-length-le}
-use lib.Seq.{drop-cons, length-take-le}
+use lib.ListN.{length, getD, take, length-map, List·getD-map}
+use lib.Seq.{length-take-le}
 use borrow.Author.Tests.{ne-eqb, not-true, not-false}
 use Rattle.seqs.proofs.Tests.{and-both}
 use Rattle.forms.specs.Bytes.{Bytes}
 use Rattle.forms.specs.Row.{oldRowForm}
 use Rattle.forms.specs.Readers.{isSome}
 use Rattle.rules.specs.Box.{Default, atPair, rowOf, rowBefore, ordered}
-use Rattle.rules.specs.Image.{Image, KeyRecord, image}
+use Rattle.rules.specs.Image.{Image, KeyRecord, oldImage}
 use Rattle.rules.specs.Restore.{ofTable, allGood, noSecond, goodDefaultBy, goodLock, goodWrite, likeDefault, likeLock, likeWrite, kindHasDefault, hasDefault}
 use Rattle.rules.specs.Convert.{growing, convertible}
 use Rattle.images.specs.Entries.{Raw, rawAt, rawOf, EntryAt}
@@ -66,37 +65,23 @@ module _ {s : Bytes} {ds : List ℕ} {e : ImageEntry} (a : PlaceAsks s ds e) whe
         (by-row ∙ row-told (keyIn s e) (e .second) (rowAt s 0) (rowsAt s ds) (a .sorted) (omega (arith, length-map ds (rowAt s)))
         ∙ ap (atPair (keyIn s e) (e .second)) (ap (λ (n : ℕ). getD (rowsAt s ds) n (rowAt s 0)) (sym j) ∙ List·getD-map (rowAt s) ds i 0))
 
--- ---- `puts_have`: the writes from i on are left
+-- ---- `puts_have`
 
-pub record Having (s : Bytes) (ds ws : List ℕ) (i : ℕ) : Type 0 where
-  pub is : writesHave s ds ws ≡ writesHave s ds (drop i ws)
+module _ {s : Bytes} (ds : List ℕ) {p : ℕ} {e : ImageEntry} (r : EntryAt sections.Write s p e) {b : Bool} (q : b ≡ entryHas s ds e) where
+  told : hasDefault (rowsAt s ds) (writeAt s p) ≡ b
+  told = ap (λ (x : Raw). hasDefault (rowsAt s ds) (keyRecordOf x)) (sym (r .raw)) ∙ sym q
 
-module _ {s : Bytes} {ds ws : List ℕ} {i : ℕ} (v : Having s ds ws i) where
-  module _ (more : i < length ws) {e : ImageEntry} (r : EntryAt sections.Write s (getD ws i 0) e) {b : Bool} (q : b ≡ entryHas s ds e) where
-    here : writesHave s ds ws ≡ b && writesHave s ds (drop (i + 1) ws)
-    unfolding allGood
-    here =
-        let n : drop i ws ≡ getD ws i 0 ∷ drop (i + 1) ws = rw add-one (drop-cons ws i 0 more) in
-        v .is
-        ∙ ap (writesHave s ds) n
-        ∙ ap (λ (x : Raw). hasDefault (rowsAt s ds) (keyRecordOf x) && writesHave s ds (drop (i + 1) ws)) (sym (r .raw))
-        ∙ ap (λ (c : Bool). c && writesHave s ds (drop (i + 1) ws)) (sym q)
+  pub write-lacks : not b ≡ true → hasDefault (rowsAt s ds) (writeAt s p) ≡ false
+  write-lacks h = told ∙ not-true b h
 
-    pub having-bad : not b ≡ true → false ≡ writesHave s ds ws
-    having-bad h = sym (here ∙ ap (λ (c : Bool). c && writesHave s ds (drop (i + 1) ws)) (not-true b h))
-
-    pub having-more : not b ≡ false → Having s ds ws (i + 1)
-    having-more h = record { is = here ∙ ap (λ (c : Bool). c && writesHave s ds (drop (i + 1) ws)) (not-false b h) }
-
-  pub having-end : length ws ≤ i → true ≡ writesHave s ds ws
-  unfolding allGood
-  having-end h = sym (v .is ∙ ap (writesHave s ds) (drop-of-length-le ws h))
+  pub write-has : not b ≡ false → hasDefault (rowsAt s ds) (writeAt s p) ≡ true
+  write-has h = told ∙ not-false b h
 
 -- ---- `entries_good`
 
-module _ {s : Bytes} {i : Sections} {ds ls ws : List ℕ} (v : Listed (formOf Old) s i ds ls ws) where
+module _ {s : Bytes} {i : Sections} {ds ls ws : List ℕ} (v : Listed Old s i ds ls ws) where
   abbrev img : Image
-  img = imageOf s (v .table) ds ls ws
+  img = imageOf s (v .table) (i .floor) ds ls ws
 
   abbrev once : Bool
   once = noSecond likeDefault (img .defaults)
@@ -107,7 +92,7 @@ module _ {s : Bytes} {i : Sections} {ds ls ws : List ℕ} (v : Listed (formOf Ol
   abbrev have : Bool
   have = allGood (hasDefault (img .defaults)) (img .writes)
 
-  good-is : isGood (formOf Old) (image s) ≡ once && (apart && have)
+  good-is : isGood (formOf Old) (oldImage s) ≡ once && (apart && have)
   good-is =
       ap (isGood (formOf Old)) (v .is)
       ∙ ap (λ (b : Bool). b && once && noSecond likeLock (img .locks) && noSecond likeWrite (img .writes) && have)
@@ -120,26 +105,26 @@ module _ {s : Bytes} {i : Sections} {ds ls ws : List ℕ} (v : Listed (formOf Ol
 
   module _ {d : Bool} {ds′ : List ℕ} (dv : Sorted (beforeAt Rows s) ds d ds′) where
     d-is : d ≡ once
-    d-is = dv .ascends ∙ ap (ordered (beforeAt Rows s)) (dv .is) ∙ rows-once (formOf Old) (v .table) s 4 (v .lat) ds (v .defaults)
+    d-is = dv .ascends ∙ ap (ordered (beforeAt Rows s)) (dv .is) ∙ rows-once (formOf Old) (v .table) s (v .begin) (v .lat) ds (v .defaults)
 
-    pub good-rows : not d ≡ true → false ≡ isGood (formOf Old) (image s)
+    pub good-rows : not d ≡ true → false ≡ isGood (formOf Old) (oldImage s)
     good-rows h = sym (good-is ∙ ap (λ (b : Bool). b && (apart && have)) (fails d-is h))
 
     rows-are : rowsAt s ds′ ≡ sorted rowBefore (img .defaults)
-    rows-are = ap (map (rowAt s)) (dv .is) ∙ rows-in-order (formOf Old) (v .table) s 4 (v .lat) ds (v .defaults)
+    rows-are = ap (map (rowAt s)) (dv .is) ∙ rows-in-order (formOf Old) (v .table) s (v .begin) (v .lat) ds (v .defaults)
 
     module _ (dg : not d ≡ false) where
       pub rows-stand : InOrder s ds′
       rows-stand = ap (ordered rowBefore) rows-are ∙ sorted-once likes-rows (img .defaults) ∙ holds d-is dg
 
-      left-two : isGood (formOf Old) (image s) ≡ apart && have
+      left-two : isGood (formOf Old) (oldImage s) ≡ apart && have
       left-two = good-is ∙ ap (λ (b : Bool). b && (apart && have)) (holds d-is dg)
 
       module _ {l : Bool} {ps : List ℕ} (lv : Sorted (beforeAt (Lines (i .writesat)) s) (ls ++ ws) l ps) where
         l-is : l ≡ apart
         l-is = lv .ascends ∙ ap (ordered (beforeAt (Lines (i .writesat)) s)) (lv .is) ∙ lines-once (formOf Old) (v .table) s (v .lat) (i .writesat) (length s) ls ws (v .locks) (v .writes)
 
-        pub good-lines : not l ≡ true → false ≡ isGood (formOf Old) (image s)
+        pub good-lines : not l ≡ true → false ≡ isGood (formOf Old) (oldImage s)
         good-lines h = sym (left-two ∙ ap (λ (b : Bool). b && have) (fails l-is h))
 
         same-has : (x : KeyRecord) → hasDefault (rowsAt s ds′) x ≡ hasDefault (img .defaults) x
@@ -147,7 +132,7 @@ module _ {s : Bytes} {i : Sections} {ds ls ws : List ℕ} (v : Listed (formOf Ol
             ap (kindHasDefault (x .write .kind))
             (ap (λ (l : List Default). isSome (rowOf (x .key) (x .write .start) l)) rows-are ∙ row-found _ _ (sorted rowBefore (img .defaults)) ∙ any-sorted rowBefore (atPair (x .key) (x .write .start)) (img .defaults) ∙ sym (row-found _ _ (img .defaults)))
 
-        pub good-puts : not l ≡ false → {r : Bool} → r ≡ writesHave s ds′ ws → r ≡ isGood (formOf Old) (image s)
+        pub good-puts : not l ≡ false → {r : Bool} → r ≡ writesHave s ds′ ws → r ≡ isGood (formOf Old) (oldImage s)
         good-puts h q =
             q ∙ good-same (hasDefault (rowsAt s ds′)) (hasDefault (img .defaults)) same-has (map (writeAt s) ws) ∙ ap (allGood (hasDefault (img .defaults))) (sym (map-map keyRecordOf (rawAt sections.Write s) ws))
             ∙ sym (left-two ∙ ap (λ (b : Bool). b && have) (holds l-is h))
@@ -185,18 +170,18 @@ good-converts (some i) =
 
 -- ---- `judge_in`
 
-module _ {s : Bytes} {i : Sections} {ds ls ws : List ℕ} (v : SectionsAt (formOf Old) s i ds ls ws) where
+module _ {s : Bytes} {i : Sections} {ds ls ws : List ℕ} (v : SectionsAt Old s i ds ls ws) where
   pub judged-none : not (i .ok) ≡ true → OldJudged s (record { ok = false; defaults = 0 })
-  judged-none h = record { bad = λ g. sym (good-converts (image s)) ∙ v .bad h; good = λ g. absurd (true≢false g) }
+  judged-none h = record { bad = λ g. sym (good-converts (oldImage s)) ∙ v .bad h; good = λ g. absurd (true≢false g) }
 
-  pub judged : not (i .ok) ≡ false → {b : Bool} → b ≡ isGood (formOf Old) (image s) → OldJudged s (record { ok = b; defaults = i .defaults })
+  pub judged : not (i .ok) ≡ false → {b : Bool} → b ≡ isGood (formOf Old) (oldImage s) → OldJudged s (record { ok = b; defaults = i .defaults })
   judged ok {b} q =
       let w = v .good ok in
-      let e : b ≡ convertible (image s) = q ∙ good-converts (image s) in
+      let e : b ≡ convertible (oldImage s) = q ∙ good-converts (oldImage s) in
       record {
         bad = λ g. sym e ∙ not-true b g;
         good = λ g. record {
-          img = imageOf s (w .table) (take (i .defaults) ds) (take (i .locks) ls) (take (i .writes) ws);
+          img = imageOf s (w .table) (i .floor) (take (i .defaults) ds) (take (i .locks) ls) (take (i .writes) ws);
           is = w .is;
           good = sym (ap convertible (w .is)) ∙ sym e ∙ not-false b g;
           count-is =

@@ -1,4 +1,4 @@
--- An image that was read, told apart: its sections in turn, and how long each of them is.
+-- An old image that was read, told apart: its sections in turn, and how long each of them is.
 -- Assumes nothing.
 use Prim.Native.Nat.{ℕ, zero, suc, _+_, _-_, _≤_}
 use native.Mathlib.Omega.{arith}
@@ -17,7 +17,7 @@ use Rattle.forms.proofs.NumberLaws.{length-digits}
 use Rattle.rules.specs.Box.{Default}
 use Rattle.rules.specs.Page.{KeyLock}
 use Rattle.rules.specs.Written.{allBytes}
-use Rattle.rules.specs.Image.{Image, KeyRecord, defaultFrom, keyLockFrom, writeFrom, imageFrom, image}
+use Rattle.rules.specs.Image.{Image, KeyRecord, defaultFrom, keyLockFrom, writeFrom, sectionsFrom, oldImageFrom, oldImage}
 use Rattle.rules.specs.Capture.{defaultBytes}
 
 abbrev pub gotOr : {A : Type 0} → A → Option (Read A) → A
@@ -68,7 +68,7 @@ pub record Sectioned (s : Bytes) (i : Image) : Type 0 where
   pub writes : section (numberOf 2) writeFrom tail ≡ some (record { got = i .writes; rest = [] })
 
 abbrev imageOn : ℕ → List Default → List KeyLock → List KeyRecord → Reader Image
-imageOn t ds ls ws = just (record { table = t; defaults = ds; locks = ls; writes = ws })
+imageOn t ds ls ws = just (record { table = t; floor = 0; defaults = ds; locks = ls; writes = ws })
 
 abbrev writesOn : ℕ → List Default → List KeyLock → Reader Image
 writesOn t ds ls = section (numberOf 2) writeFrom >>= imageOn t ds ls
@@ -79,14 +79,14 @@ locksOn t ds = section (numberOf 2) keyLockFrom >>= writesOn t ds
 abbrev tableOn : ℕ → Reader Image
 tableOn t = section (numberOf 2) defaultFrom >>= locksOn t
 
-pub sectioned : (s : Bytes) (i : Image) → image s ≡ some i → Sectioned s i
-unfolding image whole imageFrom just
+pub sectioned : (s : Bytes) (i : Image) → oldImage s ≡ some i → Sectioned s i
+unfolding oldImage whole oldImageFrom sectionsFrom just
 sectioned s i e =
-    let a = apart (numberOf 4) tableOn s _ (all-read (imageFrom s) i e) in
+    let a = apart (numberOf 4) tableOn s _ (all-read (oldImageFrom s) i e) in
     let b = apart (section (numberOf 2) defaultFrom) (locksOn (a .0 .got)) (a .0 .rest) _ (a .2) in
     let c = apart (section (numberOf 2) keyLockFrom) (writesOn (a .0 .got) (b .0 .got)) (b .0 .rest) _ (b .2) in
     let d = apart (section (numberOf 2) writeFrom) (imageOn (a .0 .got) (b .0 .got) (c .0 .got)) (c .0 .rest) _ (c .2) in
-    let w : record { table = a .0 .got; defaults = b .0 .got; locks = c .0 .got; writes = d .0 .got } ≡ i = ap (gotOr i) (d .2) in
+    let w : record { table = a .0 .got; floor = 0; defaults = b .0 .got; locks = c .0 .got; writes = d .0 .got } ≡ i = ap (gotOr i) (d .2) in
     let z : d .0 .rest ≡ [] = ap restOr (d .2) in
     record {
       body = a .0 .rest;

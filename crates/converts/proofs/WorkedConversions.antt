@@ -14,7 +14,7 @@ use Rattle.rules.specs.Answers.{number}
 use Rattle.rules.specs.Box.{rowOf, addRow}
 use Rattle.rules.specs.Sound.{soundLock}
 use Rattle.rules.specs.Written.{allBytes, Written, writeIf}
-use Rattle.rules.specs.Image.{kindIf, kindFrom, defaultFrom, lockFrom, keyLockFrom, writeFrom, imageFrom, image}
+use Rattle.rules.specs.Image.{kindIf, kindFrom, defaultFrom, lockFrom, keyLockFrom, writeFrom, sectionsFrom, oldImageFrom, oldImage}
 use Rattle.rules.specs.Restore.{allGood, noneLike, noSecond}
 use Rattle.rules.specs.Capture.{defaultBytes, sectionBytes}
 use Rattle.rules.specs.Convert.{frontFrom, frontBytes, convertedBytes, convertible, convertIf, convertImage}
@@ -54,19 +54,20 @@ given : Bytes
 given = table ++ two 2 ++ old 98 (2 ∷ 0 ∷ 0 ∷ []) ++ old 97 (2 ∷ 0 ∷ 0 ∷ []) ++ two 0 ++ two 2 ++ put 97 9 ++ put 97 7
 
 gives : Bytes
-gives = table ++ two 2 ++ old 98 (3 ∷ 0 ∷ 0 ∷ 0 ∷ []) ++ old 97 (3 ∷ 0 ∷ 0 ∷ 0 ∷ []) ++ two 0 ++ two 2 ++ put 97 9 ++ put 97 7
+gives = table ++ eight 0 ++ two 2 ++ old 98 (3 ∷ 0 ∷ 0 ∷ 0 ∷ []) ++ old 97 (3 ∷ 0 ∷ 0 ∷ 0 ∷ []) ++ two 0 ++ two 2 ++ put 97 9 ++ put 97 7
 
 pub convertTable : List Case
 convertTable =
-    record { name = "in the order given, sick or not"; got = saw (convertImage given (nines 109)); wanted = 0 ∷ 108 ∷ gives ++ nines 1 } ∷
-    record { name = "a buffer that is one byte short"; got = saw (convertImage given (nines 107)); wanted = 12 ∷ 0 ∷ nines 107 } ∷
+    record { name = "in the order given, sick or not"; got = saw (convertImage given (nines 117)); wanted = 0 ∷ 116 ∷ gives ++ nines 1 } ∷
+    record { name = "a buffer that is one byte short"; got = saw (convertImage given (nines 115)); wanted = 12 ∷ 0 ∷ nines 115 } ∷
     record { name = "converted again"; got = saw (convertImage gives (nines 3)); wanted = 13 ∷ 0 ∷ nines 3 } ∷
-    record { name = "without defaults"; got = saw (convertImage (table ++ two 0 ++ two 0 ++ two 0) (nines 10)); wanted = 0 ∷ 10 ∷ table ++ two 0 ++ two 0 ++ two 0 } ∷
+    record { name = "without defaults"; got = saw (convertImage (table ++ two 0 ++ two 0 ++ two 0) (nines 18)); wanted = 0 ∷ 18 ∷ table ++ eight 0 ++ two 0 ++ two 0 ++ two 0 } ∷
+    record { name = "without defaults, converted again"; got = saw (convertImage (table ++ eight 0 ++ two 0 ++ two 0 ++ two 0) []); wanted = 13 ∷ 0 ∷ [] } ∷
     record { name = "table 0, and a byte too many"; got = saw (convertImage (two 0 ++ two 0 ++ two 0 ++ two 0 ++ two 0) []) ++ saw (convertImage (table ++ two 0 ++ two 0 ++ two 0 ++ (0 ∷ [])) []); wanted = 13 ∷ 0 ∷ 13 ∷ 0 ∷ [] } ∷
     record { name = "a write Put without its default"; got = saw (convertImage (table ++ two 0 ++ two 0 ++ two 1 ++ put 97 9) []); wanted = 13 ∷ 0 ∷ [] } ∷
     record { name = "a default twice"; got = saw (convertImage (table ++ two 2 ++ old 97 (2 ∷ 0 ∷ 0 ∷ []) ++ old 97 (2 ∷ 0 ∷ 0 ∷ []) ++ two 0 ++ two 0) []); wanted = 13 ∷ 0 ∷ [] } ∷
     []
 
 pub convert-worked : differing convertTable ≡ []
-unfolding eight key old put table two saw nines given gives convertTable nameUnless differing cmp eqBytes readOn _>>=_ just only byte stretch piece upTo times section ended whole numberFrom digits numberOf tableOf keyForm integers texts fields oldRowForm rowOf addRow soundLock allBytes writeIf kindIf kindFrom defaultFrom lockFrom keyLockFrom writeFrom imageFrom image allGood noneLike noSecond defaultBytes sectionBytes frontFrom frontBytes convertedBytes convertible convertIf convertImage
+unfolding eight key old put table two saw nines given gives convertTable nameUnless differing cmp eqBytes readOn _>>=_ just only byte stretch piece upTo times section ended whole numberFrom digits numberOf tableOf keyForm integers texts fields oldRowForm rowOf addRow soundLock allBytes writeIf kindIf kindFrom defaultFrom lockFrom keyLockFrom writeFrom sectionsFrom oldImageFrom oldImage allGood noneLike noSecond defaultBytes sectionBytes frontFrom frontBytes convertedBytes convertible convertIf convertImage
 convert-worked = refl

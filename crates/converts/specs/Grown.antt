@@ -54,5 +54,5 @@ pub record RowsAsk (s : Bytes) (count at : ℕ) (out : Bytes) : Type 0 where
 pub record PutAsks (s : Bytes) (count : ℕ) (out : Bytes) : Type 0 where
   pub long : 6 ≤ length s
   pub rows : growable (rowsFrom s 6 count) ≡ true
-  pub is : convertedBytes s ≡ digits 4 (number (take 4 s)) ++ (digits 2 count ++ grown (rowsFrom s 6 count))
+  pub is : convertedBytes s ≡ digits 4 (number (take 4 s)) ++ (digits 8 0 ++ (digits 2 count ++ grown (rowsFrom s 6 count)))
   pub room : length (convertedBytes s) ≤ length out

@@ -9,7 +9,7 @@ use lib.ListN.{length}
 use Rattle.forms.specs.Bytes.{Bytes}
 use Rattle.forms.specs.Readers.{isSome}
 use Rattle.rules.specs.Box.{rowBefore, ordered, rowOf}
-use Rattle.rules.specs.Image.{Image, KeyRecord, image}
+use Rattle.rules.specs.Image.{Image, KeyRecord, oldImage}
 use Rattle.rules.specs.Restore.{allGood, kindHasDefault, hasDefault}
 use Rattle.rules.specs.Convert.{convertible}
 use Rattle.images.specs.declared.entries.ImageEntry.{ImageEntry}
@@ -38,10 +38,10 @@ InOrder s ds = ordered rowBefore (rowsAt s ds) ≡ true
 -- an old image that can be converted, and how many defaults it has
 pub record Convertible (s : Bytes) (count : ℕ) : Type 0 where
   pub img : Image
-  pub is : image s ≡ some img
+  pub is : oldImage s ≡ some img
   pub good : convertible (some img) ≡ true
   pub count-is : length (img .defaults) ≡ count
 
 pub record OldJudged (s : Bytes) (r : OldImage) : Type 0 where
-  pub bad : not (r .ok) ≡ true → convertible (image s) ≡ false
+  pub bad : not (r .ok) ≡ true → convertible (oldImage s) ≡ false
   pub good : not (r .ok) ≡ false → Convertible s (r .defaults)

@@ -1,6 +1,6 @@
 // An old image judged whole, by document 01's checks and with its own rows: neither CR 3's checks nor the room are asked of it.
 ghost use mathlib.Core.Path.{_≡_};
-ghost use Rattle.rules.specs.Image.{image};
+ghost use Rattle.rules.specs.Image.{oldImage};
 ghost use Rattle.images.specs.declared.checks.Form.the-variants.{Old};
 ghost use Rattle.images.specs.Good.{formOf};
 ghost use Rattle.images.specs.Sections.{isGood};
@@ -30,8 +30,8 @@ fn entries_good(
     ps: &mut [u32],
     room: &mut [u32],
 ) -> bool
-    requires { ⌜ AlikeAsk (formOf Old) (now s) i (now ds) (now ls) (now ws) (now ps) (now room) ⌝ }
-    ensures { λ r. ⌜ r ≡ isGood (formOf Old) (image (now (s .entry))) ⌝ }
+    requires { ⌜ AlikeAsk Old (now s) i (now ds) (now ls) (now ws) (now ps) (now room) ⌝ }
+    ensures { λ r. ⌜ r ≡ isGood (formOf Old) (oldImage (now (s .entry))) ⌝ }
 {
     let writesat = i.writesat;
     if !order(s, By::Rows, ds, room) {

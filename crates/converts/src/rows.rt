@@ -1,4 +1,4 @@
-// The bytes of an old image with a zero count added to each row: each function says where its bytes end.
+// The bytes of an old image with floor 0, and a zero count added to each row: each function says where its bytes end.
 ghost use mathlib.Core.List.{_∷_, [], _++_};
 ghost use Prim.Native.Nat.{_+_};
 ghost use lib.ListN.{length};
@@ -61,13 +61,14 @@ fn put_rows(out: &mut [u8], first: usize, s: &[u8], count: usize) -> usize
     put_bytes(out, at, &s[from..])
 }
 
-// "4-byte table number; 2-byte count of defaults .."
+// "4-byte table number; 2-byte count of defaults .."; "CR 4's converter writes floor 0"
 pub(crate) fn put_converted(out: &mut [u8], s: &[u8], count: usize) -> usize
     requires { ⌜ PutAsks (now s) count (now out) ⌝ }
     ensures { λ r. ⌜ Laid 0 (length (convertedBytes (now (s .entry)))) (convertedBytes (now (s .entry))) (now (out .entry)) r (now (out .exit)) ⌝ }
 {
     let t = number_at(s, 0, Width::Four);
     let a = put_digits(out, 0, Width::Four, t.value);
-    let b = put_digits(out, a, Width::Two, count as u64);
+    let f = put_digits(out, a, Width::Eight, 0);
+    let b = put_digits(out, f, Width::Two, count as u64);
     put_rows(out, b, s, count)
 }

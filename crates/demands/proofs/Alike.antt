@@ -12,9 +12,9 @@ use Rattle.forms.specs.Key.{Key}
 use Rattle.forms.specs.Row.{Row}
 use Rattle.rules.specs.declared.room.Load.{Load}
 use Rattle.rules.specs.Answers.{answerOf}
-use Rattle.rules.specs.Box.{fresh}
+use Rattle.rules.specs.Box.{Box, fresh}
 use Rattle.rules.specs.Room.{loadOf, sumOf}
-use Rattle.rules.specs.Calls.{Done}
+use Rattle.rules.specs.Calls.{State, freshState, Done, Ended}
 use Rattle.rules.specs.Page.{Bounds, Limits}
 use Rattle.rules.specs.Prewrite.{PrewriteTerms}
 use Rattle.rules.specs.declared.terms.CommitTerms.{CommitTerms}
@@ -23,22 +23,22 @@ use Rattle.rules.specs.Written.{Written, WroteAs}
 use Rattle.laws.proofs.StepLaws.{answered}
 use Rattle.store.specs.declared.table.Store.{Store}
 use Rattle.store.specs.declared.table.Slot.{Slot}
-use Rattle.store.specs.View.{boxOf, noSlot}
-use Rattle.store.specs.Made.{Made, FreshStore}
+use Rattle.store.specs.View.{boxOf, stateShown, noSlot}
+use Rattle.store.specs.Made.{Made, FreshStore, storeOf}
 use Rattle.calls.specs.declared.changed.Changed.{Changed}
-use Rattle.calls.specs.Settled.{Settled}
+use Rattle.calls.specs.Settled.{Settled, Replaced}
 use Rattle.reads.specs.declared.seen.RowSeen.{RowSeen}
 use Rattle.reads.specs.declared.seen.LockSeen.{LockSeen}
 use Rattle.reads.proofs.PartLaws.{one-reply, one-row, one-lock, one-primary}
 use Rattle.rules.specs.declared.written.Wrote.{Wrote}
 use Rattle.pages.proofs.PageLaws.{one-answer, one-count, one-buffer}
 use Rattle.demands.specs.Calls.{starting, calling, handingRow, handingPrimary}
-use Rattle.demands.specs.Calls.{Sort, Lent, boxIn, Given, started, seen, pointed, handed, paged, changed, stepped, counted, marked, boned, summed, rowIn, lockIn, boneIn, bonesIn, chains, highest, answerIn, countIn, shownIn, partIn, after, Same, Once, OneOutcome, OneRefusal}
+use Rattle.demands.specs.Calls.{Sort, Lent, stateIn, Given, started, seen, pointed, handed, paged, changed, stepped, counted, marked, boned, summed, rowIn, lockIn, boneIn, bonesIn, chains, highest, answerIn, countIn, shownIn, partIn, after, Same, Once, OneOutcome, OneRefusal}
 use Rattle.demands.proofs.Refusals.{refusals}
 
 -- the parts of `Same`; one answer has one number and one holder
-same : {o : Sort} (w : Lent) (g q : Given o) → answerIn w g ≡ answerIn w q → countIn g ≡ countIn q → shownIn w g ≡ shownIn w q → partIn g ≡ partIn q → boxIn (after w g) ≡ boxIn (after w q) → after w g .buffer ≡ after w q .buffer → Same w g q
-same w g q a n s p b o = record { answer = answered a; count = n; shown = s; part = p; box = b; buffer = o }
+same : {o : Sort} (w : Lent) (g q : Given o) → answerIn w g ≡ answerIn w q → countIn g ≡ countIn q → shownIn w g ≡ shownIn w q → partIn g ≡ partIn q → stateIn (after w g) ≡ stateIn (after w q) → after w g .buffer ≡ after w q .buffer → Same w g q
+same w g q a n s p b o = record { answer = answered a; count = n; shown = s; part = p; state = b; buffer = o }
 
 -- ---- a fresh store: the very same value, with whatever area
 
@@ -47,32 +47,40 @@ none-counts {empty = empty} {size = size} {l = l} t e = subst (λ (n : ℕ). dro
 
 module _ {s : Store} {area : Bytes} (f : FreshStore s area) where
   load-fresh : s .load ≡ record { lines = 0; locks = 0; defaults = 0; bytes = 0 }
-  unfolding loadOf sumOf fresh
-  load-fresh = f .made .built .kept .load-is ∙ ap loadOf (f .shown)
+  unfolding loadOf sumOf fresh freshState
+  load-fresh = f .made .built .kept .load-is ∙ ap (λ (x : State). loadOf (x .box)) (f .shown)
 
-  pub store-fresh : s ≡ record { lines = replicate 1024 noSlot; load = record { lines = 0; locks = 0; defaults = 0; bytes = 0 }; top = 0 }
+  pub store-fresh : s ≡ record { lines = replicate 1024 noSlot; load = record { lines = 0; locks = 0; defaults = 0; bytes = 0 }; top = 0; floor = 0 }
+  unfolding freshState
   store-fresh =
       let l = none-counts (f .made .built .lines) (ap (λ (x : Load). x .lines) load-fresh) in
-      ap (λ (x : List Slot). record { lines = x; load = s .load; top = s .top }) l
-      ∙ ap (λ (x : Load). record { lines = replicate 1024 noSlot; load = x; top = s .top }) load-fresh
-      ∙ ap (λ (x : ℕ). record { lines = replicate 1024 noSlot; load = record { lines = 0; locks = 0; defaults = 0; bytes = 0 }; top = x }) (f .top-is)
+      ap (λ (x : List Slot). storeOf x (s .load) (s .top) (s .floor)) l
+      ∙ ap (λ (x : Load). storeOf (replicate 1024 noSlot) x (s .top) (s .floor)) load-fresh
+      ∙ ap (λ (x : ℕ). storeOf (replicate 1024 noSlot) (record { lines = 0; locks = 0; defaults = 0; bytes = 0 }) x (s .floor)) (f .top-is)
+      ∙ ap (λ (x : ℕ). storeOf (replicate 1024 noSlot) (record { lines = 0; locks = 0; defaults = 0; bytes = 0 }) 0 x) (ap (λ (x : State). x .floor) (f .shown))
 
 -- ---- what several calls share
 
--- two outcomes that keep the one promise of a changing call: the same number and holder, and the same box
+-- two outcomes that keep the one promise of a changing call: the same number and holder, the same box and the same floor
 pub record Alike (r : Changed) (area : Bytes) (q : Changed) (area′ : Bytes) : Type 0 where
   pub answer : r .answer ≡ q .answer
-  pub box : boxOf (r .store) area ≡ boxOf (q .store) area′
+  pub state : stateShown (r .store) area ≡ stateShown (q .store) area′
 
 pub settled-once : {st : Store} {area : Bytes} {d : Done} {r q : Changed} {area₁ area₂ : Bytes} → Settled st area d r area₁ → Settled st area d q area₂ → Alike r area₁ q area₂
-settled-once s t = record { answer = s .answer-is .case-is ∙ sym (t .answer-is .case-is); box = s .shown ∙ sym (t .shown) }
+settled-once s t = record {
+  answer = s .answer-is .case-is ∙ sym (t .answer-is .case-is);
+  state = ap₂ (λ (b : Box) (f : ℕ). record { box = b; floor = f }) (s .shown ∙ sym (t .shown)) (s .floor-is ∙ sym (t .floor-is));
+}
+
+pub replaced-once : {st : Store} {area : Bytes} {e : Ended} {r q : Changed} {area₁ area₂ : Bytes} → Replaced st area e r area₁ → Replaced st area e q area₂ → Alike r area₁ q area₂
+replaced-once s t = record { answer = s .answer-is .case-is ∙ sym (t .answer-is .case-is); state = s .shown ∙ sym (t .shown) }
 
 module _ (w : Lent) where
-  page-same : {x : Written} {r q : Wrote} {out out′ : Bytes} → WroteAs x r out → WroteAs x q out′ → Same w (paged r out) (paged q out′)
+  pub page-same : {x : Written} {r q : Wrote} {out out′ : Bytes} → WroteAs x r out → WroteAs x q out′ → Same w (paged r out) (paged q out′)
   page-same {r = r} {q = q} {out = out} {out′ = out′} a b = same w (paged r out) (paged q out′) (one-answer a b) (one-count a b) refl refl refl (one-buffer a b)
 
   changed-same : {r q : Changed} {area area′ : Bytes} → Alike r area q area′ → Same w (changed r area) (changed q area′)
-  changed-same {r = r} {q = q} {area = area} {area′ = area′} a = same w (changed r area) (changed q area′) (a .answer) refl refl refl (a .box) refl
+  changed-same {r = r} {q = q} {area = area} {area′ = area′} a = same w (changed r area) (changed q area′) (a .answer) refl refl refl (a .state) refl
 
 -- ---- one law a call
 
@@ -117,10 +125,13 @@ module _ (w : Lent) where
   pub step-once : (h : CommitTerms) (s : Bytes) → Once w (calling (Call.Change (Changing.OneStep h s)))
   step-once h s (stepped r x) (stepped t y) a b =
       let o = settled-once (a .settled) (b .settled) in
-      same w (stepped r x) (stepped t y) (o .answer) (a .count-is ∙ sym (b .count-is)) refl refl (o .box) refl
+      same w (stepped r x) (stepped t y) (o .answer) (a .count-is ∙ sym (b .count-is)) refl refl (o .state) refl
 
   pub restore-once : (s : Bytes) → Once w (calling (Call.Restore s))
-  restore-once s (changed r x) (changed t y) a b = changed-same w (record { answer = a .answer-is .case-is ∙ sym (b .answer-is .case-is); box = a .shown ∙ sym (b .shown) })
+  restore-once s (changed r x) (changed t y) a b = changed-same w (replaced-once a b)
+
+  pub collect-once : (f : ℕ) → Once w (calling (Call.Change (Changing.Collect f)))
+  collect-once f (changed r x) (changed t y) a b = changed-same w (replaced-once a b)
 
   pub stats-once : Once w (calling Call.Statistics)
   stats-once (counted s) (counted t) a b = same w (counted s) (counted t) refl refl (ap chains (a ∙ sym b)) refl refl refl
@@ -132,7 +143,7 @@ module _ (w : Lent) where
   capture-once table (paged r x) (paged t y) p o = page-same w (p .captured) (o .captured)
 
   pub convert-once : (s : Bytes) → Once w (calling (Call.Convert s))
-  convert-once s (paged r x) (paged t y) p o = page-same w p o
+  convert-once s (paged r x) (paged t y) p o = page-same w (p .wrote) (o .wrote)
 
   pub bone-once : (r : Row) (n : ℕ) → Once w (calling (Call.Bone r n))
   bone-once r n (boned x) (boned y) a b =
@@ -159,6 +170,7 @@ one-outcome w (calling (Call.Change (Changing.Prewrite h s))) = prewrites-once w
 one-outcome w (calling (Call.Change (Changing.Commit h s))) = commits-once w h s
 one-outcome w (calling (Call.Change (Changing.Rollback txn start s))) = rollbacks-once w txn start s
 one-outcome w (calling (Call.Change (Changing.OneStep h s))) = step-once w h s
+one-outcome w (calling (Call.Change (Changing.Collect f))) = collect-once w f
 one-outcome w (calling (Call.Restore s)) = restore-once w s
 one-outcome w (calling Call.Statistics) = stats-once w
 one-outcome w (calling Call.Marks) = marks-once w

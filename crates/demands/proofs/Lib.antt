@@ -4,3 +4,4 @@ pub mod Carried
 pub mod Refusals
 pub mod Alike
 pub mod StoreImages
+pub mod Collections

@@ -20,7 +20,7 @@ use Rattle.rules.specs.Written.{Written, pageBytes, writeIf, written, keyRowByt
 use Rattle.rules.specs.Page.{page, intentPage, conflictPage}
 use Rattle.rules.specs.Call.{Changing, Call}
 use Rattle.rules.specs.Capture.{imageOf, captureIf, captureImage}
-use Rattle.rules.specs.Image.{image}
+use Rattle.rules.specs.Image.{oldImage}
 use Rattle.rules.specs.Convert.{convertedBytes, convertible, convertIf, convertImage}
 use Rattle.rules.specs.Bones.{Tells, boneSteps, shownIf, boneShown, bonesShown}
 use Rattle.laws.proofs.SettleLaws.{oneStep-refused}
@@ -39,7 +39,7 @@ use Rattle.reads.specs.Parts.{rowPart, RowPart, PrimaryPart}
 use Rattle.rules.specs.declared.written.Wrote.{Wrote}
 use Rattle.bones.specs.declared.shown.BoneShown.{BoneShown}
 use Rattle.bones.specs.declared.shown.BonesShown.{BonesShown}
-use Rattle.demands.specs.Calls.{Lent, boxIn, started, seen, pointed, handed, paged, changed, stepped, counted, marked, boned, summed, nothing, rowIn, boneIn, bonesIn, answerIn, Unchanged, Refusals}
+use Rattle.demands.specs.Calls.{Lent, boxIn, floorIn, started, seen, pointed, handed, paged, changed, stepped, counted, marked, boned, summed, nothing, rowIn, boneIn, bonesIn, answerIn, Unchanged, Refusals}
 use Rattle.demands.specs.Calls.{starting, calling, handingRow, handingPrimary}
 
 -- ---- a page, and an image
@@ -62,18 +62,18 @@ written-refused f (answers.refused v) buffer n = record { count = refl; buffer-i
 written-refused f (answers.shown p) buffer n = short-blank (leb (length (pageBytes f p)) (length buffer)) (pageBytes f p) buffer n
 
 -- "a zero table number 3, then a short buffer 12"
-captured-refused : (t : ℕ) (b : Box) (buffer : Bytes) → (captureImage t b buffer .answer ≡ Accepted → ⊥) → Blank buffer (captureImage t b buffer)
+captured-refused : (floor t : ℕ) (b : Box) (buffer : Bytes) → (captureImage floor t b buffer .answer ≡ Accepted → ⊥) → Blank buffer (captureImage floor t b buffer)
 unfolding captureImage captureIf
-captured-refused t b buffer = go (not (eqb t 0))
+captured-refused floor t b buffer = go (not (eqb t 0))
   where
-    go : (k : Bool) → (captureIf k (imageOf t b) buffer .answer ≡ Accepted → ⊥) → Blank buffer (captureIf k (imageOf t b) buffer)
-    go true n = short-blank (leb (length (imageOf t b)) (length buffer)) (imageOf t b) buffer n
+    go : (k : Bool) → (captureIf k (imageOf floor t b) buffer .answer ≡ Accepted → ⊥) → Blank buffer (captureIf k (imageOf floor t b) buffer)
+    go true n = short-blank (leb (length (imageOf floor t b)) (length buffer)) (imageOf floor t b) buffer n
     go false n = record { count = refl; buffer-is = refl }
 
 -- "a fault by 01's image checks or a 255-byte row is 13, then a short buffer 12"
 converted-refused : (s buffer : Bytes) → (convertImage s buffer .answer ≡ Accepted → ⊥) → Blank buffer (convertImage s buffer)
 unfolding convertImage convertIf
-converted-refused s buffer = go (convertible (image s))
+converted-refused s buffer = go (convertible (oldImage s))
   where
     go : (k : Bool) → (convertIf k (convertedBytes s) buffer .answer ≡ Accepted → ⊥) → Blank buffer (convertIf k (convertedBytes s) buffer)
     go true n = short-blank (leb (length (convertedBytes s)) (length buffer)) (convertedBytes s) buffer n
@@ -112,13 +112,13 @@ module _ (w : Lent) where
   no-row (reads.Refused a) n = (refl, refl)
 
   -- what a made store refuses it refuses before its first record
-  read-left : (k : Key) (m : ℕ) (r : Reading) (part : Bytes) → ReadAs (examine k m (boxIn w)) (w .area) r → RowPart (w .area) (r .seen) part → (answerIn w (seen r part) ≡ Accepted → ⊥) → Unchanged w (seen r part)
+  read-left : (k : Key) (m : ℕ) (r : Reading) (part : Bytes) → ReadAs (examine (floorIn w) k m (boxIn w)) (w .area) r → RowPart (w .area) (r .seen) part → (answerIn w (seen r part) ≡ Accepted → ⊥) → Unchanged w (seen r part)
   read-left k m r part g p n =
       let z = no-row (r .seen) n in
       record {
         left = refl;
         box = refl;
-        count = λ made. g .count-is ∙ read-count (boxIn w) (built-tidy (made .built)) k m (λ e. n (g .seen-as .answer-is .case-is ∙ e));
+        count = λ made. g .count-is ∙ read-count (boxIn w) (built-tidy (made .built)) (floorIn w) k m (λ e. n (g .seen-as .answer-is .case-is ∙ e));
         shown = z .0;
         part = p .is ∙ z .1;
       }
@@ -160,7 +160,7 @@ refusals w (calling (Call.Read k m)) (seen r part) p n = read-left w k m r part 
 refusals w (calling (Call.OneIntent k m)) (pointed s part) p n = intent-left w s part (p .1) n
 refusals w (handingRow s) (handed part) p n = absurd (n refl)
 refusals w (handingPrimary s) (handed part) p n = absurd (n refl)
-refusals w (calling (Call.Page a m l)) (paged r out) p n = page-left w keyRowBytes (page a m l (boxIn w)) r out p n
+refusals w (calling (Call.Page a m l)) (paged r out) p n = page-left w keyRowBytes (page (floorIn w) a m l (boxIn w)) r out p n
 refusals w (calling (Call.IntentPage a l)) (paged r out) p n = page-left w keyLockBytes (intentPage a l (boxIn w)) r out p n
 refusals w (calling (Call.ConflictingIntents a m l)) (paged r out) p n = page-left w keyLockBytes (conflictPage a m l (boxIn w)) r out p n
 refusals w (calling (Call.Change (Changing.Prewrite h s))) (changed r area) p n = changed-left w r area (p .refused n)
@@ -171,14 +171,15 @@ refusals w (calling (Call.Change (Changing.OneStep h s))) (stepped r area) p n =
     record {
       left = l;
       box = ap boxIn l;
-      count = λ _. p .count-is ∙ oneStep-refused h s (boxIn w) (λ e. n (p .settled .answer-is .case-is ∙ e));
+      count = λ _. p .count-is ∙ oneStep-refused (floorIn w) h s (boxIn w) (λ e. n (p .settled .answer-is .case-is ∙ e));
       shown = refl;
       part = refl;
     }
+refusals w (calling (Call.Change (Changing.Collect f))) (changed r area) p n = changed-left w r area (p .refused n)
 refusals w (calling (Call.Restore s)) (changed r area) p n = changed-left w r area (p .refused n)
 refusals w (calling Call.Statistics) (counted s) p n = absurd (n refl)
 refusals w (calling Call.Marks) (marked m) p n = absurd (n refl)
-refusals w (calling (Call.Capture t)) (paged r out) p n = wrote-left w (captureImage t (boxIn w) (w .buffer)) (captured-refused t (boxIn w) (w .buffer)) r out (p .captured) n
-refusals w (calling (Call.Convert s)) (paged r out) p n = wrote-left w (convertImage s (w .buffer)) (converted-refused s (w .buffer)) r out p n
+refusals w (calling (Call.Capture t)) (paged r out) p n = wrote-left w (captureImage (floorIn w) t (boxIn w) (w .buffer)) (captured-refused (floorIn w) t (boxIn w) (w .buffer)) r out (p .captured) n
+refusals w (calling (Call.Convert s)) (paged r out) p n = wrote-left w (convertImage s (w .buffer)) (converted-refused s (w .buffer)) r out (p .wrote) n
 refusals w (calling (Call.Bone r n)) (boned b) p h = bone-left w r n b p h
 refusals w (calling (Call.Bones r)) (summed b) p h = bones-left w r b p h

@@ -24,14 +24,15 @@ use Rattle.rules.specs.Commit.{commitBatch}
 use Rattle.rules.specs.Rollback.{rollbackBatch}
 use Rattle.rules.specs.OneStep.{oneStep}
 use Rattle.rules.specs.Restore.{restore}
-use Rattle.rules.specs.Convert.{convertImage}
+use Rattle.rules.specs.Calls.{State}
+use Rattle.rules.specs.Collect.{collect}
 use Rattle.rules.specs.Bones.{Tells, boneShown, bonesShown}
 use Rattle.rules.specs.Figures.{stats, marks}
 use Rattle.store.specs.declared.table.Store.{Store}
-use Rattle.store.specs.View.{boxOf}
+use Rattle.store.specs.View.{boxOf, stateShown}
 use Rattle.store.specs.Made.{Made, FreshStore}
 use Rattle.calls.specs.declared.changed.Changed.{Changed}
-use Rattle.calls.specs.Settled.{Settled}
+use Rattle.calls.specs.Settled.{Settled, Replaced}
 use Rattle.reads.specs.declared.seen.RowSeen.{RowSeen}
 use Rattle.reads.specs.declared.seen.Reading.{Reading}
 use Rattle.reads.specs.declared.seen.LockSeen.{LockSeen}
@@ -40,10 +41,10 @@ use Rattle.reads.specs.Parts.{RowPart, PrimaryPart}
 use Rattle.rules.specs.declared.written.Wrote.{Wrote}
 use Rattle.onesteps.specs.declared.batch.Stepped.{Stepped}
 use Rattle.onesteps.specs.Counts.{Counts}
-use Rattle.restores.specs.Replaced.{Replaced}
 use Rattle.bones.specs.declared.shown.BoneShown.{BoneShown}
 use Rattle.bones.specs.declared.shown.BonesShown.{BonesShown}
 use Rattle.captures.specs.Promise.{ImageWritten}
+use Rattle.converts.specs.Promise.{ImageConverted}
 
 -- ---- the calls
 
@@ -51,7 +52,7 @@ use Rattle.captures.specs.Promise.{ImageWritten}
 pub data Public : Type 0 where
   -- fresh
   starting : Public
-  -- a call of document 01. prewrite, commit_intent and rollback_intent are their batches at the bytes of a batch of one.
+  -- a call of document 01 or 02. prewrite, commit_intent and rollback_intent are their batches at the bytes of a batch of one.
   calling : Call → Public
   -- row_of and primary_of, of any answer, not only of one that a read gave
   handingRow : RowSeen → Public
@@ -82,6 +83,7 @@ gives (calling (Call.Change (Changing.Prewrite h s))) = aChange
 gives (calling (Call.Change (Changing.Commit h s))) = aChange
 gives (calling (Call.Change (Changing.Rollback txn start s))) = aChange
 gives (calling (Call.Change (Changing.OneStep h s))) = aStep
+gives (calling (Call.Change (Changing.Collect f))) = aChange
 gives (calling (Call.Restore s)) = aChange
 gives (calling Call.Statistics) = someStats
 gives (calling Call.Marks) = someMarks
@@ -102,6 +104,13 @@ pub record Lent : Type 0 where
 
 abbrev pub boxIn : Lent → Box
 boxIn w = boxOf (w .store) (w .area)
+
+abbrev pub floorIn : Lent → ℕ
+floorIn w = w .store .floor
+
+-- the box and its floor
+abbrev pub stateIn : Lent → State
+stateIn w = stateShown (w .store) (w .area)
 
 -- what a call gives back, and beside it what it left of what it was lent as `&mut`
 pub data Given : Sort → Type 0 where
@@ -237,20 +246,22 @@ after w (summed b) = w
 abbrev pub Kept : Lent → (c : Public) → Given (gives c) → Type 0
 -- `fresh` promises it of every area of 131,072 bytes
 Kept w starting (started s) = FreshStore s (w .area)
-Kept w (calling (Call.Read k m)) (seen r part) = ReadAs (examine k m (boxIn w)) (w .area) r × RowPart (w .area) (r .seen) part
-Kept w (calling (Call.Page a m l)) (paged r out) = WroteAs (scanPage a m l (boxIn w) (w .buffer)) r out
+Kept w (calling (Call.Read k m)) (seen r part) = ReadAs (examine (floorIn w) k m (boxIn w)) (w .area) r × RowPart (w .area) (r .seen) part
+Kept w (calling (Call.Page a m l)) (paged r out) = WroteAs (scanPage (floorIn w) a m l (boxIn w) (w .buffer)) r out
 Kept w (calling (Call.IntentPage a l)) (paged r out) = WroteAs (scanIntentPage a l (boxIn w) (w .buffer)) r out
 Kept w (calling (Call.ConflictingIntents a m l)) (paged r out) = WroteAs (scanConflictingIntents a m l (boxIn w) (w .buffer)) r out
 Kept w (calling (Call.OneIntent k m)) (pointed p part) = PointedAs (intentAt k m (boxIn w)) (w .area) p × PrimaryPart (w .area) p part
-Kept w (calling (Call.Change (Changing.Prewrite h s))) (changed r area) = Settled (w .store) (w .area) (prewriteBatch h s (boxIn w)) r area
-Kept w (calling (Call.Change (Changing.Commit h s))) (changed r area) = Settled (w .store) (w .area) (commitBatch h s (boxIn w)) r area
-Kept w (calling (Call.Change (Changing.Rollback txn start s))) (changed r area) = Settled (w .store) (w .area) (rollbackBatch txn start s (boxIn w)) r area
-Kept w (calling (Call.Change (Changing.OneStep h s))) (stepped r area) = Counts (w .store) (w .area) (oneStep h s (boxIn w)) r area
-Kept w (calling (Call.Restore s)) (changed r area) = Replaced (w .store) (w .area) (restore s (boxIn w)) r area
+Kept w (calling (Call.Change (Changing.Prewrite h s))) (changed r area) = Settled (w .store) (w .area) (prewriteBatch (floorIn w) h s (boxIn w)) r area
+Kept w (calling (Call.Change (Changing.Commit h s))) (changed r area) = Settled (w .store) (w .area) (commitBatch (floorIn w) h s (boxIn w)) r area
+Kept w (calling (Call.Change (Changing.Rollback txn start s))) (changed r area) = Settled (w .store) (w .area) (rollbackBatch (floorIn w) txn start s (boxIn w)) r area
+Kept w (calling (Call.Change (Changing.OneStep h s))) (stepped r area) = Counts (w .store) (w .area) (oneStep (floorIn w) h s (boxIn w)) r area
+-- the area is lent as `&`, so what the call left of it is the area itself
+Kept w (calling (Call.Change (Changing.Collect f))) (changed r area) = Replaced (w .store) (w .area) (collect f (stateIn w)) r area
+Kept w (calling (Call.Restore s)) (changed r area) = Replaced (w .store) (w .area) (restore s (stateIn w)) r area
 Kept w (calling Call.Statistics) (counted s) = s ≡ stats (boxIn w)
 Kept w (calling Call.Marks) (marked m) = m ≡ marks (boxIn w)
-Kept w (calling (Call.Capture t)) (paged r out) = ImageWritten t (boxIn w) (w .buffer) r out
-Kept w (calling (Call.Convert s)) (paged r out) = WroteAs (convertImage s (w .buffer)) r out
+Kept w (calling (Call.Capture t)) (paged r out) = ImageWritten (floorIn w) t (boxIn w) (w .buffer) r out
+Kept w (calling (Call.Convert s)) (paged r out) = ImageConverted s (w .buffer) r out
 Kept w (calling (Call.Bone r n)) (boned b) = Tells (boneShown r n) (b .answer) (b .shown)
 Kept w (calling (Call.Bones r)) (summed b) = Tells (bonesShown r) (b .answer) (b .shown)
 Kept w (handingRow s) (handed part) = RowPart (w .area) s part
@@ -281,13 +292,13 @@ abbrev pub Refusals : Type 0
 Refusals = (w : Lent) (c : Public) (g : Given (gives c)) → Kept w c g → (answerIn w g ≡ Accepted → ⊥) → Unchanged w g
 
 -- two outcomes have "number, holder, count, shown row, the store after it and the whole of each lent buffer" in common. The store is told by
--- the box that it shows; where the stretches lie in the area, and the area's bytes outside them, are left open.
+-- the box that it shows and by its floor; where the stretches lie in the area, and the area's bytes outside them, are left open.
 pub record Same {o : Sort} (w : Lent) (g q : Given o) : Type 0 where
   pub answer : Answered (answerIn w q) (answerIn w g)
   pub count : countIn g ≡ countIn q
   pub shown : shownIn w g ≡ shownIn w q
   pub part : partIn g ≡ partIn q
-  pub box : boxIn (after w g) ≡ boxIn (after w q)
+  pub state : stateIn (after w g) ≡ stateIn (after w q)
   pub buffer : after w g .buffer ≡ after w q .buffer
 
 -- "its promise determines ..", "that no second answer fits": of a call

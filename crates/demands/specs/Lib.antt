@@ -2,3 +2,4 @@
 pub mod Demands
 pub mod Calls
 pub mod StoreImages
+pub mod Collections

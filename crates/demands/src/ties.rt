@@ -257,6 +257,14 @@ pub fn commit_batch(
     mvcc::commit_batch(store, area, txn, start, commit, batch)
 }
 
+// The area is lent as `&`: what the call leaves of it is the area itself.
+pub fn collect(store: Store, area: &[u8; AREA], floor: u64) -> Changed
+    requires { ⌜ Made store (now area) ⌝ }
+    ensures { λ r. ⌜ KeptOn store (now (area .entry)) (calling (Call.Change (Changing.Collect floor))) (changed r (now (area .entry))) ⌝ }
+{
+    mvcc::collect(store, area, floor)
+}
+
 pub fn restore(store: Store, area: &mut [u8; AREA], image: &[u8]) -> Changed
     requires { ⌜ Made store (now area) ⌝ }
     ensures { λ r. ⌜ KeptOn store (now (area .entry)) (calling (Call.Restore (now (image .entry)))) (changed r (now (area .exit))) ⌝ }

@@ -9,7 +9,7 @@ use Rattle.forms.specs.Bytes.{Bytes}
 use Rattle.forms.specs.Row.{Row}
 use Rattle.rules.specs.declared.answers.Answer.{Answer}
 use Rattle.rules.specs.declared.written.Wrote.{Wrote}
-use Rattle.rules.specs.Box.{fresh}
+use Rattle.rules.specs.Calls.{freshState}
 use Rattle.rules.specs.Written.{WroteAs}
 use Rattle.rules.specs.Bones.{Due, Tells}
 use Rattle.rules.specs.Convert.{convertImage}
@@ -38,8 +38,8 @@ by-ask o op r k {out} {out′} {n} e w = subst (λ (x : AskOp). Writes (askedByt
 
 -- the converter: the lent buffer is the front of a longer one
 module _ (i : Bytes) (n : ℕ) {buffer : Bytes} {done : Wrote} {page : Bytes} (lent-is : buffer ≡ lent 262144) (small : n < 262145) (v : WroteAs (convertImage i (take n buffer)) done page) where
-  converted : ShownTold (paging (convertImage i (lent n)) fresh) fresh (record { answer = done .answer; count = done .count; len = n }) (page ++ drop n buffer)
-  converted = image-shown (convertImage i) (converted-long i) n fresh lent-is small v
+  converted : ShownTold (paging (convertImage i (lent n)) freshState) freshState (record { answer = done .answer; count = done .count; len = n }) (page ++ drop n buffer)
+  converted = image-shown (convertImage i) (converted-long i) n freshState lent-is small v
 
   pub convert-front : n ≤ length (page ++ drop n buffer)
   convert-front = converted .told .within

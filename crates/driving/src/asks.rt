@@ -8,7 +8,7 @@ ghost use Rattle.traces.specs.declared.op.Op.{Op};
 ghost use Rattle.traces.specs.Payloads.{bonePayload, bonesPayload};
 ghost use Rattle.traces.specs.Answers.{answerBytes};
 ghost use Rattle.traces.specs.Args.{callAs};
-ghost use Rattle.store.specs.View.{boxOf};
+ghost use Rattle.store.specs.View.{stateShown};
 ghost use Rattle.showing.specs.Told.{told, lent, Writes};
 ghost use Rattle.showing.specs.Ran.{RunAsks, RanAs};
 ghost use Rattle.driving.specs.Asks.{dueBytes, askedBytes, writtenBytes};
@@ -69,7 +69,7 @@ pub(crate) fn run_ask(
     out: &mut [u8],
 ) -> Ran
     requires { ⌜ RunAsks store (now area) (now call) args (Op.Asks op) (now out) ⌝ }
-    ensures { λ r. ⌜ RanAs (told (callAs (Op.Asks op) (now (call .entry)) args) (args .buffer) (boxOf store (now (area .entry)))) (now (out .entry)) r (now (area .entry)) (now (out .exit)) ⌝ }
+    ensures { λ r. ⌜ RanAs (told (callAs (Op.Asks op) (now (call .entry)) args) (args .buffer) (stateShown store (now (area .entry)))) (now (out .entry)) r (now (area .entry)) (now (out .exit)) ⌝ }
 {
     let row = part(call, args.rowat, args.rowlen);
     let len = tell_ask(op, row, args.first, out);
@@ -98,7 +98,7 @@ pub(crate) fn run_convert(
     out: &mut [u8],
 ) -> Ran
     requires { ⌜ RunAsks store (now area) (now call) args Op.Convert (now out) ⌝ }
-    ensures { λ r. ⌜ RanAs (told (callAs Op.Convert (now (call .entry)) args) (args .buffer) (boxOf store (now (area .entry)))) (now (out .entry)) r (now (area .entry)) (now (out .exit)) ⌝ }
+    ensures { λ r. ⌜ RanAs (told (callAs Op.Convert (now (call .entry)) args) (args .buffer) (stateShown store (now (area .entry)))) (now (out .entry)) r (now (area .entry)) (now (out .exit)) ⌝ }
 {
     let image = part(call, args.restat, args.restlen);
     let len = tell_convert(image, args.buffer, out);

@@ -4,11 +4,11 @@ ghost use Prim.Native.Nat.{_≤_};
 ghost use lib.ListN.{length};
 ghost use Rattle.traces.specs.declared.op.Op.{Op};
 ghost use Rattle.traces.specs.Args.{callAs};
-ghost use Rattle.store.specs.View.{boxOf};
+ghost use Rattle.store.specs.View.{stateShown};
 ghost use Rattle.store.specs.Made.{Made};
 ghost use Rattle.showing.specs.Told.{told};
-ghost use Rattle.driving.specs.Changes.{changedBy};
-ghost use Rattle.showing.specs.Ran.{RunAsks, RanAs, DoneAs, TellsChange, longest};
+ghost use Rattle.showing.specs.Ran.{RunAsks, RanAs, longest};
+ghost use Rattle.driving.specs.Changes.{changedBy, DoneAs, TellsChange};
 use calls::Changed;
 use showing::Ran;
 use showing::part;
@@ -32,7 +32,7 @@ pub(crate) fn tell_change(done: Changed, out: &mut [u8]) -> Ran
     }
 }
 
-// The numbers `a`, `b` and `c` are the transaction, the start, and the time to live or the commit.
+// The numbers `a`, `b` and `c` are the transaction, the start, and the time to live or the commit; of a collection `a` is the floor.
 fn change(
     store: Store,
     area: &mut [u8; AREA],
@@ -47,7 +47,7 @@ fn change(
     rest: &[u8],
 ) -> Changed
     requires { ⌜ Made store (now area) ⌝ }
-    ensures { λ r. ⌜ DoneAs (changedBy op a b c (now (primary .entry)) (now (key .entry)) put (now (row .entry)) (now (rest .entry)) (boxOf store (now (area .entry)))) r (now (area .exit)) ⌝ }
+    ensures { λ r. ⌜ DoneAs (changedBy op a b c (now (primary .entry)) (now (key .entry)) put (now (row .entry)) (now (rest .entry)) (stateShown store (now (area .entry)))) r (now (area .exit)) ⌝ }
 {
     match op {
         ChangeOp::Prewrite => prewrites::prewrite(store, area, a, b, c, primary, key, put, row),
@@ -56,6 +56,7 @@ fn change(
         ChangeOp::CommitBatch => commits::commit_intents_batch(store, area, a, b, c, rest),
         ChangeOp::Rollback => rollbacks::rollback_intent(store, area, a, b, key),
         ChangeOp::RollbackBatch => rollbacks::rollback_intents_batch(store, area, a, b, rest),
+        ChangeOp::Collect => collects::collect(store, area, a),
         ChangeOp::Restore => restores::restore(store, area, rest),
     }
 }
@@ -69,7 +70,7 @@ pub(crate) fn run_change(
     out: &mut [u8],
 ) -> Ran
     requires { ⌜ RunAsks store (now area) (now call) args (Op.Changes op) (now out) ⌝ }
-    ensures { λ r. ⌜ RanAs (told (callAs (Op.Changes op) (now (call .entry)) args) (args .buffer) (boxOf store (now (area .entry)))) (now (out .entry)) r (now (area .exit)) (now (out .exit)) ⌝ }
+    ensures { λ r. ⌜ RanAs (told (callAs (Op.Changes op) (now (call .entry)) args) (args .buffer) (stateShown store (now (area .entry)))) (now (out .entry)) r (now (area .exit)) (now (out .exit)) ⌝ }
 {
     let primary = part(call, args.primaryat, args.primarylen);
     let key = part(call, args.keyat, args.keylen);
@@ -100,7 +101,7 @@ pub(crate) fn run_step(
     out: &mut [u8],
 ) -> Ran
     requires { ⌜ RunAsks store (now area) (now call) args Op.OneStep (now out) ⌝ }
-    ensures { λ r. ⌜ RanAs (told (callAs Op.OneStep (now (call .entry)) args) (args .buffer) (boxOf store (now (area .entry)))) (now (out .entry)) r (now (area .exit)) (now (out .exit)) ⌝ }
+    ensures { λ r. ⌜ RanAs (told (callAs Op.OneStep (now (call .entry)) args) (args .buffer) (stateShown store (now (area .entry)))) (now (out .entry)) r (now (area .exit)) (now (out .exit)) ⌝ }
 {
     let rest = part(call, args.restat, args.restlen);
     let done = onesteps::commit_batch(store, area, args.first, args.second, args.third, rest);

@@ -1,6 +1,6 @@
 // One call, run on a store: its bytes are read, and the call that they say is run.
 ghost use Rattle.traces.specs.Args.{callOf};
-ghost use Rattle.store.specs.View.{boxOf};
+ghost use Rattle.store.specs.View.{stateShown};
 ghost use Rattle.store.specs.Made.{Made};
 ghost use Rattle.showing.specs.Told.{toldIn};
 ghost use Rattle.showing.specs.Ran.{RunAsks, RanAs, RunCall};
@@ -22,7 +22,7 @@ use traces::Op;
 // The call that the arguments say, by its op.
 fn run_args(store: Store, area: &mut [u8; AREA], call: &[u8], args: Args, out: &mut [u8]) -> Ran
     requires { ⌜ RunAsks store (now area) (now call) args (args .op) (now out) ⌝ }
-    ensures { λ r. ⌜ RanAs (toldIn (callOf (now (call .entry)) args) (boxOf store (now (area .entry)))) (now (out .entry)) r (now (area .exit)) (now (out .exit)) ⌝ }
+    ensures { λ r. ⌜ RanAs (toldIn (callOf (now (call .entry)) args) (stateShown store (now (area .entry)))) (now (out .entry)) r (now (area .exit)) (now (out .exit)) ⌝ }
 {
     let op = args.op;
     match op {

@@ -1,8 +1,8 @@
--- The image by its sections: each way out of `sections_of`.
+-- The image by its sections: each way out of `head_at` and of `sections_of`.
 -- Assumes nothing.
 use Prim.Native.Nat.{ℕ, _+_, _≤_}
 use native.Mathlib.Omega.{arith}
-use mathlib.Core.Path.{_≡_, refl, sym, _∙_, ap}
+use mathlib.Core.Path.{_≡_, refl, sym, _∙_, ap, subst}
 use mathlib.Core.Bool.{Bool, true, false, not, _&&_, true≢false, false≢true}
 use mathlib.Core.List.{List, [], _∷_, map}
 use mathlib.Core.Option.{Option, none, some}
@@ -19,19 +19,22 @@ use Rattle.forms.specs.Numbers.{numberOf}
 use Rattle.forms.specs.Places.{found, NumberAt}
 use Rattle.forms.specs.declared.number.Number.{Number}
 use Rattle.forms.proofs.ReaderLaws.{ended-at}
-use Rattle.forms.proofs.NumberLaws.{number-bad, number-good}
+use Rattle.forms.proofs.NumberLaws.{number-bad, number-good, number-short, number-long}
 use Rattle.rules.specs.Box as box
 use Rattle.rules.specs.Page.{KeyLock}
 use Rattle.rules.specs.Room.{sumOf}
-use Rattle.rules.specs.Image.{Image, KeyRecord, image, imageFrom, defaultFrom, keyLockFrom, writeFrom}
+use Rattle.rules.specs.Image.{Image, KeyRecord, image, oldImage, imageFrom, oldImageFrom, sectionsFrom, defaultFrom, keyLockFrom, writeFrom}
 use Rattle.rules.specs.Restore.{allGood, goodDefaultBy, goodLock, goodWrite, noSecond, likeDefault, likeLock, likeWrite, hasDefault, goodImageBy}
 use Rattle.images.specs.Entries.{Raw, rawAt}
 use Rattle.images.specs.declared.entries.Section.{Section}
 use Rattle.images.specs.declared.entries.Section.the-variants.{Default, Lock, Write}
 use Rattle.images.proofs.ImageEntryLaws.{on-none, on-some}
-use Rattle.images.specs.Good.{defaultOf, keyLockOf, keyRecordOf, goodFrom, pass}
-use Rattle.images.specs.Sections.{Stands, rawBytes, SpanAt, isGood, imageOf, Listed, SectionsAt, noSections}
+use Rattle.images.specs.declared.checks.Form.{Form}
+use Rattle.images.specs.declared.checks.Form.the-variants.{Old, New}
+use Rattle.images.specs.Good.{defaultOf, keyLockOf, keyRecordOf, formOf, goodFrom, pass}
+use Rattle.images.specs.Sections.{Stands, rawBytes, SpanAt, imageIn, isGood, HeadAt, imageOf, Listed, SectionsAt, noSections}
 use Rattle.images.specs.declared.sections.Span.{Span}
+use Rattle.images.specs.declared.sections.Head.{Head}
 use Rattle.images.specs.declared.sections.Sections.{Sections}
 use Rattle.images.proofs.TestLaws.{and-out, and-last}
 use Rattle.images.proofs.GoodReaderLaws.{mapRead, good-defaults, good-locks, good-writes, pass-section}
@@ -119,118 +122,153 @@ module _ (form : Row → Bool) {A : Type 0} (section : Section) (t : ℕ) (g : A
   span-good : not (p .ok) ≡ false → Kept (allGood g) (readers.section (numberOf 2) r (drop at s)) (record { got = entries; rest = drop (p .end) s })
   span-good h = pass-some (allGood g) (readers.section (numberOf 2) r (drop at s)) _ (span-read true (not-false (p .ok) h))
 
+-- ---- the ways out of `head_at`
+
+module _ {s : Bytes} {t : Number} (tv : NumberAt 4 s 0 t) where
+  old-head : HeadAt Old s (record { ok = t .ok; table = t .value; floor = 0; end = 4 })
+  unfolding oldImage whole oldImageFrom ended
+  old-head = record {
+    bad = λ h. ap ended (on-none (numberOf 4) (λ (n : ℕ). sectionsFrom n 0) (number-bad tv h));
+    good = λ h. ap ended (on-some (numberOf 4) (λ (n : ℕ). sectionsFrom n 0) (number-good tv h));
+    near = omega arith;
+  }
+
+  pub head-old : {form : Form} → form ≡ Old → HeadAt form s (record { ok = t .ok; table = t .value; floor = 0; end = 4 })
+  head-old e = subst (λ (x : Form). HeadAt x s (record { ok = t .ok; table = t .value; floor = 0; end = 4 })) (sym e) old-head
+
+  module _ {f : Number} (fv : NumberAt 8 s 4 f) where
+    abbrev floorOn : ℕ → Reader Image
+    floorOn n = numberOf 8 >>= sectionsFrom n
+
+    begins : (b : Bool) → not (t .ok) ≡ b → not (f .ok) ≡ false → not (t .ok) ≡ false
+    begins true h g = absurd (omega (arith, number-short tv h, number-long fv g))
+    begins false h g = h
+
+    ends : (b : Bool) → not (t .ok) ≡ b → not (f .ok) ≡ true → imageFrom s ≡ none
+    unfolding imageFrom
+    ends true h g = on-none (numberOf 4) floorOn (number-bad tv h)
+    ends false h g = on-some (numberOf 4) floorOn (number-good tv h) ∙ on-none (numberOf 8) (sectionsFrom (t .value)) (number-bad fv g)
+
+    goes : not (f .ok) ≡ false → imageFrom s ≡ sectionsFrom (t .value) (f .value) (drop 12 s)
+    unfolding imageFrom
+    goes g = on-some (numberOf 4) floorOn (number-good tv (begins (not (t .ok)) refl g)) ∙ on-some (numberOf 8) (sectionsFrom (t .value)) (number-good fv g)
+
+    new-head : HeadAt New s (record { ok = f .ok; table = t .value; floor = f .value; end = 12 })
+    unfolding image whole ended
+    new-head = record { bad = λ h. ap ended (ends (not (t .ok)) refl h); good = λ h. ap ended (goes h); near = omega arith }
+
+    pub head-new : {form : Form} → form ≡ New → HeadAt form s (record { ok = f .ok; table = t .value; floor = f .value; end = 12 })
+    head-new e = subst (λ (x : Form). HeadAt x s (record { ok = f .ok; table = t .value; floor = f .value; end = 12 })) (sym e) new-head
+
 -- ---- the ways out of `sections_of`
 
-failed : (form : Row → Bool) {s : Bytes} → isGood form (ended (imageFrom s)) ≡ false → (ds ls ws : List ℕ) → SectionsAt form s noSections ds ls ws
-unfolding image whole
+failed : (form : Form) {s : Bytes} → isGood (formOf form) (imageIn form s) ≡ false → (ds ls ws : List ℕ) → SectionsAt form s noSections ds ls ws
 failed form e ds ls ws = record { bad = λ h. e; good = λ h. absurd (true≢false h); few-defaults = omega arith; few-locks = omega arith; few-writes = omega arith }
 
-abbrev writesOn : ℕ → List box.Default → List KeyLock → List KeyRecord → Reader Image
-writesOn t ds ls ws = just (record { table = t; defaults = ds; locks = ls; writes = ws })
+abbrev imageWith : ℕ → ℕ → List box.Default → List KeyLock → List KeyRecord → Image
+imageWith t f ds ls ws = record { table = t; floor = f; defaults = ds; locks = ls; writes = ws }
 
-abbrev locksOn : ℕ → List box.Default → List KeyLock → Reader Image
-locksOn t ds ls = readers.section (numberOf 2) writeFrom >>= writesOn t ds ls
+abbrev writesOn : ℕ → ℕ → List box.Default → List KeyLock → List KeyRecord → Reader Image
+writesOn t f ds ls ws = just (imageWith t f ds ls ws)
 
-abbrev defaultsOn : ℕ → List box.Default → Reader Image
-defaultsOn t ds = readers.section (numberOf 2) keyLockFrom >>= locksOn t ds
+abbrev locksOn : ℕ → ℕ → List box.Default → List KeyLock → Reader Image
+locksOn t f ds ls = readers.section (numberOf 2) writeFrom >>= writesOn t f ds ls
 
-abbrev tableOn : ℕ → Reader Image
-tableOn t = readers.section (numberOf 2) defaultFrom >>= defaultsOn t
+abbrev defaultsOn : ℕ → ℕ → List box.Default → Reader Image
+defaultsOn t f ds = readers.section (numberOf 2) keyLockFrom >>= locksOn t f ds
 
-image-verdict : (form : Row → Bool) (s : Bytes) {o : Option (Read Image)} → imageFrom s ≡ o → isGood form (ended o) ≡ false → isGood form (ended (imageFrom s)) ≡ false
-image-verdict form s e h = ap (λ (o : Option (Read Image)). isGood form (ended o)) e ∙ h
+abbrev headOn : ℕ → ℕ → Reader Image
+headOn t f = readers.section (numberOf 2) defaultFrom >>= defaultsOn t f
 
-module _ (form : Row → Bool) {s : Bytes} (ds ls ws : List ℕ) {t : Number} (tv : NumberAt 4 s 0 t) where
-  pub sections-no-table : not (t .ok) ≡ true → SectionsAt form s noSections ds ls ws
-  unfolding imageFrom ended
-  sections-no-table h = failed form (image-verdict form s (on-none (numberOf 4) tableOn (number-bad tv h)) refl) ds ls ws
+module _ (form : Form) {s : Bytes} (ds ls ws : List ℕ) {h : Head} (hv : HeadAt form s h) where
+  pub sections-no-head : not (h .ok) ≡ true → SectionsAt form s noSections ds ls ws
+  sections-no-head e = failed form (ap (isGood (formOf form)) (hv .bad e)) ds ls ws
 
-  module _ (tg : not (t .ok) ≡ false) where
-    tabled : imageFrom s ≡ tableOn (t .value) (drop 4 s)
-    unfolding imageFrom
-    tabled = on-some (numberOf 4) tableOn (number-good tv tg)
+  module _ (hg : not (h .ok) ≡ false) where
+    headed : imageIn form s ≡ ended (headOn (h .table) (h .floor) (drop (h .end) s))
+    unfolding sectionsFrom
+    headed = hv .good hg
 
-    pub sections-zero : t .value ≡ 0 → SectionsAt form s noSections ds ls ws
+    fault : {o : Option (Read Image)} → headOn (h .table) (h .floor) (drop (h .end) s) ≡ o → isGood (formOf form) (ended o) ≡ false → SectionsAt form s noSections ds ls ws
+    fault e g = failed form (ap (isGood (formOf form)) (headed ∙ ap ended e) ∙ g) ds ls ws
+
+    pub sections-zero : h .table ≡ 0 → SectionsAt form s noSections ds ls ws
     unfolding _>>=_
     sections-zero e =
-        failed form
-        (image-verdict form s tabled
-        (on-all form (readers.section (numberOf 2) defaultFrom (drop 4 s)) (defaultsOn (t .value))
-        (λ a u. on-all form (readers.section (numberOf 2) keyLockFrom u) (locksOn (t .value) a) (λ b v. on-all form (readers.section (numberOf 2) writeFrom v) (writesOn (t .value) a b) (λ c w. last form _ w (zero-table form _ e)))))) ds ls ws
+        fault refl
+        (on-all (formOf form) (readers.section (numberOf 2) defaultFrom (drop (h .end) s)) (defaultsOn (h .table) (h .floor))
+        (λ a u. on-all (formOf form) (readers.section (numberOf 2) keyLockFrom u) (locksOn (h .table) (h .floor) a) (λ b v. on-all (formOf form) (readers.section (numberOf 2) writeFrom v) (writesOn (h .table) (h .floor) a b) (λ c w. last (formOf form) (imageWith (h .table) (h .floor) a b c) w (zero-table (formOf form) (imageWith (h .table) (h .floor) a b c) e)))))
 
-    module _ {d : Span} (dv : SpanAt form Default (t .value) s 4 d ds) where
+    module _ {d : Span} (dv : SpanAt (formOf form) Default (h .table) s (h .end) d ds) where
       pub sections-no-defaults : not (d .ok) ≡ true → SectionsAt form s noSections ds ls ws
       unfolding _>>=_
-      sections-no-defaults h =
-          failed form
-          (image-verdict form s tabled
-          (on-bad form (allGood (goodDefaultBy form (t .value))) (readers.section (numberOf 2) defaultFrom (drop 4 s)) (defaultsOn (t .value))
-          (span-bad form Default (t .value) (goodDefaultBy form (t .value)) defaultFrom defaultOf (good-defaults form (t .value)) dv h)
-          (λ a u g. on-all form (readers.section (numberOf 2) keyLockFrom u) (locksOn (t .value) a) (λ b v. on-all form (readers.section (numberOf 2) writeFrom v) (writesOn (t .value) a b) (λ c w. last form _ w (bad-defaults form _ g)))))) ds ls ws
+      sections-no-defaults e =
+          fault refl
+          (on-bad (formOf form) (allGood (goodDefaultBy (formOf form) (h .table))) (readers.section (numberOf 2) defaultFrom (drop (h .end) s)) (defaultsOn (h .table) (h .floor))
+          (span-bad (formOf form) Default (h .table) (goodDefaultBy (formOf form) (h .table)) defaultFrom defaultOf (good-defaults (formOf form) (h .table)) dv e)
+          (λ a u g. on-all (formOf form) (readers.section (numberOf 2) keyLockFrom u) (locksOn (h .table) (h .floor) a) (λ b v. on-all (formOf form) (readers.section (numberOf 2) writeFrom v) (writesOn (h .table) (h .floor) a b) (λ c w. last (formOf form) (imageWith (h .table) (h .floor) a b c) w (bad-defaults (formOf form) (imageWith (h .table) (h .floor) a b c) g)))))
 
       module _ (dg : not (d .ok) ≡ false) where
-        kept-defaults : Kept (allGood (goodDefaultBy form (t .value))) (readers.section (numberOf 2) defaultFrom (drop 4 s)) (record { got = map defaultOf (map (rawAt Default s) (take (d .count) ds)); rest = drop (d .end) s })
-        kept-defaults = span-good form Default (t .value) (goodDefaultBy form (t .value)) defaultFrom defaultOf (good-defaults form (t .value)) dv dg
+        kept-defaults : Kept (allGood (goodDefaultBy (formOf form) (h .table))) (readers.section (numberOf 2) defaultFrom (drop (h .end) s)) (record { got = map defaultOf (map (rawAt Default s) (take (d .count) ds)); rest = drop (d .end) s })
+        kept-defaults = span-good (formOf form) Default (h .table) (goodDefaultBy (formOf form) (h .table)) defaultFrom defaultOf (good-defaults (formOf form) (h .table)) dv dg
 
         abbrev rows : List box.Default
         rows = map defaultOf (map (rawAt Default s) (take (d .count) ds))
 
-        stored : imageFrom s ≡ defaultsOn (t .value) rows (drop (d .end) s)
-        stored = tabled ∙ on-some (readers.section (numberOf 2) defaultFrom) (defaultsOn (t .value)) (kept-defaults .is)
+        stored : headOn (h .table) (h .floor) (drop (h .end) s) ≡ defaultsOn (h .table) (h .floor) rows (drop (d .end) s)
+        stored = on-some (readers.section (numberOf 2) defaultFrom) (defaultsOn (h .table) (h .floor)) (kept-defaults .is)
 
-        module _ {l : Span} (lv : SpanAt form Lock (t .value) s (d .end) l ls) where
+        module _ {l : Span} (lv : SpanAt (formOf form) Lock (h .table) s (d .end) l ls) where
           pub sections-no-locks : not (l .ok) ≡ true → SectionsAt form s noSections ds ls ws
           unfolding _>>=_
-          sections-no-locks h =
-              failed form
-              (image-verdict form s stored
-              (on-bad form (allGood (goodLock (t .value))) (readers.section (numberOf 2) keyLockFrom (drop (d .end) s)) (locksOn (t .value) rows)
-              (span-bad form Lock (t .value) (goodLock (t .value)) keyLockFrom keyLockOf (good-locks form (t .value)) lv h)
-              (λ b u g. on-all form (readers.section (numberOf 2) writeFrom u) (writesOn (t .value) rows b) (λ c w. last form _ w (bad-locks form _ g))))) ds ls ws
+          sections-no-locks e =
+              fault stored
+              (on-bad (formOf form) (allGood (goodLock (h .table))) (readers.section (numberOf 2) keyLockFrom (drop (d .end) s)) (locksOn (h .table) (h .floor) rows)
+              (span-bad (formOf form) Lock (h .table) (goodLock (h .table)) keyLockFrom keyLockOf (good-locks (formOf form) (h .table)) lv e)
+              (λ b u g. on-all (formOf form) (readers.section (numberOf 2) writeFrom u) (writesOn (h .table) (h .floor) rows b) (λ c w. last (formOf form) (imageWith (h .table) (h .floor) rows b c) w (bad-locks (formOf form) (imageWith (h .table) (h .floor) rows b c) g))))
 
           module _ (lg : not (l .ok) ≡ false) where
-            kept-locks : Kept (allGood (goodLock (t .value))) (readers.section (numberOf 2) keyLockFrom (drop (d .end) s)) (record { got = map keyLockOf (map (rawAt Lock s) (take (l .count) ls)); rest = drop (l .end) s })
-            kept-locks = span-good form Lock (t .value) (goodLock (t .value)) keyLockFrom keyLockOf (good-locks form (t .value)) lv lg
+            kept-locks : Kept (allGood (goodLock (h .table))) (readers.section (numberOf 2) keyLockFrom (drop (d .end) s)) (record { got = map keyLockOf (map (rawAt Lock s) (take (l .count) ls)); rest = drop (l .end) s })
+            kept-locks = span-good (formOf form) Lock (h .table) (goodLock (h .table)) keyLockFrom keyLockOf (good-locks (formOf form) (h .table)) lv lg
 
             abbrev bs : List KeyLock
             bs = map keyLockOf (map (rawAt Lock s) (take (l .count) ls))
 
-            locked : imageFrom s ≡ locksOn (t .value) rows bs (drop (l .end) s)
-            locked = stored ∙ on-some (readers.section (numberOf 2) keyLockFrom) (locksOn (t .value) rows) (kept-locks .is)
+            locked : headOn (h .table) (h .floor) (drop (h .end) s) ≡ locksOn (h .table) (h .floor) rows bs (drop (l .end) s)
+            locked = stored ∙ on-some (readers.section (numberOf 2) keyLockFrom) (locksOn (h .table) (h .floor) rows) (kept-locks .is)
 
-            module _ {w : Span} (wv : SpanAt form Write (t .value) s (l .end) w ws) where
+            module _ {w : Span} (wv : SpanAt (formOf form) Write (h .table) s (l .end) w ws) where
               pub sections-no-writes : not (w .ok) ≡ true → SectionsAt form s noSections ds ls ws
               unfolding _>>=_
-              sections-no-writes h =
-                  failed form
-                  (image-verdict form s locked
-                  (on-bad form (allGood (goodWrite (t .value))) (readers.section (numberOf 2) writeFrom (drop (l .end) s)) (writesOn (t .value) rows bs)
-                  (span-bad form Write (t .value) (goodWrite (t .value)) writeFrom keyRecordOf (good-writes form (t .value)) wv h) (λ c u g. last form _ u (bad-writes form _ g)))) ds ls ws
+              sections-no-writes e =
+                  fault locked
+                  (on-bad (formOf form) (allGood (goodWrite (h .table))) (readers.section (numberOf 2) writeFrom (drop (l .end) s)) (writesOn (h .table) (h .floor) rows bs)
+                  (span-bad (formOf form) Write (h .table) (goodWrite (h .table)) writeFrom keyRecordOf (good-writes (formOf form) (h .table)) wv e) (λ c u g. last (formOf form) (imageWith (h .table) (h .floor) rows bs c) u (bad-writes (formOf form) (imageWith (h .table) (h .floor) rows bs c) g)))
 
               module _ (wg : not (w .ok) ≡ false) where
-                kept-writes : Kept (allGood (goodWrite (t .value))) (readers.section (numberOf 2) writeFrom (drop (l .end) s)) (record { got = map keyRecordOf (map (rawAt Write s) (take (w .count) ws)); rest = drop (w .end) s })
-                kept-writes = span-good form Write (t .value) (goodWrite (t .value)) writeFrom keyRecordOf (good-writes form (t .value)) wv wg
+                kept-writes : Kept (allGood (goodWrite (h .table))) (readers.section (numberOf 2) writeFrom (drop (l .end) s)) (record { got = map keyRecordOf (map (rawAt Write s) (take (w .count) ws)); rest = drop (w .end) s })
+                kept-writes = span-good (formOf form) Write (h .table) (goodWrite (h .table)) writeFrom keyRecordOf (good-writes (formOf form) (h .table)) wv wg
 
                 abbrev all : Image
-                all = imageOf s (t .value) (take (d .count) ds) (take (l .count) ls) (take (w .count) ws)
+                all = imageOf s (h .table) (h .floor) (take (d .count) ds) (take (l .count) ls) (take (w .count) ws)
 
-                written : imageFrom s ≡ some (record { got = all; rest = drop (w .end) s })
+                written : headOn (h .table) (h .floor) (drop (h .end) s) ≡ some (record { got = all; rest = drop (w .end) s })
                 unfolding just
-                written = locked ∙ on-some (readers.section (numberOf 2) writeFrom) (writesOn (t .value) rows bs) (kept-writes .is)
+                written = locked ∙ on-some (readers.section (numberOf 2) writeFrom) (writesOn (h .table) (h .floor) rows bs) (kept-writes .is)
 
-                at-end : ended (imageFrom s) ≡ when (eqb (w .end) (length s)) all
-                at-end = ap ended written ∙ ended-at all s (w .end) (wv .end-in)
+                at-end : imageIn form s ≡ when (eqb (w .end) (length s)) all
+                at-end = headed ∙ ap ended written ∙ ended-at all s (w .end) (wv .end-in)
 
                 pub sections-tail : (w .end ≡ length s → ⊥) → SectionsAt form s noSections ds ls ws
-                sections-tail n = failed form (ap (isGood form) (at-end ∙ ap (λ (b : Bool). when b all) (ne-eqb (w .end) (length s) n))) ds ls ws
+                sections-tail n = failed form (ap (isGood (formOf form)) (at-end ∙ ap (λ (b : Bool). when b all) (ne-eqb (w .end) (length s) n))) ds ls ws
 
-                pub sections-good : (t .value ≡ 0 → ⊥) → w .end ≡ length s
-                    → SectionsAt form s (record { ok = true; defaults = d .count; locks = l .count; writes = w .count; writesat = l .end; bytes = d .bytes + l .bytes + w .bytes }) ds ls ws
-                unfolding image whole
+                pub sections-good : (h .table ≡ 0 → ⊥) → w .end ≡ length s
+                    → SectionsAt form s (record { ok = true; floor = h .floor; defaults = d .count; locks = l .count; writes = w .count; writesat = l .end; bytes = d .bytes + l .bytes + w .bytes }) ds ls ws
                 sections-good z e = record {
-                  bad = λ h. absurd (false≢true h);
-                  good = λ h. record {
-                    table = t .value;
+                  bad = λ g. absurd (false≢true g);
+                  good = λ g. record {
+                    table = h .table;
+                    begin = h .end;
                     lat = d .end;
                     some-table = z;
                     is = at-end ∙ ap (λ (b : Bool). when b all) (eq-eqb (w .end) (length s) e);

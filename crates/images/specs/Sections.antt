@@ -17,13 +17,16 @@ use Rattle.forms.specs.Places.{found}
 use Rattle.rules.specs.declared.room.Load.{Load}
 use Rattle.rules.specs.Box as box
 use Rattle.rules.specs.Room.{sumOf, loadOf, Fits}
-use Rattle.rules.specs.Image.{Image, image}
-use Rattle.rules.specs.Restore.{allGood, goodDefaultBy, goodLock, goodWrite, goodImageBy, goodImage, healthyImage, boxOf}
+use Rattle.rules.specs.Image.{Image, sectionsFrom, image, oldImage}
+use Rattle.rules.specs.Restore.{allGood, goodDefaultBy, goodLock, goodWrite, goodImageBy, goodImage, healthyImage, flooredImage, boxOf}
 use Rattle.images.specs.Entries.{Raw, rawAt}
 use Rattle.images.specs.declared.entries.Section.{Section}
 use Rattle.images.specs.declared.entries.Section.the-variants.{Default, Lock, Write}
-use Rattle.images.specs.Good.{defaultOf, keyLockOf, keyRecordOf, goodFrom}
+use Rattle.images.specs.declared.checks.Form.{Form}
+use Rattle.images.specs.declared.checks.Form.the-variants.{Old, New}
+use Rattle.images.specs.Good.{defaultOf, keyLockOf, keyRecordOf, formOf, goodFrom}
 use Rattle.images.specs.declared.sections.Span.{Span}
+use Rattle.images.specs.declared.sections.Head.{Head}
 use Rattle.images.specs.declared.sections.Sections.{Sections}
 
 -- a list of n places has one for every entry that a section of s can have: an entry has at least 9 bytes, and a count 2
@@ -61,15 +64,27 @@ pub record Room (s : Bytes) (ds ls ws : List ℕ) : Type 0 where
   pub locks : Enough s (length ls)
   pub writes : Enough s (length ws)
 
+-- the image that bytes are in that form: document 01's has no floor
+abbrev pub imageIn : Form → Bytes → Option Image
+imageIn Old s = oldImage s
+imageIn New s = image s
+
 -- bytes that are an image, and a good one
 abbrev pub isGood : (Row → Bool) → Option Image → Bool
 isGood form none = false
 isGood form (some i) = goodImageBy form i
 
+-- "4-byte table number"; "The floor .., 8 bytes, after the table number": what stands before the sections, and where it ends
+pub record HeadAt (form : Form) (s : Bytes) (r : Head) : Type 0 where
+  pub bad : not (r .ok) ≡ true → imageIn form s ≡ none
+  pub good : not (r .ok) ≡ false → imageIn form s ≡ readers.ended (sectionsFrom (r .table) (r .floor) (drop (r .end) s))
+  pub near : r .end ≤ 12
+
 -- the image whose entries stand at these places
-abbrev pub imageOf : Bytes → ℕ → List ℕ → List ℕ → List ℕ → Image
-imageOf s t ds ls ws = record {
+abbrev pub imageOf : Bytes → ℕ → ℕ → List ℕ → List ℕ → List ℕ → Image
+imageOf s t f ds ls ws = record {
   table = t;
+  floor = f;
   defaults = map defaultOf (map (rawAt Default s) ds);
   locks = map keyLockOf (map (rawAt Lock s) ls);
   writes = map keyRecordOf (map (rawAt Write s) ws);
@@ -88,36 +103,39 @@ abbrev pub lineAt : Bytes → ℕ → ℕ → box.KeyLine
 lineAt s writesat p = lineIf (ltb p writesat) s p
 
 -- an image that restore accepts, its box told by places in its order
-pub record Placed (s : Bytes) (load : Load) (writesat : ℕ) (rows lines : List ℕ) : Type 0 where
+pub record Placed (s : Bytes) (load : Load) (floor writesat : ℕ) (rows lines : List ℕ) : Type 0 where
   pub img : Image
   pub is : image s ≡ some img
   pub good : goodImage img ≡ true
   pub healthy : healthyImage img ≡ true
+  pub floored : flooredImage img ≡ true
+  pub floor-is : floor ≡ img .floor
   pub fit : Fits load
   pub load-is : load ≡ loadOf (boxOf img)
   pub rows-are : map (rowAt s) (take (load .defaults) rows) ≡ boxOf img .defaults
   pub lines-are : map (lineAt s writesat) (take (load .lines) lines) ≡ boxOf img .lines
 
--- an image in form at these places, each of its entries good by itself
-pub record Listed (form : Row → Bool) (s : Bytes) (i : Sections) (ds ls ws : List ℕ) : Type 0 where
+-- an image in form at these places, each of its entries good by itself; its defaults stand from `begin` to `lat`
+pub record Listed (form : Form) (s : Bytes) (i : Sections) (ds ls ws : List ℕ) : Type 0 where
   pub table : ℕ
+  pub begin : ℕ
   pub lat : ℕ
   pub some-table : table ≡ 0 → ⊥
-  pub is : image s ≡ some (imageOf s table ds ls ws)
-  pub good-defaults : allGood (goodDefaultBy form table) (imageOf s table ds ls ws .defaults) ≡ true
-  pub good-locks : allGood (goodLock table) (imageOf s table ds ls ws .locks) ≡ true
-  pub good-writes : allGood (goodWrite table) (imageOf s table ds ls ws .writes) ≡ true
-  pub defaults : All (Stands form Default table s 4 lat) ds
-  pub locks : All (Stands form Lock table s lat (i .writesat)) ls
-  pub writes : All (Stands form Write table s (i .writesat) (length s)) ws
+  pub is : imageIn form s ≡ some (imageOf s table (i .floor) ds ls ws)
+  pub good-defaults : allGood (goodDefaultBy (formOf form) table) (imageOf s table (i .floor) ds ls ws .defaults) ≡ true
+  pub good-locks : allGood (goodLock table) (imageOf s table (i .floor) ds ls ws .locks) ≡ true
+  pub good-writes : allGood (goodWrite table) (imageOf s table (i .floor) ds ls ws .writes) ≡ true
+  pub defaults : All (Stands (formOf form) Default table s begin lat) ds
+  pub locks : All (Stands (formOf form) Lock table s lat (i .writesat)) ls
+  pub writes : All (Stands (formOf form) Write table s (i .writesat) (length s)) ws
   pub bytes-is : i .bytes ≡ sumOf rawBytes (map (rawAt Default s) ds) + sumOf rawBytes (map (rawAt Lock s) ls) + sumOf rawBytes (map (rawAt Write s) ws)
 
-pub record SectionsAt (form : Row → Bool) (s : Bytes) (i : Sections) (ds ls ws : List ℕ) : Type 0 where
-  pub bad : not (i .ok) ≡ true → isGood form (image s) ≡ false
+pub record SectionsAt (form : Form) (s : Bytes) (i : Sections) (ds ls ws : List ℕ) : Type 0 where
+  pub bad : not (i .ok) ≡ true → isGood (formOf form) (imageIn form s) ≡ false
   pub good : not (i .ok) ≡ false → Listed form s i (take (i .defaults) ds) (take (i .locks) ls) (take (i .writes) ws)
   pub few-defaults : i .defaults ≤ length ds
   pub few-locks : i .locks ≤ length ls
   pub few-writes : i .writes ≤ length ws
 
 abbrev pub noSections : Sections
-noSections = record { ok = false; defaults = 0; locks = 0; writes = 0; writesat = 0; bytes = 0 }
+noSections = record { ok = false; floor = 0; defaults = 0; locks = 0; writes = 0; writesat = 0; bytes = 0 }

@@ -20,7 +20,7 @@ use rules::records::Kind;
 use rules::records::Record;
 use rules::records::record_sound;
 
-// The form in which an image has its rows: document 01's, for the converter, or the form of a row.
+// The form of an image: document 01's, for the converter, with its own rows and without a floor; or the one that stands.
 pub enum Form {
     Old,
     New,

@@ -3,7 +3,7 @@ ghost use mathlib.Core.Path.{_≡_};
 ghost use Prim.Native.Nat.{_≤_};
 ghost use lib.ListN.{length};
 ghost use Rattle.images.specs.Good.{formOf};
-ghost use Rattle.images.specs.Sections.{Enough, Room, SpanAt, noSpan, SectionsAt, noSections};
+ghost use Rattle.images.specs.Sections.{Enough, Room, SpanAt, noSpan, HeadAt, SectionsAt, noSections};
 use crate::checks::Form;
 use crate::checks::good_at;
 use crate::entries::Section;
@@ -68,10 +68,43 @@ fn section_at(
     }
 }
 
-// An image in form whose entries are good, each by itself: how many defaults, locks and writes it has, where the writes begin, and the bytes of
-// all keys and pieces; not ok for other bytes.
+// What stands before the sections, and where it ends; not ok where there is none.
+pub struct Head {
+    pub ok: bool,
+    pub table: u64,
+    pub floor: u64,
+    pub end: usize,
+}
+
+// "4-byte table number"; "The floor .. stands in the image, 8 bytes, after the table number". An old image has none.
+fn head_at(s: &[u8], form: Form) -> Head
+    ensures { λ r. ⌜ HeadAt form (now (s .entry)) r ⌝ }
+{
+    let t = number_at(s, 0, Width::Four);
+    match form {
+        Form::Old => Head {
+            ok: t.ok,
+            table: t.value,
+            floor: 0,
+            end: 4,
+        },
+        Form::New => {
+            let f = number_at(s, 4, Width::Eight);
+            Head {
+                ok: f.ok,
+                table: t.value,
+                floor: f.value,
+                end: 12,
+            }
+        }
+    }
+}
+
+// An image in form whose entries are good, each by itself: its floor, how many defaults, locks and writes it has, where the writes begin, and the
+// bytes of all keys and pieces; not ok for other bytes.
 pub struct Sections {
     pub ok: bool,
+    pub floor: u64,
     pub defaults: usize,
     pub locks: usize,
     pub writes: usize,
@@ -84,6 +117,7 @@ pub fn no_sections() -> Sections
 {
     Sections {
         ok: false,
+        floor: 0,
         defaults: 0,
         locks: 0,
         writes: 0,
@@ -92,28 +126,27 @@ pub fn no_sections() -> Sections
     }
 }
 
-// "4-byte table number; 2-byte count of defaults ..; 2-byte count of locks ..; 2-byte count of writes ..", "nothing may follow", and "table
-// number not zero"
+// "table number not zero"; "2-byte count of defaults ..; 2-byte count of locks ..; 2-byte count of writes ..", and "nothing may follow"
 pub fn sections_of(s: &[u8], form: Form, ds: &mut [u32], ls: &mut [u32], ws: &mut [u32]) -> Sections
     requires { ⌜ Room (now s) (now ds) (now ls) (now ws) ⌝ }
-    ensures { λ r. ⌜ SectionsAt (formOf form) (now (s .entry)) r (now (ds .exit)) (now (ls .exit)) (now (ws .exit)) ⌝ }
+    ensures { λ r. ⌜ SectionsAt form (now (s .entry)) r (now (ds .exit)) (now (ls .exit)) (now (ws .exit)) ⌝ }
 {
-    let t = number_at(s, 0, Width::Four);
+    let t = head_at(s, form);
     if !t.ok {
         return no_sections();
     }
-    if t.value == 0 {
+    if t.table == 0 {
         return no_sections();
     }
-    let d = section_at(s, 4, Section::Default, form, t.value, ds);
+    let d = section_at(s, t.end, Section::Default, form, t.table, ds);
     if !d.ok {
         return no_sections();
     }
-    let l = section_at(s, d.end, Section::Lock, form, t.value, ls);
+    let l = section_at(s, d.end, Section::Lock, form, t.table, ls);
     if !l.ok {
         return no_sections();
     }
-    let w = section_at(s, l.end, Section::Write, form, t.value, ws);
+    let w = section_at(s, l.end, Section::Write, form, t.table, ws);
     if !w.ok {
         return no_sections();
     }
@@ -122,6 +155,7 @@ pub fn sections_of(s: &[u8], form: Form, ds: &mut [u32], ls: &mut [u32], ws: &mu
     }
     Sections {
         ok: true,
+        floor: t.floor,
         defaults: d.count,
         locks: l.count,
         writes: w.count,

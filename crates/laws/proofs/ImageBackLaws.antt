@@ -19,7 +19,7 @@ use Rattle.rules.specs.declared.records.Kind.the-variants.{Put, Delete, Rollbac
 use Rattle.rules.specs.Box.{Lock, Default, kindByte}
 use Rattle.rules.specs.Page.{KeyLock}
 use Rattle.rules.specs.Written.{lockBytes, keyLockBytes, allBytes}
-use Rattle.rules.specs.Image.{Image, KeyRecord, kindIf, kindFrom, defaultFrom, lockFrom, keyLockFrom, writeFrom, imageFrom, image}
+use Rattle.rules.specs.Image.{Image, KeyRecord, kindIf, kindFrom, defaultFrom, lockFrom, keyLockFrom, writeFrom, sectionsFrom, imageFrom, image}
 use Rattle.rules.specs.Capture.{defaultBytes, recordBytes, writeBytes, sectionBytes, imageBytes, Word, LockWords, RecordWords, Few, ImageWords}
 
 abbrev readAs : {A : Type 0} → A → Bytes → Option (Read A)
@@ -32,7 +32,7 @@ then-reads r f s e g = after f e ∙ g
 
 -- ---- pieces and numbers
 
-stretch-back : (n : ℕ) (s t : Bytes) → length s ≡ n → stretch n (s ++ t) ≡ readAs s t
+pub stretch-back : (n : ℕ) (s t : Bytes) → length s ≡ n → stretch n (s ++ t) ≡ readAs s t
 unfolding stretch
 stretch-back n s t e =
     let l : n ≤ length (s ++ t) = omega (arith, length-append s t) in
@@ -89,12 +89,13 @@ module _ {A : Type 0} (r : Reader A) (f : A → Bytes) (P : A → Type 0) (back 
 -- ---- the image
 
 image-reads : (i : Image) (t : Bytes) → ImageWords i → imageFrom (imageBytes i ++ t) ≡ readAs i t
-unfolding imageFrom imageBytes just
+unfolding imageFrom sectionsFrom imageBytes just
 image-reads i t v =
     simp append-assoc (then-reads _ _ _ (number-back 4 (i .table) _ (v .table))
+    (then-reads _ _ _ (number-back 8 (i .floor) _ (v .floor))
     (then-reads _ _ _ (section-back defaultFrom defaultBytes _ default-back (i .defaults) _ (v .defaults))
     (then-reads _ _ _ (section-back keyLockFrom keyLockBytes _ keyLock-back (i .locks) _ (v .locks))
-    (then-reads _ _ _ (section-back writeFrom writeBytes _ write-back (i .writes) t (v .writes)) refl))))
+    (then-reads _ _ _ (section-back writeFrom writeBytes _ write-back (i .writes) t (v .writes)) refl)))))
 
 pub image-back : (i : Image) → ImageWords i → image (imageBytes i) ≡ some i
 unfolding image whole ended

@@ -12,12 +12,13 @@ use Rattle.rules.specs.declared.room.Load.{Load}
 use Rattle.rules.specs.Box.{Box, KeyLine, Default, before, rowBefore, insertBy, insertLine, ordered, inOrder}
 use Rattle.rules.specs.Room.{loadOf, roomFor}
 use Rattle.rules.specs.Page.{KeyLock}
+use Rattle.rules.specs.Calls.{State}
 use Rattle.rules.specs.Image.{Image, KeyRecord, image}
-use Rattle.rules.specs.Restore.{allGood, noneLike, noSecond, goodDefault, goodLock, goodWrite, likeDefault, likeLock, likeWrite, hasDefault, goodImage, imageLines, lockHasDefault, pointedTo, likeLine, healthyImage, placeDefaults, placeWrites, placeLocks, boxOf, restoreSteps, restoreTo, restore}
+use Rattle.rules.specs.Restore.{allGood, noneLike, noSecond, goodDefault, goodLock, goodWrite, likeDefault, likeLock, likeWrite, hasDefault, goodImage, imageLines, lockHasDefault, pointedTo, likeLine, healthyImage, flooredImage, placeDefaults, placeWrites, placeLocks, boxOf, stateOf, restoreSteps, restoreTo, restore}
 pub use Rattle.rules.specs.Restore.{lockLine, writeLine}
 use Rattle.laws.specs.Adds.{plus, sumLoads, lockLoad, recordLoad, rowLoad, linesLoad, defaultsLoad}
 use Rattle.laws.proofs.StepLaws.{passed, and-left, and-right, and-both, not-true}
-use Rattle.laws.proofs.SettleLaws.{settle-keeps}
+use Rattle.laws.proofs.SettleLaws.{settleState-keeps}
 use Rattle.laws.proofs.Sorted.{In, all-insert, Clear, clear-insert, ordered-insert, insert-in, in-insert, ordered-same}
 use Rattle.laws.proofs.BoxOrder.{before-trans, before-irrefl, before-else, rowBefore-trans, rowBefore-irrefl, rowBefore-else, samePlace, in-order}
 use Rattle.laws.proofs.LoadLaws.{load-eq, load-fields, none-plus, load-parts, lines-insert, defaults-insert}
@@ -63,16 +64,16 @@ pub healthy-image : (i : Image) → healthyImage i ≡ true → HealthyImage i
 unfolding healthyImage
 healthy-image i v = record { locks-have = search passed; pointed-to = search passed; lines-once = search passed }
 
--- ---- what holds of the box before, and of every image's box that may replace it, holds after
+-- ---- what holds of the state before, and of every image's state that may replace it, holds after
 
-pub restore-keeps : (P : Box → Type 0) (s : Bytes) (b : Box) → P b
-    → ((i : Image) → image s ≡ some i → goodImage i ≡ true → healthyImage i ≡ true → roomFor (boxOf i) ≡ true → P (boxOf i)) → P (restore s b .box)
+pub restore-keeps : (P : State → Type 0) (s : Bytes) (st : State) → P st
+    → ((i : Image) → image s ≡ some i → goodImage i ≡ true → healthyImage i ≡ true → flooredImage i ≡ true → roomFor (boxOf i) ≡ true → P (stateOf i)) → P (restore s st .state)
 unfolding restore restoreTo restoreSteps
-restore-keeps P s b v h = go (image s) h
+restore-keeps P s st v h = go (image s) h
   where
-    go : (o : Option Image) → ((i : Image) → o ≡ some i → goodImage i ≡ true → healthyImage i ≡ true → roomFor (boxOf i) ≡ true → P (boxOf i)) → P (restoreTo o b .box)
+    go : (o : Option Image) → ((i : Image) → o ≡ some i → goodImage i ≡ true → healthyImage i ≡ true → flooredImage i ≡ true → roomFor (boxOf i) ≡ true → P (stateOf i)) → P (restoreTo o st .state)
     go none h = v
-    go (some i) h = settle-keeps P _ (boxOf i) b v (λ p. h i refl (search passed) (search passed) (search passed))
+    go (some i) h = settleState-keeps P _ (stateOf i) st v (λ p. h i refl (search passed) (search passed) (search passed) (search passed))
 
 -- ---- no second of its like: each comes where it has no equal
 

@@ -25,4 +25,8 @@ pub mod NewestFirstLaws
 pub mod KeysLaws
 pub mod Singles
 pub mod ImageBackLaws
+pub mod FewerLaws
 pub mod TablePartLaws
+pub mod CollectLaws
+pub mod CollectReadLaws
+pub mod CollectPageLaws

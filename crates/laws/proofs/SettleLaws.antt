@@ -14,7 +14,7 @@ use Rattle.rules.specs.declared.answers.Answer.{Answer}
 use Rattle.rules.specs.declared.answers.Answer.the-variants.{Accepted, No, Held}
 use Rattle.rules.specs.Answers.{_▸_, need}
 use Rattle.rules.specs.Box.{Box}
-use Rattle.rules.specs.Calls.{Done, settle, ofBatch, nonEmpty}
+use Rattle.rules.specs.Calls.{Done, settle, State, settleState, ofBatch, nonEmpty}
 use Rattle.rules.specs.Prewrite.{PrewriteTerms, prewriteAll, prewriteBatch, prewriteSteps, applyPrewrites}
 use Rattle.rules.specs.declared.terms.CommitTerms.{CommitTerms}
 use Rattle.rules.specs.Commit.{commitAll, commitBatch, commitSteps, applyCommits}
@@ -71,32 +71,56 @@ pub ofBatch-none : {A : Type 0} (o : Option (List A)) (call : List A → Box →
 unfolding ofBatch
 ofBatch-none o call b e = rw e
 
+-- ---- settleState, of a call that can change the floor too
+
+pub settleState-answer : (a : Answer) (new old : State) → settleState a new old .answer ≡ a
+unfolding settleState
+settleState-answer Accepted new old = refl
+settleState-answer (No n) new old = refl
+settleState-answer (Held h) new old = refl
+
+pub settleState-new : {a : Answer} (new old : State) → a ≡ Accepted → settleState a new old .state ≡ new
+unfolding settleState
+settleState-new new old e = ap (λ (x : Answer). settleState x new old .state) e
+
+pub settleState-leaves : (a : Answer) (new old : State) → (settleState a new old .answer ≡ Accepted → ⊥) → settleState a new old .state ≡ old
+unfolding settleState
+settleState-leaves Accepted new old n = absurd (n refl)
+settleState-leaves (No m) new old n = refl
+settleState-leaves (Held o) new old n = refl
+
+pub settleState-keeps : (P : State → Type 0) (a : Answer) (new old : State) → P old → (a ≡ Accepted → P new) → P (settleState a new old .state)
+unfolding settleState
+settleState-keeps P Accepted new old p q = q refl
+settleState-keeps P (No n) new old p q = p
+settleState-keeps P (Held o) new old p q = p
+
 -- ---- each changing call: a refusal leaves the box
 
-pub prewriteAll-leaves : (h : PrewriteTerms) (ms : List Mutation) (b : Box) → Leaves b (prewriteAll h ms b)
+pub prewriteAll-leaves : (floor : ℕ) (h : PrewriteTerms) (ms : List Mutation) (b : Box) → Leaves b (prewriteAll floor h ms b)
 unfolding prewriteAll
-prewriteAll-leaves h ms b = settle-leaves (need (nonEmpty ms) 5 ▸ prewriteSteps h ms b) (applyPrewrites h ms b) b
+prewriteAll-leaves floor h ms b = settle-leaves (need (nonEmpty ms) 5 ▸ prewriteSteps floor h ms b) (applyPrewrites h ms b) b
 
-pub prewriteBatch-leaves : (h : PrewriteTerms) (s : Bytes) (b : Box) → Leaves b (prewriteBatch h s b)
+pub prewriteBatch-leaves : (floor : ℕ) (h : PrewriteTerms) (s : Bytes) (b : Box) → Leaves b (prewriteBatch floor h s b)
 unfolding prewriteBatch
-prewriteBatch-leaves h s b = ofBatch-leaves (mutations s) (prewriteAll h) b (λ ms. prewriteAll-leaves h ms b)
+prewriteBatch-leaves floor h s b = ofBatch-leaves (mutations s) (prewriteAll floor h) b (λ ms. prewriteAll-leaves floor h ms b)
 
-pub commitAll-leaves : (h : CommitTerms) (ks : List Key) (b : Box) → Leaves b (commitAll h ks b)
+pub commitAll-leaves : (floor : ℕ) (h : CommitTerms) (ks : List Key) (b : Box) → Leaves b (commitAll floor h ks b)
 unfolding commitAll
-commitAll-leaves h ks b = settle-leaves (need (nonEmpty ks) 5 ▸ commitSteps h ks b) (applyCommits h ks b) b
+commitAll-leaves floor h ks b = settle-leaves (need (nonEmpty ks) 5 ▸ commitSteps floor h ks b) (applyCommits h ks b) b
 
-pub commitBatch-leaves : (h : CommitTerms) (s : Bytes) (b : Box) → Leaves b (commitBatch h s b)
+pub commitBatch-leaves : (floor : ℕ) (h : CommitTerms) (s : Bytes) (b : Box) → Leaves b (commitBatch floor h s b)
 unfolding commitBatch
-commitBatch-leaves h s b = ofBatch-leaves (keys s) (commitAll h) b (λ ks. commitAll-leaves h ks b)
+commitBatch-leaves floor h s b = ofBatch-leaves (keys s) (commitAll floor h) b (λ ks. commitAll-leaves floor h ks b)
 
-module _ (txn start : ℕ) where
-  pub rollbackAll-leaves : (ks : List Key) (b : Box) → Leaves b (rollbackAll txn start ks b)
+module _ (floor txn start : ℕ) where
+  pub rollbackAll-leaves : (ks : List Key) (b : Box) → Leaves b (rollbackAll floor txn start ks b)
   unfolding rollbackAll
-  rollbackAll-leaves ks b = settle-leaves (need (nonEmpty ks) 5 ▸ rollbackSteps txn start ks b) (applyRollbacks start ks b) b
+  rollbackAll-leaves ks b = settle-leaves (need (nonEmpty ks) 5 ▸ rollbackSteps floor txn start ks b) (applyRollbacks start ks b) b
 
-  pub rollbackBatch-leaves : (s : Bytes) (b : Box) → Leaves b (rollbackBatch txn start s b)
+  pub rollbackBatch-leaves : (s : Bytes) (b : Box) → Leaves b (rollbackBatch floor txn start s b)
   unfolding rollbackBatch
-  rollbackBatch-leaves s b = ofBatch-leaves (keys s) (rollbackAll txn start) b (λ ks. rollbackAll-leaves ks b)
+  rollbackBatch-leaves s b = ofBatch-leaves (keys s) (rollbackAll floor txn start) b (λ ks. rollbackAll-leaves ks b)
 
 -- ---- one-step: arguments first, then all applied or not
 
@@ -112,23 +136,23 @@ then-keeps P Accepted b d p q = q refl
 then-keeps P (No n) b d p q = p
 then-keeps P (Held o) b d p q = p
 
-module _ (h : CommitTerms) (ms : List Mutation) (b : Box) where
+module _ (floor : ℕ) (h : CommitTerms) (ms : List Mutation) (b : Box) where
   applied-leaves : (t : Bool) → Leaves b (stepApplied t h ms b)
   unfolding stepApplied
   applied-leaves true = λ n. refl
   applied-leaves false = settle-leaves (need (not (someApplied h b ms)) 9 ▸ stepNew h ms b) (applySteps h ms b) b
 
-  pub stepDone-leaves : Leaves b (stepDone h ms b)
+  pub stepDone-leaves : Leaves b (stepDone floor h ms b)
   unfolding stepDone
-  stepDone-leaves = then-leaves (stepArguments h ms b) b (stepApplied (allApplied h b ms) h ms b) (applied-leaves (allApplied h b ms))
+  stepDone-leaves = then-leaves (stepArguments floor h ms b) b (stepApplied (allApplied h b ms) h ms b) (applied-leaves (allApplied h b ms))
 
-pub oneStep-leaves : (h : CommitTerms) (s : Bytes) (b : Box) → Leaves b (oneStep h s b .done)
+pub oneStep-leaves : (floor : ℕ) (h : CommitTerms) (s : Bytes) (b : Box) → Leaves b (oneStep floor h s b .done)
 unfolding oneStep ofCounted stepAll
-oneStep-leaves h s b = go (mutations s)
+oneStep-leaves floor h s b = go (mutations s)
   where
-    go : (o : Option (List Mutation)) → Leaves b (ofCounted o (stepAll h) b .done)
+    go : (o : Option (List Mutation)) → Leaves b (ofCounted o (stepAll floor h) b .done)
     go none = λ n. refl
-    go (some ms) = stepDone-leaves h ms b
+    go (some ms) = stepDone-leaves floor h ms b
 
 -- "a refusal's counts are 0", "The count is the number of entries"
 refused-zero : (a : Answer) (n : ℕ) → (a ≡ Accepted → ⊥) → countIf a n ≡ 0
@@ -137,10 +161,10 @@ refused-zero Accepted n r = absurd (r refl)
 refused-zero (No m) n r = refl
 refused-zero (Held o) n r = refl
 
-pub oneStep-refused : (h : CommitTerms) (s : Bytes) (b : Box) → (oneStep h s b .done .answer ≡ Accepted → ⊥) → oneStep h s b .count ≡ 0
+pub oneStep-refused : (floor : ℕ) (h : CommitTerms) (s : Bytes) (b : Box) → (oneStep floor h s b .done .answer ≡ Accepted → ⊥) → oneStep floor h s b .count ≡ 0
 unfolding oneStep ofCounted stepAll
-oneStep-refused h s b = go (mutations s)
+oneStep-refused floor h s b = go (mutations s)
   where
-    go : (o : Option (List Mutation)) → (ofCounted o (stepAll h) b .done .answer ≡ Accepted → ⊥) → ofCounted o (stepAll h) b .count ≡ 0
+    go : (o : Option (List Mutation)) → (ofCounted o (stepAll floor h) b .done .answer ≡ Accepted → ⊥) → ofCounted o (stepAll floor h) b .count ≡ 0
     go none r = refl
-    go (some ms) r = refused-zero (stepDone h ms b .answer) (length ms) r
+    go (some ms) r = refused-zero (stepDone floor h ms b .answer) (length ms) r

@@ -1,6 +1,6 @@
 -- A table's part of a box: it keeps the order, the limits and whatever holds of every entry, and of a part the part is itself. The entries
 -- of an image are the lines of its box, locks and writes apart. Assumes nothing.
-use Prim.Native.Nat.{ℕ, suc, _+_, _≤_}
+use Prim.Native.Nat.{ℕ, suc, _≤_}
 use native.Mathlib.Omega.{arith}
 use mathlib.Core.Path.{_≡_, refl, ap₂}
 use mathlib.Core.Logic.{_⊎_, inl, inr}
@@ -10,17 +10,16 @@ use lib.ListN.{length}
 use Rattle.seqs.specs.Tables.{All}
 use Rattle.forms.specs.Key.{Key}
 use Rattle.rules.specs.Box.{Box, Line, Standing, Finished, KeyLine, Default, inOrder}
-use Rattle.rules.specs.Room.{sumOf, oneLock, lineBytes, loadOf, Fits, roomFor}
+use Rattle.rules.specs.Room.{roomFor}
 use Rattle.rules.specs.Read.{keepIf, those}
 use Rattle.rules.specs.Page.{KeyLock, locksOf}
 use Rattle.rules.specs.Image.{KeyRecord}
 use Rattle.rules.specs.Restore.{allGood, lockLine, writeLine}
 use Rattle.rules.specs.Capture.{lineOfTable, rowOfTable, partOf, writesOf, LineWords, LockWords, RecordWords, Words}
-use Rattle.rules.proofs.RoomLaws.{fits-out, fits-in}
-use Rattle.laws.proofs.StepLaws.{by-test, and-left, and-right, and-both}
-use Rattle.laws.proofs.Sorted.{In, Fewer, empty, gone, kept, ordered-fewer}
+use Rattle.laws.proofs.StepLaws.{and-left, and-right, and-both}
+use Rattle.laws.proofs.Sorted.{In}
 use Rattle.laws.proofs.PlaceLaws.{those-fewer, those-hold}
-use Rattle.laws.proofs.BoxOrder.{order-lines, order-defaults, in-order}
+use Rattle.laws.proofs.FewerLaws.{FewerBox, fewer-order, fewer-words, fewer-room}
 
 -- ---- those of which a test holds
 
@@ -30,56 +29,25 @@ module _ {A : Type 0} (p : A → Bool) where
   those-all [] a = refl
   those-all (x ∷ xs) a = rw (and-left (p x) _ a, those-all xs (and-right (p x) _ a))
 
-pub fewer-sum : {A : Type 0} (f : A → ℕ) {ys xs : List A} → Fewer ys xs → sumOf f ys ≤ sumOf f xs
-unfolding sumOf
-fewer-sum f empty = omega arith
-fewer-sum f (gone q) = omega (arith, fewer-sum f q)
-fewer-sum f (kept q) = omega (arith, fewer-sum f q)
-
-pub fewer-length : {A : Type 0} {ys xs : List A} → Fewer ys xs → length ys ≤ length xs
-fewer-length empty = omega arith
-fewer-length (gone q) = omega (arith, fewer-length q)
-fewer-length (kept q) = omega (arith, fewer-length q)
-
-pub fewer-each : {A : Type 0} (P : A → Type 0) {ys xs : List A} → Fewer ys xs → All P xs → All P ys
-unfolding All
-fewer-each P empty a = tt
-fewer-each P (gone q) a = fewer-each P q (a .1)
-fewer-each P (kept q) a = (a .0, fewer-each P q (a .1))
-
 -- ---- the part
 
 module _ (t : ℕ) (b : Box) where
-  abbrev fewerLines : Fewer (those (lineOfTable t) (b .lines)) (b .lines)
-  fewerLines = those-fewer (lineOfTable t) (b .lines)
-
-  abbrev fewerRows : Fewer (those (rowOfTable t) (b .defaults)) (b .defaults)
-  fewerRows = those-fewer (rowOfTable t) (b .defaults)
+  pub part-fewer : FewerBox (partOf t b) b
+  unfolding partOf
+  part-fewer = record { lines = those-fewer (lineOfTable t) (b .lines); defaults = those-fewer (rowOfTable t) (b .defaults) }
 
   pub part-order : inOrder b ≡ true → inOrder (partOf t b) ≡ true
-  unfolding partOf
-  part-order o = in-order _ _ (ordered-fewer _ fewerLines (order-lines b o)) (ordered-fewer _ fewerRows (order-defaults b o))
+  part-order o = fewer-order part-fewer o
 
   pub part-again : partOf t (partOf t b) ≡ partOf t b
   unfolding partOf
   part-again = ap₂ (λ (es : List KeyLine) (ds : List Default). record { lines = es; defaults = ds }) (those-all (lineOfTable t) _ (those-hold (lineOfTable t) (b .lines))) (those-all (rowOfTable t) _ (those-hold (rowOfTable t) (b .defaults)))
 
   pub part-words : Words b → Words (partOf t b)
-  unfolding partOf
-  part-words v = record { lines = fewer-each _ fewerLines (v .lines); defaults = fewer-each _ fewerRows (v .defaults) }
-
-  part-fits : Fits (loadOf b) → Fits (loadOf (partOf t b))
-  unfolding partOf loadOf
-  part-fits f = record {
-    lines = omega (arith, fewer-length fewerLines);
-    locks = omega (arith, fewer-sum (λ (e : KeyLine). oneLock (e .line)) fewerLines);
-    defaults = omega (arith, fewer-length fewerRows);
-    bytes = omega (arith, fewer-sum (λ (e : KeyLine). lineBytes (e .key) (e .line)) fewerLines, fewer-sum (λ (d : Default). length (d .key) + length (d .row)) fewerRows);
-  }
+  part-words v = fewer-words part-fewer v
 
   pub part-room : roomFor b ≡ true → roomFor (partOf t b) ≡ true
-  unfolding roomFor
-  part-room r = fits-in (loadOf (partOf t b)) (part-fits (fits-out (loadOf b) r))
+  part-room r = fewer-room part-fewer r
 
 -- ---- lines, locks and writes apart
 

@@ -1,5 +1,5 @@
--- Document 02's sentences on a written image (specs/BoxImages), of every box that a store shows: it restores to the table's part, equal bytes
--- are equal parts, and it is the one image of its entries. Assumes nothing.
+-- Document 02's sentences on a written image (specs/BoxImages), of every box that a store shows and its floor: it restores to the table's part and
+-- the floor, equal bytes are equal parts and floors, and it is the one image of its entries. Assumes nothing.
 use Prim.Native.Nat.{ℕ}
 use native.Mathlib.Omega.{arith}
 use mathlib.Core.Path.{_≡_, refl, sym, ap, ap₂, _∙_}
@@ -12,9 +12,9 @@ use Rattle.forms.specs.Key.{keyForm}
 use Rattle.rules.specs.Answers.{_▸_, need}
 use Rattle.rules.specs.Box.{Box, KeyLine, Default, before, rowBefore, ordered}
 use Rattle.rules.specs.Room.{loadOf, Fits, roomFor}
-use Rattle.rules.specs.Calls.{Done, settle}
+use Rattle.rules.specs.Calls.{State, Ended, settleState}
 use Rattle.rules.specs.Image.{Image, image}
-use Rattle.rules.specs.Restore.{allGood, goodDefault, goodImage, healthyImage, boxOf, restoreSteps, restoreTo, restore}
+use Rattle.rules.specs.Restore.{allGood, goodDefault, goodImage, healthyImage, flooredImage, boxOf, stateOf, restoreSteps, restoreTo, restore}
 use Rattle.rules.specs.Capture.{lineOfTable, rowOfTable, partOf, entriesOf, imageOf, ImageWords}
 use Rattle.rules.proofs.RoomLaws.{fits-out}
 use Rattle.laws.proofs.StepLaws.{and-left, and-right, and-both}
@@ -22,8 +22,10 @@ use Rattle.laws.proofs.BoxOrder.{order-lines, order-defaults}
 use Rattle.laws.proofs.ImageBoxLaws.{image-lines, image-defaults}
 use Rattle.laws.proofs.PlaceLaws.{those-hold}
 use Rattle.laws.proofs.ImageBackLaws.{image-back}
-use Rattle.laws.proofs.TablePartLaws.{part-order, part-again, part-words, part-room, apart-in, in-apart, locks-good, writes-good, lock-words, write-words, locks-few, writes-few}
-use Rattle.ledger.specs.Tidy.{soundLine, goodLine, goodRow, Tidy}
+use Rattle.laws.proofs.Sorted.{fewer-good}
+use Rattle.laws.proofs.FewerLaws.{FewerBox}
+use Rattle.laws.proofs.TablePartLaws.{part-fewer, part-order, part-again, part-words, part-room, apart-in, in-apart, locks-good, writes-good, lock-words, write-words, locks-few, writes-few}
+use Rattle.ledger.specs.Tidy.{soundLine, goodLine, goodRow, Tidy, lineAbove}
 use Rattle.ledger.specs.BoxImages.{Stored, TableNumber, CaptureRestores, EqualBytes, EqualBytesOnly, Canonical}
 use Rattle.ledger.proofs.PartSoundLaws.{part-tidy}
 use Rattle.ledger.proofs.ReadBackLaws.{defaults-once, locks-once, writes-once, hasRow, lines-have, rows-pointed, tidy-once}
@@ -34,12 +36,12 @@ unfolding allGood
 good-both p q r h [] a c = refl
 good-both p q r h (x ∷ xs) a c = and-both _ _ (h x (and-left _ _ a) (and-left _ _ c)) (good-both p q r h xs (and-right (p x) _ a) (and-right (q x) _ c))
 
-module _ (t : ℕ) (n : TableNumber t) (b : Box) (v : Stored b) where
+module _ (f t : ℕ) (n : TableNumber t) (b : Box) (v : Stored f b) where
   abbrev part : Box
   part = partOf t b
 
   abbrev entries : Image
-  entries = entriesOf t b
+  entries = entriesOf f t b
 
   tidy : Tidy part
   tidy = part-tidy t b (v .tidy)
@@ -54,12 +56,13 @@ module _ (t : ℕ) (n : TableNumber t) (b : Box) (v : Stored b) where
   unfolding entriesOf loadOf
   fit = record {
     table = n .small;
+    floor = v .floor-word;
     defaults = record { count = omega (arith, room .defaults); words = part-words t b (v .words) .defaults };
     locks = record { count = omega (arith, room .lines, locks-few (part .lines)); words = lock-words (part .lines) (part-words t b (v .words) .lines) };
     writes = record { count = omega (arith, room .lines, writes-few (part .lines)); words = write-words (part .lines) (part-words t b (v .words) .lines) };
   }
 
-  read-back : image (imageOf t b) ≡ some entries
+  read-back : image (imageOf f t b) ≡ some entries
   unfolding imageOf
   read-back = image-back entries fit
 
@@ -102,6 +105,14 @@ module _ (t : ℕ) (n : TableNumber t) (b : Box) (v : Stored b) where
   unfolding healthyImage entriesOf
   healthy = and-both _ _ (and-both _ _ (locks-good (hasRow (part .defaults)) (part .lines) (lines-have part tidy)) (rows-pointed part tidy)) (tidy-once part tidy)
 
+  floored : flooredImage entries ≡ true
+  unfolding flooredImage entriesOf
+  floored = locks-good (λ (e : KeyLine). lineAbove f (e .line)) (part .lines) (fewer-good (λ (e : KeyLine). lineAbove f (e .line)) (part-fewer t b .lines) (v .above))
+
+  floor-is : entries .floor ≡ f
+  unfolding entriesOf
+  floor-is = refl
+
   -- ---- its box is the part
 
   box-is : boxOf entries ≡ part
@@ -113,22 +124,31 @@ module _ (t : ℕ) (n : TableNumber t) (b : Box) (v : Stored b) where
 
   -- ---- "Restoring what was written gives that table's part of the store"
 
-  pub capture-restores : CaptureRestores t b
-  unfolding restore restoreTo restoreSteps _▸_ need settle
-  capture-restores old = rw (read-back, good, healthy, box-is, part-room t b (v .room))
+  pub capture-restores : CaptureRestores f t b
+  unfolding restore restoreTo restoreSteps stateOf _▸_ need settleState
+  capture-restores old = rw (read-back, good, healthy, floored, box-is, part-room t b (v .room), floor-is)
 
   -- ---- "equal bytes exactly when they hold the same entries"
 
-  pub canonical : Canonical t b
+  pub canonical : Canonical f t b
   unfolding imageOf entriesOf
-  canonical old = ap (λ (d : Done). imageOf t (d .box)) (capture-restores old) ∙ rw (part-again t b)
+  canonical old = ap (λ (d : Ended). imageOf (d .state .floor) t (d .state .box)) (capture-restores old) ∙ rw (part-again t b)
 
-pub same-image : (t : ℕ) (b c : Box) → partOf t b ≡ partOf t c → imageOf t b ≡ imageOf t c
+pub same-image : (t f : ℕ) (b : Box) (g : ℕ) (c : Box) → f ≡ g → partOf t b ≡ partOf t c → imageOf f t b ≡ imageOf g t c
 unfolding imageOf entriesOf
-same-image t b c e = rw e
+same-image t f b g c z e = rw (z, e)
 
-pub equal-bytes : (t : ℕ) → TableNumber t → (b c : Box) → Stored b → Stored c → EqualBytes t b c
-equal-bytes t n b c v w = (λ e. ap (λ (d : Done). d .box) (sym (capture-restores t n b v b) ∙ ap (λ s. restore s b) e ∙ capture-restores t n c w b), same-image t b c)
+pub equal-bytes : (t : ℕ) → TableNumber t → (f : ℕ) (b : Box) (g : ℕ) (c : Box) → Stored f b → Stored g c → EqualBytes t f b g c
+equal-bytes t n f b g c v w = (there, same-image t f b g c)
+  where
+    old : State
+    old = record { box = b; floor = f }
 
-pub equal-bytes-only : (t : ℕ) → TableNumber t → (b c : Box) → Stored b → Stored c → EqualBytesOnly t b c
-equal-bytes-only t n b c v w p q = (λ e. sym p ∙ equal-bytes t n b c v w .0 e ∙ q, λ e. ap (imageOf t) e)
+    there : imageOf f t b ≡ imageOf g t c → (f ≡ g) × (partOf t b ≡ partOf t c)
+    there e =
+        let q = sym (capture-restores f t n b v old) ∙ ap (λ s. restore s old) e ∙ capture-restores g t n c w old in
+        (ap (λ (d : Ended). d .state .floor) q, ap (λ (d : Ended). d .state .box) q)
+
+pub equal-bytes-only : (t : ℕ) → TableNumber t → (f : ℕ) (b : Box) (g : ℕ) (c : Box) → Stored f b → Stored g c → EqualBytesOnly t f b g c
+equal-bytes-only t n f b g c v w p q =
+    (λ e. let r = equal-bytes t n f b g c v w .0 e in (r .0, sym p ∙ r .1 ∙ q), λ z e. ap₂ (λ (h : ℕ) (d : Box). imageOf h t d) z e)

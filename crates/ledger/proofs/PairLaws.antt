@@ -18,7 +18,7 @@ use Rattle.ledger.specs.Tidy.{RowsOf, Paired, free, taken}
 use Rattle.ledger.proofs.ChosenLaws.{in-nil, sole}
 use Rattle.ledger.proofs.PairRowLaws.{firstOf, row-first, pair-is}
 
-fate-move : (b c : Box) (k : Key) (s : ℕ) (r : Option Row) (t : Bool) → linesAt k s (c .lines) ≡ linesAt k s (b .lines) → rowsAt k s (c .defaults) ≡ rowsAt k s (b .defaults) → Fate b k s r t → Fate c k s r t
+pub fate-move : (b c : Box) (k : Key) (s : ℕ) (r : Option Row) (t : Bool) → linesAt k s (c .lines) ≡ linesAt k s (b .lines) → rowsAt k s (c .defaults) ≡ rowsAt k s (b .defaults) → Fate b k s r t → Fate c k s r t
 fate-move b c k s r false p q (absent a d) = absent (p ∙ a) (q ∙ d)
 fate-move b c k s r true p q (present x a d) = present x (p ∙ a) (rw q d)
 
@@ -66,7 +66,7 @@ rowAmong stored [] = none
 rowAmong stored (x ∷ xs) = orOlder (rowIf (eqKind (kindIn x) Put) stored) (rowAmong stored xs)
 
 module _ (k : Key) (s : ℕ) (ds : List Default) where
-  named-lines : (es : List KeyLine) → named k s (eachNamed (ofLine ds) es) ≡ nonEmpty (linesAt k s es)
+  pub named-lines : (es : List KeyLine) → named k s (eachNamed (ofLine ds) es) ≡ nonEmpty (linesAt k s es)
   unfolding eachNamed named chosen consIf
   named-lines [] = refl
   named-lines (e ∷ es) =

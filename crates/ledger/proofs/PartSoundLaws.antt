@@ -18,7 +18,7 @@ use Rattle.ledger.proofs.PairRowLaws.{pair-is}
 
 module _ {A B : Type 0} (p : A → Bool) (f : A → B) (q : A → Bool) where
   -- those that are chosen are those
-  chosen-those : ((x : A) → p x ≡ true → q x ≡ true) → (xs : List A) → chosen p f (those q xs) ≡ chosen p f xs
+  pub chosen-those : ((x : A) → p x ≡ true → q x ≡ true) → (xs : List A) → chosen p f (those q xs) ≡ chosen p f xs
   unfolding chosen consIf those keepIf
   chosen-those h [] = refl
   chosen-those h (x ∷ xs) =
@@ -27,7 +27,7 @@ module _ {A B : Type 0} (p : A → Bool) (f : A → B) (q : A → Bool) where
       (λ e r. by-test (λ t. chosen p f (keepIf t x (those q xs)) ≡ chosen p f xs) (q x) (λ g. rw (r, chosen-those h xs)) (λ g. chosen-those h xs)) refl
 
   -- those that are chosen are not those
-  chosen-left : ((x : A) → p x ≡ true → q x ≡ false) → (xs : List A) → chosen p f (those q xs) ≡ []
+  pub chosen-left : ((x : A) → p x ≡ true → q x ≡ false) → (xs : List A) → chosen p f (those q xs) ≡ []
   unfolding chosen consIf those keepIf
   chosen-left h [] = refl
   chosen-left h (x ∷ xs) =
@@ -35,7 +35,7 @@ module _ {A B : Type 0} (p : A → Bool) (f : A → B) (q : A → Bool) where
       (λ e r. by-test (λ t. p x ≡ t → consIf t (f x) (chosen p f (those q xs)) ≡ []) (p x) (λ g s. absurd (true≢false (sym e ∙ h x s))) (λ g s. chosen-left h xs) refl)
       (λ e r. chosen-left h xs) refl
 
-same-pair : {b c : Box} {k : Key} {s : ℕ} → linesAt k s (c .lines) ≡ linesAt k s (b .lines) → rowsAt k s (c .defaults) ≡ rowsAt k s (b .defaults) → Paired b k s → Paired c k s
+pub same-pair : {b c : Box} {k : Key} {s : ℕ} → linesAt k s (c .lines) ≡ linesAt k s (b .lines) → rowsAt k s (c .defaults) ≡ rowsAt k s (b .defaults) → Paired b k s → Paired c k s
 same-pair p q (free a d) = free (p ∙ a) (q ∙ d)
 same-pair p q (taken x a d) = taken x (p ∙ a) (subst (RowsOf (kindIn x)) (sym q) d)
 

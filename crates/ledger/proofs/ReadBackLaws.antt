@@ -87,7 +87,7 @@ writes-once (e ∷ es) o = go (e .key) (e .line) (and-left _ _ o) (writes-once e
 -- ---- one line of a pair
 
 -- what is in the list is chosen
-in-chosen : {A B : Type 0} (p : A → Bool) (f : A → B) (xs : List A) (x : A) → In x xs → p x ≡ true → In (f x) (chosen p f xs)
+pub in-chosen : {A B : Type 0} (p : A → Bool) (f : A → B) (xs : List A) (x : A) → In x xs → p x ≡ true → In (f x) (chosen p f xs)
 unfolding chosen consIf
 in-chosen p f (y ∷ ys) x (inl e) h = subst-in e
   where

@@ -12,21 +12,22 @@ use Rattle.forms.specs.Readers.{isSome}
 use Rattle.rules.specs.declared.records.Kind.{Kind}
 use Rattle.rules.specs.declared.records.Kind.the-variants.{Put, Delete, Rollback}
 use Rattle.rules.specs.Box.{Box, Line, KeyLine, Default, startOf, kindIn, lineIs, atPair, before, rowBefore, rowOf}
-use Rattle.rules.specs.Image.{Image}
-use Rattle.rules.specs.Restore.{kindHasDefault, goodDefault, goodLock, goodWrite, likeDefault, imageLines, pointsTo, pointedTo, likeLine, goodImage, healthyImage, boxOf, restore}
+use Rattle.rules.specs.Calls.{State}
+use Rattle.rules.specs.Image.{Image, KeyRecord}
+use Rattle.rules.specs.Restore.{kindHasDefault, goodDefault, goodLock, goodWrite, likeDefault, imageLines, pointsTo, pointedTo, likeLine, allGood, goodImage, healthyImage, flooredImage, boxOf, stateOf, restore}
 use Rattle.laws.proofs.StepLaws.{passed, by-test, and-left, and-right, and-both}
 use Rattle.laws.proofs.Sorted.{In, good-weaken}
 use Rattle.laws.proofs.RecordLaws.{eqKind-true}
 use Rattle.laws.proofs.ImageBoxLaws.{good-image, healthy-image, restore-keeps, placed-good, placed-defaults, placed-lines, good-lines}
 use Rattle.rules.specs.Call.{Changing}
-use Rattle.ledger.specs.Ledger.{after, chosen, consIf, linesAt, rowsAt, Holds, Demand3}
-use Rattle.ledger.specs.Tidy.{RowsOf, Paired, free, taken, goodLine, goodRow, Sound, Tidy}
+use Rattle.ledger.specs.Ledger.{after, chosen, consIf, linesAt, rowsAt, Demand3}
+use Rattle.ledger.specs.Tidy.{RowsOf, Paired, free, taken, goodLine, goodRow, Sound, Tidy, lineAbove, LocksAbove}
 use Rattle.ledger.specs.Restored.{restored}
 use Rattle.ledger.proofs.ChosenLaws.{in-cons, in-nil, sole, chosen-good, Few, count-fits, chosen-placed}
 use Rattle.ledger.proofs.PairRowLaws.{firstOf, row-first, pair-is, pair-alike}
 use Rattle.ledger.proofs.PairLaws.{own-holds}
 use Rattle.ledger.proofs.Always.{after-kept}
-use Rattle.ledger.proofs.Pairs.{holds-kept}
+use Rattle.ledger.proofs.Pairs.{Claim, claims, claim-kept}
 use Rattle.ledger.proofs.Demand3.{holding}
 
 -- ---- a default has a Put line of its pair, and a Put line its default
@@ -47,6 +48,12 @@ put-at k s d (e ∷ es) a p =
 
 abbrev hasRow : List Default → KeyLine → Bool
 hasRow ds e = kindHasDefault (kindIn (e .line)) (isSome (rowOf (e .key) (startOf (e .line)) ds))
+
+-- of a write nothing is asked
+all-good : (ws : List KeyRecord) → allGood (λ (x : KeyRecord). true) ws ≡ true
+unfolding allGood
+all-good [] = refl
+all-good (w ∷ ws) = all-good ws
 
 module _ (i : Image) (g : goodImage i ≡ true) (h : healthyImage i ≡ true) where
   -- ---- the box's pairs are the image's
@@ -113,8 +120,18 @@ module _ (i : Image) (g : goodImage i ≡ true) (h : healthyImage i ≡ true) wh
 
   pub demand3-restored : (cs : List Changing) → Demand3 (after cs (restored i))
   demand3-restored cs =
-      holding (after cs (restored i)) (after-kept Holds holds-kept cs (restored i) (own-holds (boxOf i) (imageLines i) (i .defaults) image-pairs lines-are rows-are))
+      holding (after cs (restored i)) (after-kept Claim claim-kept cs (restored i) (claims (i .floor) (boxOf i) _ (own-holds (boxOf i) (imageLines i) (i .defaults) image-pairs lines-are rows-are) image-sound))
+
+  -- document 02, CR 7: "an image with such a lock is 13"
+  pub image-above : flooredImage i ≡ true → LocksAbove (i .floor) (boxOf i)
+  unfolding flooredImage boxOf
+  image-above a = rw (placed-lines (i .locks) (i .writes)) (placed-good before (λ (e : KeyLine). lineAbove (i .floor) (e .line)) (imageLines i) (good-lines _ (i .locks) (i .writes) a (all-good (i .writes))))
 
 -- whatever the image, refused or not
-pub restore-tidy : (s : Bytes) (b : Box) → Tidy b → Tidy (restore s b .box)
-restore-tidy s b v = restore-keeps Tidy s b v (λ i e g h f. image-tidy i g h)
+pub restore-tidy : (s : Bytes) (st : State) → Tidy (st .box) → Tidy (restore s st .state .box)
+unfolding stateOf
+restore-tidy s st v = restore-keeps (λ (st : State). Tidy (st .box)) s st v (λ i e g h a f. image-tidy i g h)
+
+pub restore-above : (s : Bytes) (st : State) → LocksAbove (st .floor) (st .box) → LocksAbove (restore s st .state .floor) (restore s st .state .box)
+unfolding stateOf
+restore-above s st v = restore-keeps (λ (st : State). LocksAbove (st .floor) (st .box)) s st v (λ i e g h a f. image-above i g h a)

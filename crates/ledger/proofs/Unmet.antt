@@ -145,9 +145,9 @@ module _ (b : Box) (v : Tidy b) where
   read-walk k m = walk-accepts k (b .defaults) m (recordsOf k (b .lines)) (λ w n. (record-sound k w n, λ put. rw put at (record-row k w n)))
 
   -- so a read that refuses does so before its first record, and counts 0 (02, CR 6)
-  pub read-count : (k : Key) (m : ℕ) → (answerOf (examine k m b .reply) ≡ Accepted → ⊥) → examine k m b .count ≡ 0
+  pub read-count : (floor : ℕ) (k : Key) (m : ℕ) → (answerOf (examine floor k m b .reply) ≡ Accepted → ⊥) → examine floor k m b .count ≡ 0
   unfolding examine
-  read-count k m n = refusal-counts (readSteps k m b) (walk k (b .defaults) (newestFirst m (recordsOf k (b .lines)))) (read-walk k m) n
+  read-count floor k m n = refusal-counts (readSteps floor k m b) (walk k (b .defaults) (newestFirst m (recordsOf k (b .lines)))) (read-walk k m) n
 
   -- Intent page and conflicting intents, "sound (9)": locks are sound; so for one intent at a point, "unsound, 9" (`lock-sound`)
   pub page-sound : (a : Bounds) → allGood (λ (x : KeyLock). soundLock (x .lock)) (locksWithin a (locksOf (b .lines))) ≡ true

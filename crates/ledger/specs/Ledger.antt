@@ -1,12 +1,14 @@
 -- Demand 3: "From an empty store, after any sequence of prewrites, commits, rollbacks and one-step batches, refused ones included: each pair
 -- of key and start that an accepted call named as an entry has exactly one line, no other pair has any (so locks plus records equal the
 -- number of different pairs), and a row is stored for exactly the pairs whose line is a Put: the row of the last accepted call that carried
--- one." It is said here over the calls' own definitions; proofs/Demand3.antt has the theorem.
+-- one." Document 02, CR 7: "The third demand stays exact for starts above the floor; for starts at or below it there is at most one line a pair.
+-- The sum of lines becomes the named pairs less those whose line a collection dropped." It is said here over the calls' own definitions, with
+-- collections among them; proofs/Demand3.antt has the theorem, and the sentence as document 01 has it, where the floor is 0.
 -- Demand 1, its second half, over the same calls: a refusal leaves the box as it was; proofs/BoxRefusals.antt has that theorem.
 -- Assumes nothing.
-use Prim.Native.Nat.{ℕ, suc, _+_}
+use Prim.Native.Nat.{ℕ, suc, _+_, _≤_, _<_}
 use mathlib.Core.Path.{_≡_}
-use mathlib.Core.Bool.{Bool, true, false, _&&_, _||_}
+use mathlib.Core.Bool.{Bool, true, false, _&&_, _||_, not}
 use mathlib.Core.List.{List, [], _∷_}
 use mathlib.Core.Option.{Option, none, some}
 use lib.Dec.{eqb}
@@ -21,6 +23,8 @@ use Rattle.rules.specs.declared.records.Kind.{Kind}
 use Rattle.rules.specs.declared.records.Kind.the-variants.{Put, Delete, Rollback}
 use Rattle.rules.specs.Box.{Box, Line, KeyLine, Default, fresh, atPair, rowOf, eqKind}
 pub use Rattle.rules.specs.Box.{startOf, kindIn, lineIs}
+use Rattle.rules.specs.Calls.{State, Ended}
+use Rattle.rules.specs.Collect.{droppedLines}
 use Rattle.rules.specs.Call.{Changing, perform}
 use Rattle.rules.specs.Figures.{stats}
 
@@ -56,6 +60,29 @@ namedBy (Changing.Prewrite h s) = eachNamed (ofMutation (h .start)) (entriesIn (
 namedBy (Changing.Commit h s) = eachNamed (ofKey (h .start)) (entriesIn (keys s))
 namedBy (Changing.Rollback txn start s) = eachNamed (ofKey start) (entriesIn (keys s))
 namedBy (Changing.OneStep h s) = eachNamed (ofMutation (h .start)) (entriesIn (mutations s))
+namedBy (Changing.Collect f) = []
+
+-- ---- what stands, as if it had been named: one name for each line, its key and start, with its row if it is a Put
+
+-- the row, if the test holds
+unfoldable pub rowIf : Bool → Option Row → Option Row
+rowIf true r = r
+rowIf false r = none
+
+abbrev pub ofLine : List Default → KeyLine → Named
+ofLine ds e = record {
+  key = e .key;
+  start = startOf (e .line);
+  row = rowIf (eqKind (kindIn (e .line)) Put) (rowOf (e .key) (startOf (e .line)) ds);
+}
+
+-- "those whose line a collection dropped": what a call drops, if it is accepted, as names
+unfoldable pub droppedBy : Changing → Box → List Named
+droppedBy (Changing.Prewrite h s) b = []
+droppedBy (Changing.Commit h s) b = []
+droppedBy (Changing.Rollback txn start s) b = []
+droppedBy (Changing.OneStep h s) b = []
+droppedBy (Changing.Collect f) b = eachNamed (ofLine (b .defaults)) (droppedLines f (b .lines))
 
 -- ---- "after any sequence of .., refused ones included"
 
@@ -70,23 +97,30 @@ logged Accepted ns log = onto ns log
 logged (No n) ns log = log
 logged (Held h) ns log = log
 
--- a box, and what the accepted calls that led to it named, the last first
+-- a box and its floor; what the accepted calls that led to it named, the last first; and the names of the lines that collections dropped
 pub record Past : Type 0 where
   pub box : Box
+  pub floor : ℕ
   pub log : List Named
+  pub dropped : List Named
+
+abbrev pub stateIn : Past → State
+stateIn p = record { box = p .box; floor = p .floor }
 
 -- one more call
 unfoldable pub then : Changing → Past → Past
-then c p = record { box = perform c (p .box) .box; log = logged (perform c (p .box) .answer) (namedBy c) (p .log) }
+then c p =
+    let e : Ended = perform c (stateIn p) in
+    record { box = e .state .box; floor = e .state .floor; log = logged (e .answer) (namedBy c) (p .log); dropped = logged (e .answer) (droppedBy c (p .box)) (p .dropped) }
 
 -- "after any sequence"
 unfoldable pub after : List Changing → Past → Past
 after [] p = p
 after (c ∷ cs) p = after cs (then c p)
 
--- "From an empty store"
+-- "From an empty store"; "The floor .. begins at 0"
 unfoldable pub empty : Past
-empty = record { box = fresh; log = [] }
+empty = record { box = fresh; floor = 0; log = []; dropped = [] }
 
 -- ---- the pair in the log: whether it is named, and its last row
 
@@ -98,11 +132,6 @@ isAt k s n = eqBytes k (n .key) && eqb s (n .start)
 unfoldable pub named : Key → ℕ → List Named → Bool
 named k s [] = false
 named k s (n ∷ log) = isAt k s n || named k s log
-
--- the row, if the name is of the pair
-unfoldable pub rowIf : Bool → Option Row → Option Row
-rowIf true r = r
-rowIf false r = none
 
 -- a name without a row leaves the row that was carried before it
 unfoldable pub orOlder : Option Row → Option Row → Option Row
@@ -144,15 +173,6 @@ linesAt k s es = chosen (lineIs k s) (λ (e : KeyLine). e .line) es
 abbrev pub rowsAt : Key → ℕ → List Default → List Row
 rowsAt k s ds = chosen (atPair k s) (λ (d : Default). d .row) ds
 
--- ---- what stands, as if it had been named: one name for each line, its key and start, with its row if it is a Put
-
-abbrev pub ofLine : List Default → KeyLine → Named
-ofLine ds e = record {
-  key = e .key;
-  start = startOf (e .line);
-  row = rowIf (eqKind (kindIn (e .line)) Put) (rowOf (e .key) (startOf (e .line)) ds);
-}
-
 -- ---- the demand
 
 -- "a row is stored for exactly the pairs whose line is a Put: the row of the last accepted call that carried one"; so one was carried
@@ -171,13 +191,35 @@ pub data Fate (b : Box) (k : Key) (s : ℕ) (last : Option Row) : Bool → Type 
 abbrev pub Holds : Box → List Named → Type 0
 Holds b log = (k : Key) (s : ℕ) → Fate b k s (lastRow k s log) (named k s log)
 
--- the sentence, of a box and what the accepted calls that led to it named, as `after cs empty`, "From an empty store, after any sequence": every
--- pair's fate; "so locks plus records equal the number of different pairs", by the statistics' own counts; and so many lines there are
+-- "at most one line a pair": none, and no row; or one, of a pair that was named, and a row exactly if it is a Put, as above
+pub data AtMost (b : Box) (k : Key) (s : ℕ) (last : Option Row) : Bool → Type 0 where
+  none-left : {t : Bool} → linesAt k s (b .lines) ≡ [] → rowsAt k s (b .defaults) ≡ [] → AtMost b k s last t
+  one-left : (x : Line) → linesAt k s (b .lines) ≡ x ∷ [] → RowFits (kindIn x) last (rowsAt k s (b .defaults)) → AtMost b k s last true
+
+-- the names whose pair no collection dropped
+unfoldable pub undropped : List Named → List Named → List Named
+undropped ds [] = []
+undropped ds (n ∷ log) = consIf (not (named (n .key) (n .start) ds)) n (undropped ds log)
+
+-- the sentence, of a store and what the accepted calls that led to it named, as `after cs empty`, "From an empty store, after any sequence"
 pub record Demand3 (p : Past) : Type 0 where
+  -- "stays exact for starts above the floor": every such pair's fate
+  pub above : (k : Key) (s : ℕ) → p .floor < s → Fate (p .box) k s (lastRow k s (p .log)) (named k s (p .log))
+  -- "for starts at or below it there is at most one line a pair"
+  pub at-or-below : (k : Key) (s : ℕ) → s ≤ p .floor → AtMost (p .box) k s (lastRow k s (p .log)) (named k s (p .log))
+  -- and whatever the start: "each pair .. that an accepted call named" has its line, but for those whose line a collection dropped
+  pub pairs : Holds (p .box) (undropped (p .dropped) (p .log))
+  -- "The sum of lines becomes the named pairs less those whose line a collection dropped", by the statistics' own counts; and so many lines there are
+  pub sum : (stats (p .box) .locks + stats (p .box) .records .all) + differentPairs (p .dropped) ≡ differentPairs (p .log)
+  pub lines : length (p .box .lines) + differentPairs (p .dropped) ≡ differentPairs (p .log)
+
+-- the sentence as document 01 has it: "each pair .. has exactly one line, no other pair has any (so locks plus records equal the number of
+-- different pairs)". It is the one above, where the floor is 0.
+pub record OldDemand3 (p : Past) : Type 0 where
   pub pairs : Holds (p .box) (p .log)
   pub sum : stats (p .box) .locks + stats (p .box) .records .all ≡ differentPairs (p .log)
   pub lines : length (p .box .lines) ≡ differentPairs (p .log)
 
--- Demand 1, "A refusal changes nothing in store or buffers": whatever the call and the box
-abbrev pub Refusal : Changing → Box → Type 0
-Refusal c b = (perform c b .answer ≡ Accepted → ⊥) → perform c b .box ≡ b
+-- Demand 1, "A refusal changes nothing in store or buffers": whatever the call and the state
+abbrev pub Refusal : Changing → State → Type 0
+Refusal c st = (perform c st .answer ≡ Accepted → ⊥) → perform c st .state ≡ st

@@ -3,3 +3,4 @@ pub mod Ledger
 pub mod Tidy
 pub mod Restored
 pub mod BoxImages
+pub mod Collected

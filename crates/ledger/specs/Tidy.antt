@@ -7,7 +7,7 @@ use mathlib.Core.Path.{_≡_}
 use mathlib.Core.Bool.{Bool, true, _&&_, not}
 use mathlib.Core.List.{List, [], _∷_}
 use mathlib.Core.Option.{some}
-use lib.Dec.{eqb}
+use lib.Dec.{ltb, eqb}
 use Rattle.forms.specs.Key.{Key, keyForm}
 use Rattle.forms.specs.Row.{Row, rowForm}
 use Rattle.rules.specs.declared.records.Kind.{Kind}
@@ -17,6 +17,7 @@ use Rattle.rules.specs.Sound.{soundRecord, soundLock}
 use Rattle.rules.specs.Room.{roomFor}
 use Rattle.rules.specs.Calls.{allBelow}
 use Rattle.rules.specs.Restore.{allGood}
+use Rattle.rules.specs.Collect.{droppedLines}
 use Rattle.ledger.specs.Ledger.{linesAt, rowsAt}
 
 -- ---- pairs
@@ -55,6 +56,17 @@ pub record Tidy (b : Box) : Type 0 where
   pub pairs : (k : Key) (s : ℕ) → Paired b k s
   pub sound : Sound b
 
+-- ---- the floor
+
+-- document 02, CR 7: a collection with "a lock at or below F" is refused, an image with such a lock too, and a prewrite's start is above it
+abbrev pub lineAbove : ℕ → Line → Bool
+lineAbove f (Standing l) = ltb f (l .start)
+lineAbove f (Finished w) = true
+
+-- every lock of the store starts above the floor
+abbrev pub LocksAbove : ℕ → Box → Type 0
+LocksAbove f b = allGood (λ (e : KeyLine). lineAbove f (e .line)) (b .lines) ≡ true
+
 -- ---- without a restore: where calls alone have made the box, from an empty store
 
 -- in order, and a lock starts above every stamp of its key
@@ -62,8 +74,14 @@ pub record Rising (b : Box) : Type 0 where
   pub order : inOrder b ≡ true
   pub above : (k : Key) (l : Lock) → lockOf k (b .lines) ≡ some l → allBelow (l .start) (recordsOf k (b .lines)) ≡ true
 
-pub record Unrestored (b : Box) : Type 0 where
+-- a collection at the store's own floor would drop nothing: what stands at or below it was collected, or nothing does
+abbrev pub Collected : ℕ → Box → Type 0
+Collected f b = droppedLines f (b .lines) ≡ []
+
+pub record Unrestored (f : ℕ) (b : Box) : Type 0 where
   pub tidy : Tidy b
   pub rising : Rising b
   -- "At most 1,024 lines (locks plus records), 256 locks, 1,024 defaults, 49,152 live bytes"
   pub room : roomFor b ≡ true
+  pub above : LocksAbove f b
+  pub collected : Collected f b

@@ -43,7 +43,7 @@ use Rattle.store.specs.declared.views.LineView.{LineView}
 use Rattle.lookups.specs.declared.lookup.History.{History}
 use Rattle.lookups.specs.declared.lookup.KeyState.{KeyState}
 use Rattle.store.specs.View.{eightAt, lineIn, placeOf, past, rowLen, keyOf, lineOf, defaultIn, stored, noSlot}
-use Rattle.store.specs.Made.{SlotBelow, Built}
+use Rattle.store.specs.Made.{SlotBelow, Built, storeOf}
 use Rattle.store.specs.Views.{viewIn, viewOf, RowThere}
 use Rattle.lookups.specs.KeyStates.{lockedBy, nothingAt, seeLine, LockThere, HistoryAt, stampLine, recordPlace, KeyStateAt}
 use Rattle.store.proofs.BuiltLaws.{es, ds, slot, lines-order, same, inside, row-there}
@@ -276,3 +276,7 @@ module _ {st : Store} {area : Bytes} (b : Built st area) (k : Key) (start stamp 
 
         pub looking-equal : {t : LineView} {r : KeyState} → t ≡ viewOf area (slot b i) → r ≡ seeLine start stamp (i + 1) seen t → Looking area k start stamp (st .lines) (st .load .lines) (i + 1) r
         looking-equal p q = subst (Looking area k start stamp (st .lines) (st .load .lines) (i + 1)) (sym (q ∙ ap (seeLine start stamp (i + 1) seen) p)) (seen-line (here .line) refl)
+
+-- the floor says nothing of a key
+pub looked-on : {st : Store} {area key : Bytes} {start stamp : ℕ} {seen : KeyState} (floor : ℕ) → KeyStateAt st area key start stamp seen → KeyStateAt (storeOf (st .lines) (st .load) (st .top) floor) area key start stamp seen
+looked-on floor k = record { first-is = k .first-is; place-is = k .place-is; lock-is = k .lock-is; lock-there = k .lock-there; history = k .history }

@@ -1,7 +1,7 @@
 // What stands at a key, as every call asks of it: its lock, and what its records say to a start and to a stamp. A search by halves for
 // its first line, then a walk over its lines.
 ghost use mathlib.Core.Path.{_≡_};
-ghost use Prim.Native.Nat.{_<_};
+ghost use Prim.Native.Nat.{ℕ, _<_};
 ghost use Rattle.store.specs.Made.{Built, storeOf};
 ghost use Rattle.lookups.specs.KeyStates.{firstFound, sightAfter, historyAfter, nothingAt, seeLine, KeyStateAt};
 use forms::Order;
@@ -176,7 +176,7 @@ fn see(seen: KeyState, line: LineView, start: u64, stamp: u64, next: usize) -> K
 
 // "The lookup that finds a key's first line shall halve its range." A key without lines has the place where one would stand. The walk from
 // there ends at the first line of another key. Both loops stand in one function, since a second one that indexes the table would copy it. It
-// takes the parts of a store: a whole store would be copied on the way here.
+// takes the parts of a store: a whole store would be copied on the way here. The floor is none of them, since it says nothing of a key.
 pub fn look_up(
     lines: [Slot; 1024],
     load: Load,
@@ -186,8 +186,8 @@ pub fn look_up(
     start: u64,
     stamp: u64,
 ) -> KeyState
-    requires { ⌜ Built (storeOf lines load top) (now area) ⌝ }
-    ensures { λ r. ⌜ KeyStateAt (storeOf lines load top) (now (area .entry)) (now (key .entry)) start stamp r ⌝ }
+    requires { ⌜ ((floor : ℕ) × Built (storeOf lines load top floor) (now area)) ⌝ }
+    ensures { λ r. ⌜ ((floor : ℕ) → KeyStateAt (storeOf lines load top floor) (now (area .entry)) (now (key .entry)) start stamp r) ⌝ }
 {
     let n = load.lines;
     let mut low: usize = 0;

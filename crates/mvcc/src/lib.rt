@@ -35,6 +35,9 @@ pub use prewrites::prewrite_batch;
 pub use rollbacks::rollback_intent;
 pub use rollbacks::rollback_intents_batch;
 
+// Old editions removed, up to a floor.
+pub use collects::collect;
+
 // Figures of the whole store.
 pub use figures::allocator_high_water_marks;
 pub use figures::stats;

@@ -7,7 +7,6 @@ use mathlib.Core.Path.{_≡_, refl, sym, ap, ap₂, _∙_}
 use mathlib.Core.Bool.{Bool, true, false, not, _&&_, _||_, true≢false, false≢true}
 use mathlib.Core.List.{List, [], _∷_}
 use lib.ListN.{length, length-append}
-use borrow.Author.Tests.{ltb-true}
 use Rattle.forms.specs.Batch.{Mutation, keyIn, ascend}
 use Rattle.rules.specs.declared.answers.Answer.{Answer}
 use Rattle.rules.specs.declared.answers.Answer.the-variants.{Accepted, No, Held}
@@ -16,9 +15,8 @@ use Rattle.rules.specs.Answers.{_▸_, need}
 use Rattle.rules.specs.Box as box
 use Rattle.rules.specs.Room.{roomFor}
 use Rattle.rules.specs.Sound.{allSound}
-use Rattle.rules.specs.Calls.{settle, kindOf, zeroStep, allBelow, recordFor}
+use Rattle.rules.specs.Calls.{settle, kindOf, allBelow, recordFor}
 use Rattle.rules.specs.declared.terms.CommitTerms.{CommitTerms}
-use Rattle.rules.specs.Commit.{commitTermsStep}
 use Rattle.rules.specs.OneStep.{Applied, already, notYet, otherwise, isOther, isAlready, appliedIn, argumentsStep, noneOther, allApplied, someApplied, stepLock, stepEntry, stepEntries, newestStep, applyStep, applySteps, stepNew, stepApplied, thenApplied}
 use Rattle.laws.specs.Adds.{sumLoads, plus}
 use Rattle.laws.proofs.StepLaws.{then-left, then-right, then-both, then-assoc, need-true, need-is, and-both, and-left, and-right}
@@ -65,21 +63,16 @@ not-empty h b (m ∷ ms) e = omega arith
 
 -- ---- "newest at or above commit 8": no record is, where each is stamped below the start
 
-ending-later : (h : CommitTerms) → commitTermsStep h ≡ Accepted → h .start < h .commit
-unfolding commitTermsStep
-ending-later h p = ltb-true _ _ (need-true _ 3 (then-right (zeroStep (h .txn) (h .start)) _ p))
-
-newest-passes : (h : CommitTerms) → commitTermsStep h ≡ Accepted → (b : box.Box) (ms : List Mutation) → stepEntries h b ms ≡ Accepted → newestStep h b ms ≡ Accepted
+newest-passes : (h : CommitTerms) → h .start < h .commit → (b : box.Box) (ms : List Mutation) → stepEntries h b ms ≡ Accepted → newestStep h b ms ≡ Accepted
 unfolding stepEntries newestStep stepEntry
 newest-passes h p b [] e = refl
 newest-passes h p b (m ∷ ms) e =
     let ws = box.recordsOf (m .key) (b .lines) in
     let q = then-left _ (stepEntries h b ms) e in
     let below = need-true _ 8 (then-right (need (allSound ws) 9) _ (then-right (stepLock h (kindOf (m .row)) (box.lockOf (m .key) (b .lines))) _ q)) in
-    let l = ending-later h p in
     then-both _ _ (need-is _ 8 (below-more (h .start) (h .commit) ws (omega arith) below)) (newest-passes h p b ms (then-right (stepLock h (kindOf (m .row)) (box.lockOf (m .key) (b .lines)) ▸ need (allSound ws) 9 ▸ need (allBelow (h .start) ws) 8) _ e))
 
-pub entries-check : (h : CommitTerms) → commitTermsStep h ≡ Accepted → (b : box.Box) (ms : List Mutation) → stepEntries h b ms ≡ Accepted → checkAll (stepCheck h) b ms ≡ Accepted
+pub entries-check : (h : CommitTerms) → h .start < h .commit → (b : box.Box) (ms : List Mutation) → stepEntries h b ms ≡ Accepted → checkAll (stepCheck h) b ms ≡ Accepted
 entries-check h p b ms e = steps-check h b ms e (newest-passes h p b ms e)
 
 -- what follows a step matters only where it passes
@@ -116,7 +109,7 @@ module _ (h : CommitTerms) (b : box.Box) (ms : List Mutation) where
       ap₂ (λ (c t : Bool). thenApplied (argumentsStep ms ▸ need c 9) b (stepApplied t h ms b)) (all-clean h b ms e) e
       ∙ then-same (argumentsStep ms ▸ Accepted) b ∙ ap (λ (x : Answer). record { answer = x; box = b }) (then-end (argumentsStep ms))
 
-  pub later-new : commitTermsStep h ≡ Accepted → allApplied h b ms ≡ false
+  pub later-new : h .start < h .commit → allApplied h b ms ≡ false
       → laterDone h ms b ≡ settle (argumentsStep ms ▸ need (allNew h b ms) 9 ▸ stepEntries h b ms ▸ need (roomFor (applySteps h ms b)) 11) (applySteps h ms b) b
   unfolding laterDone stepApplied stepNew _▸_
   later-new p e =

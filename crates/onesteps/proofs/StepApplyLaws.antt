@@ -5,6 +5,7 @@ use native.Mathlib.Omega.{arith}
 use mathlib.Core.Path.{_≡_, refl, sym, ap, _∙_, subst}
 use mathlib.Core.List.{List, [], _∷_}
 use mathlib.Core.Option.{Option, none, some}
+use borrow.Author.Tests.{ltb-true}
 use Rattle.seqs.specs.Tables.{shown}
 use Rattle.forms.specs.Bytes.{Bytes}
 use Rattle.forms.specs.Key.{Key, keyForm}
@@ -27,6 +28,7 @@ use Rattle.laws.proofs.StepLaws.{then-left, then-right, then-both, need-true}
 use Rattle.laws.proofs.LoadLaws.{load-fields}
 use Rattle.laws.proofs.BatchLaws.{checkAll, Depends}
 use Rattle.laws.proofs.OneStepLaws.{stepCheck, step-depends, step-only, applySteps-all, steps-load}
+use Rattle.ledger.proofs.SoundEntries.{commit-above}
 use Rattle.store.specs.View.{boxOf}
 use Rattle.changes.specs.Changes.{entryFor}
 use Rattle.actions.specs.declared.action.Action.{Action}
@@ -90,11 +92,12 @@ sums-grow h b (m ∷ ms) = omega (arith, frees-lines h b m, go (lockOf (m .key) 
 -- ---- the pass
 
 -- what one entry asks, where it and those after it would pass
-module _ (h : CommitTerms) (primary : Key) (s : Bytes) (head : commitTermsStep h ≡ Accepted) {want : Box} (fit : Fits (loadOf want)) (e : Entry) (rest : List Mutation) (b : Box) (v : Applying (changesOf h) want b (mutationOf s e ∷ rest)) where
+module _ (floor : ℕ) (h : CommitTerms) (primary : Key) (s : Bytes) (head : commitTermsStep floor h ≡ Accepted) {want : Box} (fit : Fits (loadOf want)) (e : Entry) (rest : List Mutation) (b : Box) (v : Applying (changesOf h) want b (mutationOf s e ∷ rest)) where
   entry-ready : EntryReady (deedOf h) primary s e b
   unfolding entryCheck argumentStep stepCheck sumLoads stepAdds ofLock
   entry-ready st area built q room = record {
     built = built;
+    floor = floor;
     head = head;
     form = need-true _ 1 (then-left _ _ arguments);
     row-fits = row-fits s e (need-true _ 2 (then-right (need (keyForm (keyAt s e)) 1) _ arguments));
@@ -131,9 +134,9 @@ module _ (h : CommitTerms) (primary : Key) (s : Bytes) (head : commitTermsStep h
           let g : stepFrees h (boxOf st area) m .lines ≡ 0 = frees-lines h (boxOf st area) m ∙ ap (λ (o : Option Lock). ofLock (m .key) o .lines) f in
           omega (arith, y .lines, w .lines, z .lines, g, sums-grow h (boxOf st area) rest, fit .lines)
 
-pub steps-ready : (h : CommitTerms) (primary : Key) {s : Bytes} {n : ℕ} {es : List Entry} (b : Box) → commitTermsStep h ≡ Accepted → InForm s n es → argumentsStep (shown (mutationOf s) n es) ≡ Accepted
+pub steps-ready : (floor : ℕ) (h : CommitTerms) (primary : Key) {s : Bytes} {n : ℕ} {es : List Entry} (b : Box) → commitTermsStep floor h ≡ Accepted → InForm s n es → argumentsStep (shown (mutationOf s) n es) ≡ Accepted
     → stepEntries h b (shown (mutationOf s) n es) ≡ Accepted → Fits (loadOf (applySteps h (shown (mutationOf s) n es) b)) → Ready (deedOf h) primary s (counted n es) b
-steps-ready h primary {s} {n} {es} b head form a p f =
+steps-ready floor h primary {s} {n} {es} b head form a p f =
     let ms = shown (mutationOf s) n es in
-    ready-all (changesOf h) (mutationOf s) (deedOf h) primary s (λ e x. refl) (entry-ready h primary s head f) n es b
-    (record { ascends = mutations-by-keys s n es ∙ form .ascends; passed = both-check h b ms a (entries-check h head b ms p); is = sym (applySteps-all h ms b) })
+    ready-all (changesOf h) (mutationOf s) (deedOf h) primary s (λ e x. refl) (entry-ready floor h primary s head f) n es b
+    (record { ascends = mutations-by-keys s n es ∙ form .ascends; passed = both-check h b ms a (entries-check h (ltb-true _ _ (commit-above floor h head)) b ms p); is = sym (applySteps-all h ms b) })

@@ -1,12 +1,13 @@
 -- The ways out of `commit_batch`: "6; 3; each entry in turn 1, 2; ..", what the checks come to, and the applied batch.
 -- Assumes nothing.
-use Prim.Native.Nat.{ℕ}
+use Prim.Native.Nat.{ℕ, _<_}
 use native.Mathlib.Omega.{arith}
 use mathlib.Core.Path.{_≡_, refl, sym, ap, ap₂, _∙_, subst}
 use mathlib.Core.Bool.{Bool, true, false, not, _&&_}
 use mathlib.Core.List.{List}
 use mathlib.Core.Option.{Option}
 use lib.ListN.{length}
+use borrow.Author.Tests.{ltb-true}
 use Rattle.seqs.specs.Tables.{shown}
 use Rattle.seqs.proofs.Tables.{shown-length}
 use Rattle.forms.specs.Bytes.{Bytes}
@@ -32,6 +33,7 @@ use Rattle.laws.proofs.StepLaws.{then-left, then-right, need-true, and-left, an
 use Rattle.laws.proofs.SettleLaws.{settle-new, settle-old}
 use Rattle.laws.proofs.LoadLaws.{load-fields, load-left, freed-at-most}
 use Rattle.laws.proofs.OneStepLaws.{steps-load, applySteps-all}
+use Rattle.ledger.proofs.SoundEntries.{commit-above}
 use Rattle.store.specs.declared.table.Store.{Store}
 use Rattle.store.specs.View.{boxOf}
 use Rattle.store.specs.Made.{Made}
@@ -66,14 +68,14 @@ count-none Accepted n f = absurd (f refl)
 count-none (No k) n f = refl
 count-none (Held o) n f = refl
 
--- ---- "6; 3"
+-- ---- "6; 3", 14
 
 module _ {st : Store} {area : Bytes} (made : Made st area) (h : CommitTerms) {s : Bytes} {r : Entries} (d : Decoded (mutationOf s) s (mutations s) r) where
-  pub not-form : not (r .ok) ≡ true → Counts st area (oneStep h s (boxOf st area)) (record { store = st; answer = No 6; count = 0 }) area
+  pub not-form : not (r .ok) ≡ true → Counts st area (oneStep (st .floor) h s (boxOf st area)) (record { store = st; answer = No 6; count = 0 }) area
   unfolding oneStep ofCounted
-  not-form n = counts-same made (ap (λ (o : Option (List Mutation)). ofCounted o (stepAll h) (boxOf st area)) (decoded-bad d n))
+  not-form n = counts-same made (ap (λ (o : Option (List Mutation)). ofCounted o (stepAll (st .floor) h) (boxOf st area)) (decoded-bad d n))
 
-  module _ (good : not (r .ok) ≡ false) {a : Answer} (e : a ≡ commitTermsStep h) where
+  module _ (good : not (r .ok) ≡ false) {a : Answer} (e : a ≡ commitTermsStep (st .floor) h) where
     abbrev b : Box
     b = boxOf st area
 
@@ -86,11 +88,11 @@ module _ {st : Store} {area : Bytes} (made : Made st area) (h : CommitTerms) {s 
     abbrev countedBy : Answer → Counted
     countedBy v = record { done = thenApplied v b later; count = countIf (thenApplied v b later .answer) (length ms) }
 
-    one-is : oneStep h s b ≡ countedBy (a ▸ argumentsStep ms ▸ need (noneOther h b ms) 9)
+    one-is : oneStep (st .floor) h s b ≡ countedBy (a ▸ argumentsStep ms ▸ need (noneOther h b ms) 9)
     unfolding oneStep ofCounted stepAll stepDone stepArguments
-    one-is = ap (λ (o : Option (List Mutation)). ofCounted o (stepAll h) b) (decoded-good d good) ∙ ap (λ (x : Answer). countedBy (x ▸ argumentsStep ms ▸ need (noneOther h b ms) 9)) (sym e)
+    one-is = ap (λ (o : Option (List Mutation)). ofCounted o (stepAll (st .floor) h) b) (decoded-good d good) ∙ ap (λ (x : Answer). countedBy (x ▸ argumentsStep ms ▸ need (noneOther h b ms) 9)) (sym e)
 
-    pub head-out : (a ≡ Accepted → ⊥) → Counts st area (oneStep h s (boxOf st area)) (record { store = st; answer = a; count = 0 }) area
+    pub head-out : (a ≡ Accepted → ⊥) → Counts st area (oneStep (st .floor) h s (boxOf st area)) (record { store = st; answer = a; count = 0 }) area
     unfolding thenApplied countIf
     head-out n = counts-same made (one-is ∙ ap countedBy (sym (then-refused a (argumentsStep ms ▸ need (noneOther h b ms) 9) n)) ∙ out a n)
       where
@@ -100,16 +102,16 @@ module _ {st : Store} {area : Bytes} (made : Made st area) (h : CommitTerms) {s 
         out (Held o) f = refl
 
     module _ (p : a ≡ Accepted) where
-      pub batch-asks : (AllAsks st area s (r .count) (r .list)) × (commitTermsStep h ≡ Accepted)
+      pub batch-asks : (AllAsks st area s (r .count) (r .list)) × (commitTermsStep (st .floor) h ≡ Accepted)
       batch-asks = (record { made = made; form = mutations-in-form d good }, sym e ∙ p)
 
-      pub batch-done : {t : Stepped} {area′ : Bytes} → Counts st area (laterCounted h (shown (mutationOf s) (r .count) (r .list)) (boxOf st area)) t area′ → Counts st area (oneStep h s (boxOf st area)) t area′
+      pub batch-done : {t : Stepped} {area′ : Bytes} → Counts st area (laterCounted h (shown (mutationOf s) (r .count) (r .list)) (boxOf st area)) t area′ → Counts st area (oneStep (st .floor) h s (boxOf st area)) t area′
       unfolding laterDone _▸_
       batch-done {t} {area′} k = subst (λ (x : Counted). Counts st area x t area′) (sym (one-is ∙ ap (λ (x : Answer). countedBy (x ▸ argumentsStep ms ▸ need (noneOther h b ms) 9)) p)) k
 
 -- ---- what the checks come to
 
-module _ {st : Store} {area s : Bytes} {n : ℕ} {es : List Entry} (a : AllAsks st area s n es) {h : CommitTerms} (head : commitTermsStep h ≡ Accepted) {met : Checks} (k : AllChecked h (boxOf st area) (shown (mutationOf s) n es) met) where
+module _ {st : Store} {area s : Bytes} {n : ℕ} {es : List Entry} (a : AllAsks st area s n es) {h : CommitTerms} (head : commitTermsStep (st .floor) h ≡ Accepted) {met : Checks} (k : AllChecked h (boxOf st area) (shown (mutationOf s) n es) met) where
   abbrev was : Box
   was = boxOf st area
 
@@ -119,6 +121,9 @@ module _ {st : Store} {area s : Bytes} {n : ℕ} {es : List Entry} (a : AllAsks 
   abbrev after : Box
   after = applySteps h entries was
 
+  ends-later : h .start < h .commit
+  ends-later = ltb-true _ _ (commit-above (st .floor) h head)
+
   count-is : length entries ≡ n
   count-is = shown-length (a .form .listed) (mutationOf s)
 
@@ -127,7 +132,7 @@ module _ {st : Store} {area s : Bytes} {n : ℕ} {es : List Entry} (a : AllAsks 
 
   module _ (p : stepEntries h was entries ≡ Accepted) where
     weighs : plus (loadOf was) (sumLoads stepAdds entries) ≡ plus (sumLoads (stepFrees h was) entries) (loadOf after)
-    weighs = steps-load h entries was ascends (entries-check h head was entries p) (a .made .built .kept .sorted)
+    weighs = steps-load h entries was ascends (entries-check h ends-later was entries p) (a .made .built .kept .sorted)
 
     added-is : plus (st .load) (met .seen .weight .added) ≡ plus (loadOf was) (sumLoads stepAdds entries)
     added-is = ap₂ plus (a .made .built .kept .load-is) (k .added-is ∙ sums-passed h was stepAdds entries p)
@@ -171,7 +176,7 @@ module _ {st : Store} {area s : Bytes} {n : ℕ} {es : List Entry} (a : AllAsks 
           (after-step (stepEntries h was entries) _ _ (λ p. ap (λ (l : Load). need (fits l) 11) (left-is p)))
 
       done-is : laterDone h entries was ≡ settle v after was
-      done-is = later-new h was entries head (sym (k .all-is) ∙ part) ∙ ap (λ (x : Answer). settle x after was) (sym steps-is)
+      done-is = later-new h was entries ends-later (sym (k .all-is) ∙ part) ∙ ap (λ (x : Answer). settle x after was) (sym steps-is)
 
     done-all : met .tally .all ≡ true → laterDone h entries was ≡ record { answer = v; box = was }
     unfolding _▸_
@@ -216,16 +221,16 @@ module _ {st : Store} {area s : Bytes} {n : ℕ} {es : List Entry} (a : AllAsks 
 
         -- what the entries ask of the store that came
         all-ready : (primary : Key) → Ready (deedOf h) primary s (counted n es) (boxOf st area)
-        all-ready primary = steps-ready h primary was head (a .form) arguments-passed passed fit
+        all-ready primary = steps-ready (st .floor) h primary was head (a .form) arguments-passed passed fit
 
         -- the box is another one
         all-new : {primary : Key} {t : Store} {area′ : Bytes} → AllApplied (deedOf h) primary st area s n es t area′
             → Counts st area (laterCounted h (shown (mutationOf s) n es) (boxOf st area)) (record { store = t; answer = v; count = n }) area′
         all-new {primary} {t} {area′} g = record {
           settled = subst (λ (x : Answer). Settled st area (laterDone h entries was) (record { store = t; answer = x }) area′) (sym p)
-              (settled-new (record { built = g .built; fit = subst Fits (sym (g .built .kept .load-is ∙ ap loadOf is)) fit })
+              (settled-new (record { built = g .built; fit = subst Fits (sym (g .built .kept .load-is ∙ ap loadOf is)) fit; above = g .above }) (g .floor-is)
               (done-is part ∙ settle-new v after was p ∙ ap (λ (c : Box). record { answer = Accepted; box = c }) (sym is))
-              (λ x. steps-differ h entries was (sym (k .all-is) ∙ part) ascends (entries-check h head was entries passed) (a .made .built .kept .sorted) (sym is ∙ x)));
+              (λ x. steps-differ h entries was (sym (k .all-is) ∙ part) ascends (entries-check h ends-later was entries passed) (a .made .built .kept .sorted) (sym is ∙ x)));
           count-is = sym (ap (λ (x : Done). countIf (x .answer) (length entries)) (done-is part ∙ settle-new v after was p) ∙ go);
         }
           where

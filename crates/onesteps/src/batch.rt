@@ -36,7 +36,7 @@ fn step_all(
     n: usize,
     list: [Entry; 32],
 ) -> Stepped
-    requires { ⌜ (AllAsks store (now area) (now batch) n list) × (commitTermsStep terms ≡ Accepted) ⌝ }
+    requires { ⌜ (AllAsks store (now area) (now batch) n list) × (commitTermsStep (store .floor) terms ≡ Accepted) ⌝ }
     ensures { λ r. ⌜ Counts store (now (area .entry)) (laterCounted terms (shown (mutationOf (now (batch .entry))) n list) (boxOf store (now (area .entry)))) r (now (area .exit)) ⌝ }
 {
     let met = check_all(store, area, terms, batch, n, list);
@@ -61,7 +61,7 @@ fn step_all(
     }
 }
 
-// "One-step batch: 6; 3; each entry in turn 1, 2; empty, accepted with count 0. .. The count is the number of entries."
+// "One-step batch: 6; 3"; "after the last 3, .. and before any entry is judged" 14; "each entry in turn 1, 2; empty, accepted with count 0. .. The count is the number of entries."
 pub fn commit_batch(
     store: Store,
     area: &mut [u8; AREA],
@@ -71,7 +71,7 @@ pub fn commit_batch(
     batch: &[u8],
 ) -> Stepped
     requires { ⌜ Made store (now area) ⌝ }
-    ensures { λ r. ⌜ Counts store (now (area .entry)) (oneStep (record { txn = txn; start = start; commit = commit }) (now (batch .entry)) (boxOf store (now (area .entry)))) r (now (area .exit)) ⌝ }
+    ensures { λ r. ⌜ Counts store (now (area .entry)) (oneStep (store .floor) (record { txn = txn; start = start; commit = commit }) (now (batch .entry)) (boxOf store (now (area .entry)))) r (now (area .exit)) ⌝ }
 {
     let entries = forms::mutations_of(batch);
     if !entries.ok {
@@ -86,7 +86,7 @@ pub fn commit_batch(
         start: start,
         commit: commit,
     };
-    let head = calls::commit_terms_step(terms);
+    let head = calls::commit_terms_step(store.floor, terms);
     if !calls::accepted(head) {
         return Stepped {
             store: store,

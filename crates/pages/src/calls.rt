@@ -28,7 +28,7 @@ fn scan(
     out: &mut [u8],
 ) -> Wrote
     requires { ⌜ WalkAsks store (now area) asks ⌝ }
-    ensures { λ r. ⌜ WroteAs (written same (pageAsked asks (boundsOf starts (now (start .entry)) ends (now (end .entry)) resumes (now (resume .entry))) (boxOf store (now (area .entry)))) (now (out .entry))) r (now (out .exit)) ⌝ }
+    ensures { λ r. ⌜ WroteAs (written same (pageAsked (store .floor) asks (boundsOf starts (now (start .entry)) ends (now (end .entry)) resumes (now (resume .entry))) (boxOf store (now (area .entry)))) (now (out .entry))) r (now (out .exit)) ⌝ }
 {
     let w = judge_page(store, area, asks, starts, start, ends, end, resumes, resume);
     let judged = w.answer;
@@ -64,7 +64,7 @@ pub fn scan_page(
     out: &mut [u8],
 ) -> Wrote
     requires { ⌜ Made store (now area) ⌝ }
-    ensures { λ r. ⌜ WroteAs (scanPage (boundsOf starts (now (start .entry)) ends (now (end .entry)) resumes (now (resume .entry))) moment (record { rows = rows; bytes = bytes }) (boxOf store (now (area .entry))) (now (out .entry))) r (now (out .exit)) ⌝ }
+    ensures { λ r. ⌜ WroteAs (scanPage (store .floor) (boundsOf starts (now (start .entry)) ends (now (end .entry)) resumes (now (resume .entry))) moment (record { rows = rows; bytes = bytes }) (boxOf store (now (area .entry))) (now (out .entry))) r (now (out .exit)) ⌝ }
 {
     let asks = PageQuery {
         scan: Scan::Rows,

@@ -85,14 +85,15 @@ changesOf h = record { key = keyIn; start = h .start; check = prewriteEntry h; a
 abbrev pub deedOf : LockTerms → Action
 deedOf t = Prewrite (t .txn) (t .start) (t .ttl)
 
-module _ (t : LockTerms) (primary : Key) (s : Bytes) where
+module _ (floor : ℕ) (t : LockTerms) (primary : Key) (s : Bytes) where
   abbrev h : PrewriteTerms
   h = withPrimary t primary
 
   -- what one entry asks, where it and those after it would pass
-  entry-ready : (prewriteTermsStep (withPrimary t primary) ≡ Accepted) → {want : Box} → Fits (loadOf want) → (e : Entry) (rest : List Mutation) (b : Box) → Applying (changesOf (withPrimary t primary)) want b (mutationOf s e ∷ rest) → EntryReady (deedOf t) primary s e b
+  entry-ready : prewriteTermsStep floor (withPrimary t primary) ≡ Accepted → {want : Box} → Fits (loadOf want) → (e : Entry) (rest : List Mutation) (b : Box) → Applying (changesOf (withPrimary t primary)) want b (mutationOf s e ∷ rest) → EntryReady (deedOf t) primary s e b
   entry-ready p {want} f e rest b v st area built q room = record {
     built = built;
+    floor = floor;
     head = p;
     passed = passed;
     row-fits = row-fits s e (prewrite-passed h (boxOf st area) _ passed .row);
@@ -106,7 +107,7 @@ module _ (t : LockTerms) (primary : Key) (s : Bytes) where
       passed : prewriteEntry h (boxOf st area) (entryFor (keyAt s e) (e .put) (rowAt s e)) ≡ Accepted
       passed = ap (prewriteEntry h (boxOf st area)) (parts-are s e) ∙ applying-passed here
 
-  pub locks-ready : {n : ℕ} {es : List Entry} (b : Box) → prewriteTermsStep (withPrimary t primary) ≡ Accepted → InForm s n es → checkAll (prewriteEntry (withPrimary t primary)) b (shown (mutationOf s) n es) ≡ Accepted
+  pub locks-ready : {n : ℕ} {es : List Entry} (b : Box) → prewriteTermsStep floor (withPrimary t primary) ≡ Accepted → InForm s n es → checkAll (prewriteEntry (withPrimary t primary)) b (shown (mutationOf s) n es) ≡ Accepted
       → Fits (loadOf (applyAll (applyPrewrite (withPrimary t primary)) (shown (mutationOf s) n es) b)) → Ready (deedOf t) primary s (counted n es) b
   locks-ready {n} {es} b p form c f =
       ready-all (changesOf h) (mutationOf s) (deedOf t) primary s (λ e x. refl) (entry-ready p f) n es b (record { ascends = mutations-by-keys s n es ∙ form .ascends; passed = c; is = refl })
@@ -114,8 +115,8 @@ module _ (t : LockTerms) (primary : Key) (s : Bytes) where
 -- ---- the call
 
 -- the definition, by the steps of one entry
-pub by-entries : (h : PrewriteTerms) → ByEntries (prewriteEntry h) (applyPrewrite h) (prewriteTermsStep h) (prewriteAll h)
+pub by-entries : (floor : ℕ) (h : PrewriteTerms) → ByEntries (prewriteEntry h) (applyPrewrite h) (prewriteTermsStep floor h) (prewriteAll floor h)
 unfolding prewriteAll prewriteSteps prewriteRoom
-by-entries h = record {
-  is = λ ms b. ap₂ (λ (x : Answer) (c : Box). settle (need (nonEmpty ms) 5 ▸ prewriteTermsStep h ▸ x ▸ need (roomFor c) 11) c b) (prewriteEntries-all h b ms) (applyPrewrites-all h ms b);
+by-entries floor h = record {
+  is = λ ms b. ap₂ (λ (x : Answer) (c : Box). settle (need (nonEmpty ms) 5 ▸ prewriteTermsStep floor h ▸ x ▸ need (roomFor c) 11) c b) (prewriteEntries-all h b ms) (applyPrewrites-all h ms b);
 }

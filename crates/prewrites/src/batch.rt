@@ -30,7 +30,7 @@ fn prewrite_all(
     n: usize,
     list: [Entry; 32],
 ) -> Changed
-    requires { ⌜ (AllAsks store (now area) (now batch) n list) × (prewriteTermsStep (withPrimary terms (now primary)) ≡ Accepted) ⌝ }
+    requires { ⌜ (AllAsks store (now area) (now batch) n list) × (prewriteTermsStep (store .floor) (withPrimary terms (now primary)) ≡ Accepted) ⌝ }
     ensures { λ r. ⌜ Settled store (now (area .entry)) (allDone (prewriteEntry (withPrimary terms (now (primary .entry)))) (applyPrewrite (withPrimary terms (now (primary .entry)))) (shown (mutationOf (now (batch .entry))) n list) (boxOf store (now (area .entry)))) r (now (area .exit)) ⌝ }
 {
     let v = check_all(store, area, terms, primary, batch, n, list);
@@ -48,7 +48,7 @@ fn prewrite_all(
     }
 }
 
-// "batch 6, 5; transaction, start 3; primary 1; time to live 3; then per entry ascending ..; Then 11."
+// "batch 6, 5; transaction, start 3; primary 1; time to live 3"; 14; "then per entry ascending ..; Then 11."
 pub fn prewrite_batch(
     store: Store,
     area: &mut [u8; AREA],
@@ -59,7 +59,7 @@ pub fn prewrite_batch(
     batch: &[u8],
 ) -> Changed
     requires { ⌜ Made store (now area) ⌝ }
-    ensures { λ r. ⌜ Settled store (now (area .entry)) (prewriteBatch (withPrimary (record { txn = txn; start = start; ttl = ttl }) (now (primary .entry))) (now (batch .entry)) (boxOf store (now (area .entry)))) r (now (area .exit)) ⌝ }
+    ensures { λ r. ⌜ Settled store (now (area .entry)) (prewriteBatch (store .floor) (withPrimary (record { txn = txn; start = start; ttl = ttl }) (now (primary .entry))) (now (batch .entry)) (boxOf store (now (area .entry)))) r (now (area .exit)) ⌝ }
 {
     let entries = forms::mutations_of(batch);
     let n = entries.count;
@@ -68,7 +68,7 @@ pub fn prewrite_batch(
         start: start,
         ttl: ttl,
     };
-    let answer = calls::batch_step(entries.ok, n, terms_step(terms, primary));
+    let answer = calls::batch_step(entries.ok, n, terms_step(store.floor, terms, primary));
     if !calls::accepted(answer) {
         return Changed {
             store: store,

@@ -22,7 +22,7 @@ pub fn prewrite(
     row: &[u8],
 ) -> Changed
     requires { ⌜ Made store (now area) ⌝ }
-    ensures { λ r. ⌜ Settled store (now (area .entry)) (prewrite (withPrimary (record { txn = txn; start = start; ttl = ttl }) (now (primary .entry))) (entryOf (now (key .entry)) put (now (row .entry))) (boxOf store (now (area .entry)))) r (now (area .exit)) ⌝ }
+    ensures { λ r. ⌜ Settled store (now (area .entry)) (prewrite (store .floor) (withPrimary (record { txn = txn; start = start; ttl = ttl }) (now (primary .entry))) (entryOf (now (key .entry)) put (now (row .entry))) (boxOf store (now (area .entry)))) r (now (area .exit)) ⌝ }
 {
     let mut batch = [0u8; 515];
     let n = forms::one_mutation(&mut batch, key, put, row);

@@ -10,7 +10,7 @@ use mathlib.Core.List.{List, [], _∷_, reverseAux}
 use mathlib.Core.Option.{Option, none, some}
 use lib.Dec.{leb}
 use lib.ListN.{length}
-use borrow.Author.Tests.{lt-ltb, le-ltb}
+use borrow.Author.Tests.{lt-ltb, le-ltb, lt-leb}
 use Rattle.forms.specs.Bytes.{Bytes, bytesAt}
 use Rattle.forms.specs.Key.{Key, keyForm}
 use Rattle.forms.specs.Row.{Row}
@@ -25,6 +25,7 @@ use Rattle.rules.specs.Box as box
 use Rattle.rules.specs.Calls.{foundIf}
 use Rattle.rules.specs.Sound.{soundRecord, allSound}
 use Rattle.rules.specs.Read.{lockLets, keepIf, atOrBelow, newestFirst, showRow, Examined, oneRecord, walk, readSteps, examine, read}
+use Rattle.rules.proofs.FloorLaws.{steps-above, read-on-0}
 use Rattle.laws.proofs.StepLaws.{answered, and-left, and-right, and-both}
 use Rattle.store.specs.declared.table.Store.{Store}
 use Rattle.store.specs.declared.views.LockView.{LockView}
@@ -117,48 +118,57 @@ if-then Accepted b r = refl
 if-then (No n) b r = refl
 if-then (Held h) b r = refl
 
-module _ (k : Key) (m : ℕ) (b : box.Box) where
-  pub read-steps : (t : Bool) → keyForm k ≡ t → read k m b ≡ ifPassed (need t 1) (ifPassed (lockLets m (box.lockOf k (b .lines))) (walk k (b .defaults) (newestFirst m (box.recordsOf k (b .lines))) .reply))
-  unfolding read examine readSteps
-  read-steps t e = if-then (need (keyForm k) 1) (lockLets m (box.lockOf k (b .lines))) _ ∙ rw e
+-- a page asks for the floor once, so its keys are read on the floor 0
+pub read-steps : (k : Key) (m : ℕ) (b : box.Box) (t : Bool) → keyForm k ≡ t
+    → read 0 k m b ≡ ifPassed (need t 1) (ifPassed (lockLets m (box.lockOf k (b .lines))) (walk k (b .defaults) (newestFirst m (box.recordsOf k (b .lines))) .reply))
+unfolding read examine
+read-steps k m b t e =
+    ap (λ (a : Answer). ifPassed a (walk k (b .defaults) (newestFirst m (box.recordsOf k (b .lines))) .reply)) (read-on-0 k m b)
+    ∙ if-then (need (keyForm k) 1) (lockLets m (box.lockOf k (b .lines))) _ ∙ rw e
 
+module _ (floor : ℕ) (k : Key) (m : ℕ) (b : box.Box) where
   -- by what the steps before the walk answer
-  reply-is : {a : Answer} → readSteps k m b ≡ a → ifPassed a (walk k (b .defaults) (newestFirst m (box.recordsOf k (b .lines))) .reply) ≡ examine k m b .reply
+  reply-is : {a : Answer} → readSteps floor k m b ≡ a → ifPassed a (walk k (b .defaults) (newestFirst m (box.recordsOf k (b .lines))) .reply) ≡ examine floor k m b .reply
   unfolding examine
   reply-is e = ap (λ (a : Answer). ifPassed a (walk k (b .defaults) (newestFirst m (box.recordsOf k (b .lines))) .reply)) (sym e)
 
-  count-is : {a : Answer} → readSteps k m b ≡ a → countIf a (walk k (b .defaults) (newestFirst m (box.recordsOf k (b .lines))) .count) ≡ examine k m b .count
+  count-is : {a : Answer} → readSteps floor k m b ≡ a → countIf a (walk k (b .defaults) (newestFirst m (box.recordsOf k (b .lines))) .count) ≡ examine floor k m b .count
   unfolding examine
   count-is e = ap (λ (a : Answer). countIf a (walk k (b .defaults) (newestFirst m (box.recordsOf k (b .lines))) .count)) (sym e)
 
-  refused-no : (area : Bytes) {n : ℕ} {r : Reading} → readSteps k m b ≡ No n → r ≡ unread (No n) → ReadAs (examine k m b) area r
+  refused-no : (area : Bytes) {n : ℕ} {r : Reading} → readSteps floor k m b ≡ No n → r ≡ unread (No n) → ReadAs (examine floor k m b) area r
   unfolding ifPassed countIf
-  refused-no area e q = subst (ReadAs (examine k m b) area) (sym q) (read-as (reply-is e) tt (count-is e))
+  refused-no area e q = subst (ReadAs (examine floor k m b) area) (sym q) (read-as (reply-is e) tt (count-is e))
 
-  refused-held : (area : Bytes) {h : Holder} {r : Reading} → readSteps k m b ≡ Held h → r ≡ unread (Held h) → ReadAs (examine k m b) area r
+  refused-held : (area : Bytes) {h : Holder} {r : Reading} → readSteps floor k m b ≡ Held h → r ≡ unread (Held h) → ReadAs (examine floor k m b) area r
   unfolding ifPassed countIf
-  refused-held area e q = subst (ReadAs (examine k m b) area) (sym q) (read-as (reply-is e) tt (count-is e))
+  refused-held area e q = subst (ReadAs (examine floor k m b) area) (sym q) (read-as (reply-is e) tt (count-is e))
 
-  pub read-invalid : (area : Bytes) {r : Reading} → keyForm k ≡ false → r ≡ unread (No 1) → ReadAs (examine k m b) area r
+  pub read-invalid : (area : Bytes) {r : Reading} → keyForm k ≡ false → r ≡ unread (No 1) → ReadAs (examine floor k m b) area r
   unfolding readSteps need _▸_
   read-invalid area h q = refused-no area (rw h) q
 
-module _ {st : Store} {area k : Bytes} {start m : ℕ} {found : KeyState} (b : Built st area) (form : keyForm k ≡ true) (f : KeyStateAt st area k start m found) {lets : Answer} (l : (area : Bytes) → lets ≡ lockLets m (lockedBy area (found .lock))) where
+  -- "14, below the floor, for a read .. moment below F (in a read after 1 ..)"
+  pub read-below : (area : Bytes) {r : Reading} → keyForm k ≡ true → m < floor → r ≡ unread (No 14) → ReadAs (examine floor k m b) area r
+  unfolding readSteps need _▸_
+  read-below area form h q = refused-no area (rw (form, lt-leb floor m h)) q
+
+module _ {st : Store} {area k : Bytes} {start m : ℕ} {found : KeyState} (b : Built st area) (form : keyForm k ≡ true) (above : st .floor ≤ m) (f : KeyStateAt st area k start m found) {lets : Answer} (l : (area : Bytes) → lets ≡ lockLets m (lockedBy area (found .lock))) where
   abbrev ds : List box.Default
   ds = boxOf st area .defaults
 
   abbrev ws : List Record
   ws = box.recordsOf k (boxOf st area .lines)
 
-  steps : {a : Answer} → lets ≡ a → readSteps k m (boxOf st area) ≡ a
-  unfolding readSteps need _▸_
-  steps {a} e = rw (form, ← f .lock-is, ← l area, e)
+  steps : {a : Answer} → lets ≡ a → readSteps (st .floor) k m (boxOf st area) ≡ a
+  unfolding need _▸_
+  steps {a} e = steps-above (st .floor) k m (boxOf st area) above ∙ rw (form, ← f .lock-is, ← l area, e)
 
-  pub read-no : {n : ℕ} {r : Reading} → lets ≡ No n → r ≡ unread (No n) → ReadAs (examine k m (boxOf st area)) area r
-  read-no e q = refused-no k m (boxOf st area) area (steps e) q
+  pub read-no : {n : ℕ} {r : Reading} → lets ≡ No n → r ≡ unread (No n) → ReadAs (examine (st .floor) k m (boxOf st area)) area r
+  read-no e q = refused-no (st .floor) k m (boxOf st area) area (steps e) q
 
-  pub read-held : {h : Holder} {r : Reading} → lets ≡ Held h → r ≡ unread (Held h) → ReadAs (examine k m (boxOf st area)) area r
-  read-held e q = refused-held k m (boxOf st area) area (steps e) q
+  pub read-held : {h : Holder} {r : Reading} → lets ≡ Held h → r ≡ unread (Held h) → ReadAs (examine (st .floor) k m (boxOf st area)) area r
+  read-held e q = refused-held (st .floor) k m (boxOf st area) area (steps e) q
 
   -- what the newest record that counts shows, with its row
   newest-is : (n : Found) → FoundThere (st .top) area ds k n → seenIn area (newestSeen n) ≡ showNewest k ds (said n)
@@ -182,11 +192,11 @@ module _ {st : Store} {area k : Bytes} {start m : ℕ} {found : KeyState} (b : B
   sound-by : allSound (newestFirst m ws) ≡ true
   sound-by = sound-newest m ws (sound-records k (boxOf st area .lines) (b .kept .good))
 
-  pub read-newest : {s : RowSeen} → lets ≡ Accepted → s ≡ newestSeen (found .history .visible) → ReadAs (examine k m (boxOf st area)) area (record { seen = s; count = found .history .examined })
+  pub read-newest : {s : RowSeen} → lets ≡ Accepted → s ≡ newestSeen (found .history .visible) → ReadAs (examine (st .floor) k m (boxOf st area)) area (record { seen = s; count = found .history .examined })
   unfolding ifPassed countIf
   read-newest e q =
-      subst (λ (s : RowSeen). ReadAs (examine k m (boxOf st area)) area (record { seen = s; count = found .history .examined })) (sym q)
+      subst (λ (s : RowSeen). ReadAs (examine (st .floor) k m (boxOf st area)) area (record { seen = s; count = found .history .examined })) (sym q)
       (read-as
-      (newest-is (found .history .visible) (f .history .visible-row) ∙ ap (showNewest k ds) (f .history .visible) ∙ walk-newest k ds (newestFirst m ws) sound-by ∙ reply-is k m (boxOf st area) (steps e))
+      (newest-is (found .history .visible) (f .history .visible-row) ∙ ap (showNewest k ds) (f .history .visible) ∙ walk-newest k ds (newestFirst m ws) sound-by ∙ reply-is (st .floor) k m (boxOf st area) (steps e))
       (newest-in (found .history .visible) (f .history .visible-row))
-      (f .history .examined ∙ walk-examined k ds (newestFirst m ws) sound-by ∙ count-is k m (boxOf st area) (steps e)))
+      (f .history .examined ∙ walk-examined k ds (newestFirst m ws) sound-by ∙ count-is (st .floor) k m (boxOf st area) (steps e)))

@@ -19,8 +19,8 @@ use Rattle.reads.specs.Seen.{seenIn}
 use Rattle.reads.specs.Shown.{AskedOf, ShowsRow, RowsSeen}
 use Rattle.reads.proofs.PartLaws.{shows-part}
 
-asked : (store : Store) (area key : Bytes) (m : ℕ) → Made store area → AskedOf key m (boxOf store area) → Asked key m (boxOf store area)
-asked store area key m made a = record { valid = a .valid; sound = a .sound; free = a .free; sorted = made .built .kept .sorted }
+asked : (store : Store) (area key : Bytes) (m : ℕ) → Made store area → AskedOf (store .floor) key m (boxOf store area) → Asked (store .floor) key m (boxOf store area)
+asked store area key m made a = record { above = a .above; valid = a .valid; sound = a .sound; free = a .free; sorted = made .built .kept .sorted }
 
 -- an answer whose reply shows a row is a row
 is-row : (area : Bytes) (s : RowSeen) (part row : Bytes) → seenIn area s ≡ shown row → part ≡ row → ShowsRow s part row
@@ -32,12 +32,12 @@ pub rows-seen : RowsSeen
 unfolding read
 rows-seen store area key m g part row made a r p = (out, into)
   where
-    theorem : Shows key m (boxOf store area) row ↔ NewestPut key m (boxOf store area) row
-    theorem = shown-rows key m (boxOf store area) row (asked store area key m made a)
+    theorem : Shows (store .floor) key m (boxOf store area) row ↔ NewestPut key m (boxOf store area) row
+    theorem = shown-rows (store .floor) key m (boxOf store area) row (asked store area key m made a)
 
-    shows : ShowsRow (g .seen) part row → Shows key m (boxOf store area) row
+    shows : ShowsRow (g .seen) part row → Shows (store .floor) key m (boxOf store area) row
     shows q =
-        let e : read key m (boxOf store area) ≡ shown (bytesAt area (q .at) (q .len)) = sym (r .seen-as .is) ∙ ap (seenIn area) (q .answers) in
+        let e : read (store .floor) key m (boxOf store area) ≡ shown (bytesAt area (q .at) (q .len)) = sym (r .seen-as .is) ∙ ap (seenIn area) (q .answers) in
         e ∙ ap shown (sym (shows-part (r .seen-as) p e) ∙ q .hands)
 
     out : ShowsRow (g .seen) part row → NewestPut key m (boxOf store area) row

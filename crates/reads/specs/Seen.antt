@@ -53,9 +53,10 @@ pub record ReadAs (want : Examined) (area : Bytes) (r : Reading) : Type 0 where
   pub seen-as : SeenAs (want .reply) area (r .seen)
   pub count-is : r .count ≡ want .count
 
--- so it is by what the lookup found at the key, whatever the store
+-- so it is by what the lookup found at the key, whatever the store, at a moment that is not below its floor
 abbrev pub ReadBy : KeyState → ℕ → Reading → Type 0
-ReadBy found m r = (st : Store) (area k : Bytes) → Built st area → keyForm k ≡ true → KeyStateAt st area k 0 m found → ReadAs (examine k m (boxOf st area)) area r
+ReadBy found m r =
+    (st : Store) (area k : Bytes) → Built st area → keyForm k ≡ true → st .floor ≤ m → KeyStateAt st area k 0 m found → ReadAs (examine (st .floor) k m (boxOf st area)) area r
 
 -- a refusal before the first record: "Other refusals still count 0"
 abbrev pub unread : Answer → Reading

@@ -1,8 +1,8 @@
 -- Demand 2's sentence about shown rows, said of what the program answers: "with sound records and no lock on the key starting at or before
 -- the moment asked, a valid key shows a row exactly when the newest record by that moment, rollbacks passed over, is a Put whose stored row
--- decodes, and shows that row." proofs/ShownLaws.antt has the law.
+-- decodes, and shows that row." CR 7: it "then speaks of moments at or above the floor". proofs/ShownLaws.antt has the law.
 -- Assumes nothing.
-use Prim.Native.Nat.{ℕ, _<_}
+use Prim.Native.Nat.{ℕ, _≤_, _<_}
 use mathlib.Core.Path.{_≡_}
 use mathlib.Core.Bool.{true}
 use mathlib.Core.Logic.{_↔_}
@@ -24,7 +24,9 @@ use Rattle.reads.specs.Seen.{ReadAs}
 use Rattle.reads.specs.Parts.{RowPart}
 
 -- "with sound records and no lock on the key starting at or before the moment asked, a valid key"
-pub record AskedOf (key : Key) (moment : ℕ) (b : Box) : Type 0 where
+pub record AskedOf (floor : ℕ) (key : Key) (moment : ℕ) (b : Box) : Type 0 where
+  -- "moments at or above the floor"
+  pub above : floor ≤ moment
   pub valid : keyForm key ≡ true
   pub sound : allSound (recordsOf key (b .lines)) ≡ true
   pub free : (l : Lock) → lockOf key (b .lines) ≡ some l → moment < l .start
@@ -41,7 +43,7 @@ abbrev pub RowsSeen : Type 0
 RowsSeen =
     (store : Store) (area key : Bytes) (moment : ℕ) (r : Reading) (part : Bytes) (row : Row)
     → Made store area
-    → AskedOf key moment (boxOf store area)
-    → ReadAs (examine key moment (boxOf store area)) area r
+    → AskedOf (store .floor) key moment (boxOf store area)
+    → ReadAs (examine (store .floor) key moment (boxOf store area)) area r
     → RowPart area (r .seen) part
     → ShowsRow (r .seen) part row ↔ NewestPut key moment (boxOf store area) row

@@ -1,6 +1,7 @@
 // "Read: 1; lock with start at or below the moment, 7; then records from the newest at or below the moment downward, each checked (9):
 // Rollback, go on; Delete, nothing; Put, its default must exist and decode (9), shown." A store's records are sound and its rows in form:
-// no step tests it. The lookup counts the records that a read examines.
+// no step tests it. The lookup counts the records that a read examines. 02, CR 7: "14, below the floor, for a read .. moment below F (in a read
+// after 1 ..)".
 ghost use mathlib.Core.Path.{_≡_};
 ghost use Rattle.forms.specs.Bytes.{Bytes};
 ghost use Rattle.rules.specs.Read.{lockLets, examine};
@@ -85,10 +86,13 @@ fn read_found(found: KeyState, moment: u64) -> Reading
 
 pub fn read(store: Store, area: &[u8; AREA], key: &[u8], moment: u64) -> Reading
     requires { ⌜ Made store (now area) ⌝ }
-    ensures { λ r. ⌜ ReadAs (examine (now (key .entry)) moment (boxOf store (now (area .entry)))) (now (area .entry)) r ⌝ }
+    ensures { λ r. ⌜ ReadAs (examine (store .floor) (now (key .entry)) moment (boxOf store (now (area .entry)))) (now (area .entry)) r ⌝ }
 {
     if !forms::key_in_form(key) {
         return refusal(Answer::No(1));
+    }
+    if moment < store.floor {
+        return refusal(Answer::No(14));
     }
     let lines = store.lines;
     let load = store.load;

@@ -1,4 +1,4 @@
-// What a read and an intent at a point answer, as numbers. specs/RowSeen.antt gives the paper's reply of each case, the area given.
+// What a read and an intent at a point answer, as numbers. specs/Seen.antt gives the paper's reply of each case, the area given.
 use rules::Answer;
 use rules::Kind;
 

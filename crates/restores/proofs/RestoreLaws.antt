@@ -16,14 +16,16 @@ use Rattle.rules.specs.declared.answers.Answer.the-variants.{Accepted}
 use Rattle.rules.specs.declared.room.Load.{Load}
 use Rattle.rules.specs.Box as box
 use Rattle.rules.specs.Room.{sumOf, loadOf}
-use Rattle.rules.specs.Calls.{Done}
+use Rattle.rules.specs.Calls.{State, Ended}
 use Rattle.rules.specs.Image.{Image, image}
-use Rattle.rules.specs.Restore.{allGood, boxOf, restoreSteps, restoreTo, restore}
+use Rattle.rules.specs.Restore.{allGood, boxOf, stateOf, restoreSteps, restoreTo, restore}
 use Rattle.laws.proofs.StepLaws.{answered, and-left, and-right}
 use Rattle.laws.proofs.BoxOrder.{order-defaults}
 use Rattle.laws.proofs.LoadLaws.{load-fields}
-use Rattle.laws.proofs.SettleLaws.{settle-answer, settle-new, settle-leaves, Leaves}
+use Rattle.laws.proofs.SettleLaws.{settleState-answer, settleState-new, settleState-leaves}
 use Rattle.laws.proofs.ImageBoxLaws.{boxOf-order}
+use Rattle.ledger.specs.Tidy.{LocksAbove}
+use Rattle.ledger.proofs.Restored.{restore-above}
 use Rattle.store.specs.declared.table.Slot.{Slot}
 use Rattle.store.specs.declared.table.Store.{Store}
 use Rattle.store.specs.View as view
@@ -31,7 +33,7 @@ use Rattle.store.specs.View.{stored}
 use Rattle.store.specs.Made.{goodLine, Made}
 use Rattle.changes.specs.Changes as changes
 use Rattle.changes.proofs.ChangeLaws.{shows-box}
-use Rattle.calls.specs.Settled.{isAccepted}
+use Rattle.calls.specs.Settled.{isAccepted, Replaced}
 use Rattle.calls.proofs.SettledLaws.{is-accepted, is-refusal, untouched}
 use Rattle.images.specs.Sections.{rowAt, lineAt, Placed}
 use Rattle.verdicts.specs.declared.outcome.ImageVerdict.{ImageVerdict}
@@ -39,7 +41,6 @@ use Rattle.verdicts.specs.Verdicts.{Decided}
 use Rattle.verdicts.proofs.EntryPairLaws.{lineHas}
 use Rattle.orders.specs.Finds.{rowsAt}
 use Rattle.restores.specs.Fills.{Laid, laidIn, laid, sizeOf, ComesIf, AsksIf}
-use Rattle.restores.specs.Replaced.{Replaced}
 use Rattle.restores.proofs.CarriedLaws.{image-good, image-has, image-stored, image-kept, sizes-need}
 use Rattle.restores.proofs.FillLaws.{Seen, Half, half-start, half-comes, half-end, entries, LineView, told-long, told-next, told-past}
 
@@ -57,7 +58,7 @@ good-at p [] i z a h = absurd (omega arith)
 good-at p (x ∷ xs) zero z a h = and-left _ _ a
 good-at p (x ∷ xs) (suc i) z a h = good-at p xs i z (and-right (p x) _ a) (omega arith)
 
-module _ {s : Bytes} {load : Load} {writesat : ℕ} {rows places : List ℕ} (p : Placed s load writesat rows places) where
+module _ {s : Bytes} {load : Load} {floor writesat : ℕ} {rows places : List ℕ} (p : Placed s load floor writesat rows places) where
   abbrev all : List Laid
   all = linesTold s load writesat rows places
 
@@ -94,15 +95,15 @@ module _ {s : Bytes} {load : Load} {writesat : ℕ} {rows places : List ℕ} (p 
 -- ---- the loop
 
 -- the first k places of the table are filled, and there is place for the lines that are left
-pub record Filling (s : Bytes) (load : Load) (writesat : ℕ) (rows places : List ℕ) (old : Store) (end k top : ℕ) (area : Bytes) (st : Store) : Type 0 where
-  pub placed : Placed s load writesat rows places
+pub record Filling (s : Bytes) (load : Load) (floor writesat : ℕ) (rows places : List ℕ) (old : Store) (end k top : ℕ) (area : Bytes) (st : Store) : Type 0 where
+  pub placed : Placed s load floor writesat rows places
   pub count-fits : end ≤ 1024
   pub half : Half (old .lines) (linesTold s load writesat rows places) k top area (st .lines)
   pub length-is : length area ≡ 131072
   pub left : top + sumOf sizeOf (drop k (linesTold s load writesat rows places)) + (load .lines - k) ≤ 68608
 
 pub filling-start : {s : Bytes} {v : ImageVerdict} {rows places : List ℕ} {old : Store} {area : Bytes} {t : Bool} {end : ℕ} → Decided s v rows places → t ≡ isAccepted (v .answer) → t ≡ true → Made old area
-    → end ≡ max (v .load .lines) (old .load .lines) → Filling s (v .load) (v .writesat) rows places old end 0 0 area old
+    → end ≡ max (v .load .lines) (old .load .lines) → Filling s (v .load) (v .floor) (v .writesat) rows places old end 0 0 area old
 filling-start {v = v} {old = old} {area = area} d e h m q =
     let p = d .placed (is-accepted (v .answer) e (ap not h)) in
     record {
@@ -113,7 +114,7 @@ filling-start {v = v} {old = old} {area = area} d e h m q =
       left = omega (arith, room p, p .fit .lines);
     }
 
-module _ {s : Bytes} {load : Load} {writesat : ℕ} {rows places : List ℕ} {old st : Store} {end k top : ℕ} {area : Bytes} (f : Filling s load writesat rows places old end k top area st) where
+module _ {s : Bytes} {load : Load} {floor writesat : ℕ} {rows places : List ℕ} {old st : Store} {end k top : ℕ} {area : Bytes} (f : Filling s load floor writesat rows places old end k top area st) where
   pub rows-few : load .defaults ≤ length rows
   unfolding loadOf
   rows-few = omega (arith, load-fields (f .placed .load-is) .defaults, ap length (f .placed .rows-are), length-map (take (load .defaults) rows) (rowAt s), length-take (load .defaults) rows)
@@ -140,7 +141,7 @@ module _ {s : Bytes} {load : Load} {writesat : ℕ} {rows places : List ℕ} {ol
   left-next false e x on area′ c = (ap length (c .area-is) ∙ f .length-is, omega (arith, f .left, c .end-is, told-past (told (f .placed)) (ltb-false k (load .lines) e)))
 
   pub filling-more : (x : Slot) (on : ℕ) (area′ : Bytes) → ComesIf (ltb k (load .lines)) (laid (rowsAt s (take (load .defaults) rows)) (lineAt s writesat (getD places k 0))) area top x on area′ → k < end
-      → Filling s load writesat rows places old end (k + 1) on area′ (record { lines = set (st .lines) k x; load = st .load; top = st .top })
+      → Filling s load floor writesat rows places old end (k + 1) on area′ (record { lines = set (st .lines) k x; load = st .load; top = st .top; floor = st .floor })
   filling-more x on area′ c g =
       let n = left-next (ltb k (load .lines)) refl x on area′ c in
       record { placed = f .placed; count-fits = f .count-fits; half = half-comes (told (f .placed)) (f .half) (omega (arith, f .count-fits)) (ltb k (load .lines)) refl x on area′ c; length-is = n .0; left = n .1 }
@@ -151,7 +152,7 @@ module _ {s : Bytes} {load : Load} {writesat : ℕ} {rows places : List ℕ} {ol
         subst (λ (n : ℕ). Seen top area n (st .lines) (linesTold s load writesat rows places)) (told-long (told (f .placed)))
         (half-end (f .half) (m .built .lines) (omega arith) (omega (arith, told-long (told (f .placed)))))
 
-    filled : changes.Leaves (boxOf (f .placed .img)) top (record { lines = st .lines; load = load; top = top }) area
+    filled : changes.Leaves (boxOf (f .placed .img)) top (record { lines = st .lines; load = load; top = top; floor = floor }) area
     unfolding shown
     filled =
         let p = f .placed in
@@ -162,34 +163,46 @@ module _ {s : Bytes} {load : Load} {writesat : ℕ} {rows places : List ℕ} {ol
 
 -- ---- the call
 
-refusal-leaves : (o : Option Image) (b : box.Box) → Leaves b (restoreTo o b)
+refusal-leaves : (o : Option Image) (st : State) → (restoreTo o st .answer ≡ Accepted → ⊥) → restoreTo o st .state ≡ st
 unfolding restoreTo
-refusal-leaves none b n = refl
-refusal-leaves (some i) b n = settle-leaves (restoreSteps i) (boxOf i) b n
+refusal-leaves none st n = refl
+refusal-leaves (some i) st n = settleState-leaves (restoreSteps i) (stateOf i) st n
 
-accepted-takes : (i : Image) (b : box.Box) → restoreTo (some i) b .answer ≡ Accepted → restoreTo (some i) b .box ≡ boxOf i
+accepted-takes : (i : Image) (st : State) → restoreTo (some i) st .answer ≡ Accepted → restoreTo (some i) st .state ≡ stateOf i
 unfolding restoreTo
-accepted-takes i b a = ap (λ (d : Done). d .box) (settle-new (restoreSteps i) (boxOf i) b (sym (settle-answer (restoreSteps i) (boxOf i) b) ∙ a))
+accepted-takes i st a = settleState-new (stateOf i) st (sym (settleState-answer (restoreSteps i) (stateOf i) st) ∙ a)
 
 module _ {s : Bytes} {v : ImageVerdict} {rows places : List ℕ} {st : Store} {area : Bytes} {t : Bool} (d : Decided s v rows places) (e : t ≡ isAccepted (v .answer)) (m : Made st area) where
-  pub restore-refused : t ≡ false → Replaced st area (restore s (view.boxOf st area)) (record { store = st; answer = v .answer }) area
+  abbrev old : State
+  old = view.stateShown st area
+
+  pub restore-refused : t ≡ false → Replaced st area (restore s (view.stateShown st area)) (record { store = st; answer = v .answer }) area
   unfolding restore
   restore-refused h =
       let n = is-refusal (v .answer) e (ap not h) in
-      let q = d .answer-is (view.boxOf st area) in
-      record { answer-is = answered q; made = m; shown = sym (refusal-leaves (image s) (view.boxOf st area) (λ a. n (q ∙ a))); refused = λ _. untouched }
+      let q = d .answer-is old in
+      record { answer-is = answered q; made = m; shown = sym (refusal-leaves (image s) old (λ a. n (q ∙ a))); refused = λ _. untouched }
 
-  pub restore-done : t ≡ true → {end k top : ℕ} {area′ : Bytes} {r : Store} → Filling s (v .load) (v .writesat) rows places st end k top area′ r → end ≡ max (v .load .lines) (st .load .lines) → end ≤ k
-      → Replaced st area (restore s (view.boxOf st area)) (record { store = record { lines = r .lines; load = v .load; top = top }; answer = v .answer }) area′
-  unfolding restore
-  restore-done h f l g =
-      let a = is-accepted (v .answer) e (ap not h) in
-      let q = d .answer-is (view.boxOf st area) in
-      let i : restore s (view.boxOf st area) ≡ restoreTo (some (f .placed .img)) (view.boxOf st area) = ap (λ (o : Option Image). restoreTo o (view.boxOf st area)) (f .placed .is) in
-      let w = filled f m l g in
-      record {
-        answer-is = answered q;
-        made = record { built = w .built; fit = f .placed .fit };
-        shown = w .shown ∙ sym (ap (λ (x : Done). x .box) i ∙ accepted-takes (f .placed .img) (view.boxOf st area) (sym (ap (λ (x : Done). x .answer) i) ∙ sym q ∙ a));
-        refused = λ n. absurd (n a);
-      }
+  module _ (h : t ≡ true) {end k top : ℕ} {area′ : Bytes} {r : Store} (f : Filling s (v .load) (v .floor) (v .writesat) rows places st end k top area′ r) (l : end ≡ max (v .load .lines) (st .load .lines)) (g : end ≤ k) where
+    abbrev new : Store
+    new = record { lines = r .lines; load = v .load; top = top; floor = v .floor }
+
+    accepts : v .answer ≡ Accepted
+    accepts = is-accepted (v .answer) e (ap not h)
+
+    -- the image's box, and "a restored store taking the image's" floor
+    takes : view.stateShown new area′ ≡ restore s old .state
+    unfolding restore stateOf
+    takes =
+        let p = f .placed in
+        let i : restore s old ≡ restoreTo (some (p .img)) old = ap (λ (o : Option Image). restoreTo o old) (p .is) in
+        ap₂ {C = State} (λ (b : box.Box) (n : ℕ). record { box = b; floor = n }) (filled f m l g .shown) (p .floor-is)
+        ∙ sym (ap (λ (x : Ended). x .state) i ∙ accepted-takes (p .img) old (sym (ap (λ (x : Ended). x .answer) i) ∙ sym (d .answer-is old) ∙ accepts))
+
+    pub restore-done : Replaced st area (restore s (view.stateShown st area)) (record { store = record { lines = r .lines; load = v .load; top = top; floor = v .floor }; answer = v .answer }) area′
+    restore-done = record {
+      answer-is = answered (d .answer-is old);
+      made = record { built = filled f m l g .built; fit = f .placed .fit; above = subst (λ (x : State). LocksAbove (x .floor) (x .box)) (sym takes) (restore-above s old (m .above)) };
+      shown = takes;
+      refused = λ n. absurd (n accepts);
+    }

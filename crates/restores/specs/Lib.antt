@@ -1,4 +1,3 @@
 -- The definitions of `restores`, in the order in which they build on each other.
 pub mod Rows
 pub mod Fills
-pub mod Replaced

@@ -1,8 +1,8 @@
-// "Restore (replaces the whole store): .. Any fault 13, then 11."
+// "Restore (replaces the whole store): .. Any fault 13, then 11."; "a restored store taking the image's" floor
 ghost use Rattle.rules.specs.Restore.{restore};
-ghost use Rattle.store.specs.View.{boxOf};
+ghost use Rattle.store.specs.View.{stateShown};
 ghost use Rattle.store.specs.Made.{Made};
-ghost use Rattle.restores.specs.Replaced.{Replaced};
+ghost use Rattle.calls.specs.Settled.{Replaced};
 use crate::fill::put_line;
 use calls::Changed;
 use calls::accepted;
@@ -15,7 +15,7 @@ use verdicts::verdict;
 // stands, a place at a time, up to the last place that was or is in use.
 pub fn restore(mut store: Store, area: &mut [u8; AREA], image: &[u8]) -> Changed
     requires { ⌜ Made store (now area) ⌝ }
-    ensures { λ r. ⌜ Replaced store (now (area .entry)) (restore (now (image .entry)) (boxOf store (now (area .entry)))) r (now (area .exit)) ⌝ }
+    ensures { λ r. ⌜ Replaced store (now (area .entry)) (restore (now (image .entry)) (stateShown store (now (area .entry)))) r (now (area .exit)) ⌝ }
 {
     let mut rows = [0u32; 1024];
     let mut places = [0u32; 1024];
@@ -27,6 +27,7 @@ pub fn restore(mut store: Store, area: &mut [u8; AREA], image: &[u8]) -> Changed
         let n = load.lines;
         let d = load.defaults;
         let w = v.writesat;
+        let floor = v.floor;
         let end = longer(n, old.lines);
         let mut top: usize = 0;
         let mut last: usize = 0;
@@ -41,6 +42,7 @@ pub fn restore(mut store: Store, area: &mut [u8; AREA], image: &[u8]) -> Changed
         }
         store.load = load;
         store.top = top;
+        store.floor = floor;
     }
     Changed {
         store: store,

@@ -3,11 +3,8 @@
 use Prim.Native.Nat.{ℕ, _+_, _≤_, _<_}
 use native.Mathlib.Omega.{arith}
 use mathlib.Core.Path.{_≡_, refl, sym, ap₂, subst}
-use mathlib.Core.Bool.{not}
 use mathlib.Core.List.{List, _∷_}
 use mathlib.Core.Option.{Option, none, some}
-use lib.Dec.{eqb}
-use borrow.Author.Tests.{eqb-false}
 use Rattle.seqs.specs.Tables.{shown}
 use Rattle.forms.specs.Bytes.{Bytes}
 use Rattle.forms.specs.Key.{Key}
@@ -20,12 +17,12 @@ use Rattle.rules.specs.declared.records.Record.{Record}
 use Rattle.rules.specs.Answers.{_▸_, need}
 use Rattle.rules.specs.Box.{Box, Lock, recordsOf, lockOf, rowOf}
 use Rattle.rules.specs.Room.{loadOf, roomFor, Fits}
-use Rattle.rules.specs.Calls.{settle, nonEmpty, zeroStep, stampedAt}
-use Rattle.rules.specs.Rollback.{rollbackKey, rollbackRoom, rollbackSteps, rollbackTo, applyRollback, rollbackAll}
+use Rattle.rules.specs.Calls.{settle, nonEmpty, stampedAt}
+use Rattle.rules.specs.Rollback.{rollbackTermsStep, rollbackKey, rollbackRoom, rollbackSteps, rollbackTo, applyRollback, rollbackAll}
 use Rattle.laws.specs.Adds.{plus, recordLoad, ofLock, ofRow, ifNew, rollbackAdds, rollbackFrees}
-use Rattle.laws.proofs.StepLaws.{then-right, need-true, not-true}
 use Rattle.laws.proofs.BatchLaws.{checkAll, applyAll}
 use Rattle.laws.proofs.RollbackLaws.{rollback-depends, rollback-only, rollbackKeys-all, applyRollbacks-all, rollbacks-load}
+use Rattle.ledger.proofs.SoundEntries.{rollback-floor}
 use Rattle.store.specs.View.{boxOf}
 use Rattle.actions.specs.declared.action.Action.the-variants.{Rollback}
 use Rattle.calls.specs.Passes.{EntryReady, Ready, counted}
@@ -86,14 +83,13 @@ rolls-ready txn start primary {s} {n} {es} b z form c f =
 
 -- ---- the call
 
-pub zero-start : (txn start : ℕ) → zeroStep txn start ≡ Accepted → start ≡ 0 → ⊥
-unfolding zeroStep
-zero-start txn start p = eqb-false start 0 (not-true _ (need-true _ 3 (then-right (need (not (eqb txn 0)) 3) _ p)))
+pub zero-start : (floor txn start : ℕ) → rollbackTermsStep floor txn start ≡ Accepted → start ≡ 0 → ⊥
+zero-start floor txn start p z = omega (arith, rollback-floor floor txn start p)
 
 -- the definition, by the steps of one key
-pub by-keys : (txn start : ℕ) → ByEntries (rollbackKey txn start) (applyRollback start) (zeroStep txn start) (rollbackAll txn start)
+pub by-keys : (floor txn start : ℕ) → ByEntries (rollbackKey txn start) (applyRollback start) (rollbackTermsStep floor txn start) (rollbackAll floor txn start)
 unfolding rollbackAll rollbackSteps rollbackRoom
-by-keys txn start = record {
+by-keys floor txn start = record {
   is = λ ks b.
-      ap₂ (λ (x : Answer) (c : Box). settle (need (nonEmpty ks) 5 ▸ zeroStep txn start ▸ x ▸ need (roomFor c) 11) c b) (rollbackKeys-all txn start b ks) (applyRollbacks-all start ks b);
+      ap₂ (λ (x : Answer) (c : Box). settle (need (nonEmpty ks) 5 ▸ rollbackTermsStep floor txn start ▸ x ▸ need (roomFor c) 11) c b) (rollbackKeys-all txn start b ks) (applyRollbacks-all start ks b);
 }

@@ -17,7 +17,7 @@ pub fn rollback_intent(
     key: &[u8],
 ) -> Changed
     requires { ⌜ Made store (now area) ⌝ }
-    ensures { λ r. ⌜ Settled store (now (area .entry)) (rollback txn start (now (key .entry)) (boxOf store (now (area .entry)))) r (now (area .exit)) ⌝ }
+    ensures { λ r. ⌜ Settled store (now (area .entry)) (rollback (store .floor) txn start (now (key .entry)) (boxOf store (now (area .entry)))) r (now (area .exit)) ⌝ }
 {
     let mut batch = [0u8; 258];
     let n = forms::one_key(&mut batch, key);

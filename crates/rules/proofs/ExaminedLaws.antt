@@ -1,13 +1,13 @@
 -- The number of records that a read reports is what document 02, CR 6, says of it. Assumes nothing.
-use Prim.Native.Nat.{ℕ, suc, _≤_}
+use Prim.Native.Nat.{ℕ, suc, _≤_, _<_}
 use native.Mathlib.Omega.{arith}
 use mathlib.Core.Path.{_≡_, refl, sym, ap, _∙_}
 use mathlib.Core.Bool.{Bool, true, false, _&&_, true≢false, false≢true}
 use mathlib.Core.List.{List, [], _∷_, _++_}
 use mathlib.Core.Option.{Option, none, some}
 use lib.ListN.{length, length-reverse}
-use lib.Dec.{ltb}
-use borrow.Author.Tests.{le-ltb}
+use lib.Dec.{leb, ltb}
+use borrow.Author.Tests.{le-ltb, lt-leb}
 use Rattle.seqs.proofs.Tests.{and-left, and-right}
 use Rattle.forms.specs.Key.{Key, keyForm}
 use Rattle.forms.specs.Row.{Row}
@@ -72,50 +72,63 @@ count-most Accepted n = omega arith
 count-most (No m) n = omega arith
 count-most (Held h) n = omega arith
 
-module _ (k : Key) (m : ℕ) (b : Box) where
-  counted : (n : ℕ) → readSteps k m b ≡ Accepted → walk k (b .defaults) (byMoment k m b) .count ≡ n → examine k m b .count ≡ n
+module _ (floor : ℕ) (k : Key) (m : ℕ) (b : Box) where
+  counted : (n : ℕ) → readSteps floor k m b ≡ Accepted → walk k (b .defaults) (byMoment k m b) .count ≡ n → examine floor k m b .count ≡ n
   unfolding examine countIf
   counted n p e = ap (λ (a : Answer). countIf a (walk k (b .defaults) (byMoment k m b) .count)) p ∙ e
 
   -- the steps refuse a key out of form, and one that is locked
-  refused-form : keyForm k ≡ false → examine k m b .count ≡ 0
+  refused-form : keyForm k ≡ false → examine floor k m b .count ≡ 0
   unfolding examine readSteps need _▸_ countIf
-  refused-form h = ap (λ (t : Bool). countIf (need t 1 ▸ lockLets m (lockOf k (b .lines))) (walk k (b .defaults) (byMoment k m b) .count)) h
+  refused-form h = ap (λ (t : Bool). countIf (need t 1 ▸ need (leb floor m) 14 ▸ lockLets m (lockOf k (b .lines))) (walk k (b .defaults) (byMoment k m b) .count)) h
 
-  refused-lock : (l : Lock) → lockOf k (b .lines) ≡ some l → l .start ≤ m → examine k m b .count ≡ 0
+  refused-lock : (l : Lock) → lockOf k (b .lines) ≡ some l → l .start ≤ m → examine floor k m b .count ≡ 0
   unfolding examine readSteps lockLets need needOwn _▸_ countIf
   refused-lock l e h =
-      ap (λ (o : Option Lock). countIf (need (keyForm k) 1 ▸ lockLets m o) n) e
-      ∙ ap (λ (t : Bool). countIf (need (keyForm k) 1 ▸ needOwn t (holderOf l)) n) (le-ltb m (l .start) h) ∙ held (keyForm k)
+      ap (λ (o : Option Lock). countIf (need (keyForm k) 1 ▸ need (leb floor m) 14 ▸ lockLets m o) n) e
+      ∙ ap (λ (t : Bool). countIf (need (keyForm k) 1 ▸ need (leb floor m) 14 ▸ needOwn t (holderOf l)) n) (le-ltb m (l .start) h) ∙ held (keyForm k) (leb floor m)
     where
       n : ℕ
       n = walk k (b .defaults) (byMoment k m b) .count
 
-      held : (t : Bool) → countIf (need t 1 ▸ needOwn false (holderOf l)) n ≡ 0
-      held true = refl
-      held false = refl
+      held : (t u : Bool) → countIf (need t 1 ▸ need u 14 ▸ needOwn false (holderOf l)) n ≡ 0
+      held true true = refl
+      held true false = refl
+      held false u = refl
 
-  none-examined : byMoment k m b ≡ [] → examine k m b .count ≡ 0
+  refused-floor : m < floor → examine floor k m b .count ≡ 0
+  unfolding examine readSteps need _▸_ countIf
+  refused-floor h = ap (λ (t : Bool). countIf (need (keyForm k) 1 ▸ need t 14 ▸ lockLets m (lockOf k (b .lines))) n) (lt-leb floor m h) ∙ below (keyForm k)
+    where
+      n : ℕ
+      n = walk k (b .defaults) (byMoment k m b) .count
+
+      below : (t : Bool) → countIf (need t 1 ▸ need false 14 ▸ lockLets m (lockOf k (b .lines))) n ≡ 0
+      below true = refl
+      below false = refl
+
+  none-examined : byMoment k m b ≡ [] → examine floor k m b .count ≡ 0
   unfolding examine walk
-  none-examined e = ap (λ (ws : List Record). countIf (readSteps k m b) (walk k (b .defaults) ws .count)) e ∙ (omega (arith, count-most (readSteps k m b) 0))
+  none-examined e = ap (λ (ws : List Record). countIf (readSteps floor k m b) (walk k (b .defaults) ws .count)) e ∙ (omega (arith, count-most (readSteps floor k m b) 0))
 
-  at-most : examine k m b .count ≤ length (atOrBelow m (recordsOf k (b .lines)))
+  at-most : examine floor k m b .count ≤ length (atOrBelow m (recordsOf k (b .lines)))
   unfolding examine newestFirst
   at-most =
       omega (
         arith,
-        count-most (readSteps k m b) (walk k (b .defaults) (byMoment k m b) .count),
+        count-most (readSteps floor k m b) (walk k (b .defaults) (byMoment k m b) .count),
         walk-most k (b .defaults) (byMoment k m b),
         length-reverse (atOrBelow m (recordsOf k (b .lines))),
       )
 
 -- "The definition's own walk gives the number."
-pub count-says : (k : Key) (m : ℕ) (b : Box) → CountSays k m b
-count-says k m b = record {
-  formless = refused-form k m b;
-  locked = refused-lock k m b;
-  none-by = none-examined k m b;
-  decided = λ p over w older e h g. counted k m b (suc (length over)) p (ap (λ (ws : List Record). walk k (b .defaults) ws .count) e ∙ walk-decided k (b .defaults) over w older h g);
-  only = λ p h. counted k m b (length (byMoment k m b)) p (walk-only k (b .defaults) (byMoment k m b) h);
-  most = at-most k m b;
+pub count-says : (floor : ℕ) (k : Key) (m : ℕ) (b : Box) → CountSays floor k m b
+count-says floor k m b = record {
+  formless = refused-form floor k m b;
+  floored = refused-floor floor k m b;
+  locked = refused-lock floor k m b;
+  none-by = none-examined floor k m b;
+  decided = λ p over w older e h g. counted floor k m b (suc (length over)) p (ap (λ (ws : List Record). walk k (b .defaults) ws .count) e ∙ walk-decided k (b .defaults) over w older h g);
+  only = λ p h. counted floor k m b (length (byMoment k m b)) p (walk-only k (b .defaults) (byMoment k m b) h);
+  most = at-most floor k m b;
 }

@@ -7,3 +7,4 @@ pub mod ShownRows
 pub mod ExaminedLaws
 pub mod SickImages
 pub mod BoneCases
+pub mod FloorLaws

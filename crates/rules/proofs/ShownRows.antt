@@ -2,7 +2,7 @@
 -- Assumes nothing.
 use Prim.Native.Nat.{ℕ, _≤_, _<_}
 use native.Mathlib.Omega.{arith}
-use mathlib.Core.Path.{_≡_, refl, sym, ap, subst, _∙_}
+use mathlib.Core.Path.{_≡_, refl, sym, ap, ap₂, subst, _∙_}
 use mathlib.Core.Bool.{Bool, true, false, _&&_, true≢false, false≢true}
 use mathlib.Core.List.{List, [], _∷_, reverse, reverseAux, List·Memᴰ, List·Memᴰ·head, List·Memᴰ·tail, List·Memᴰ·not-nil, List·Memᴰ·cases-cons}
 use mathlib.Core.Logic.{_⊎_, inl, inr, _↔_}
@@ -240,7 +240,7 @@ unfolding allSound Each
 all-sound [] h = refl
 all-sound (w ∷ ws) h = ap (λ (t : Bool). t && allSound ws) (h w (List·Memᴰ·head refl)) ∙ all-sound ws (λ v i. h v (List·Memᴰ·tail i))
 
-module _ (k : Key) (m : ℕ) (b : Box) (a : Asked k m b) where
+module _ (floor : ℕ) (k : Key) (m : ℕ) (b : Box) (a : Asked floor k m b) where
   ws : List Record
   ws = recordsOf k (b .lines)
 
@@ -274,11 +274,11 @@ module _ (k : Key) (m : ℕ) (b : Box) (a : Asked k m b) where
   lets none e = refl
   lets (some l) e = ap (λ (t : Bool). needOwn t (holderOf l)) (lt-ltb m (l .start) (a .free l e))
 
-  steps-pass : readSteps k m b ≡ Accepted
+  steps-pass : readSteps floor k m b ≡ Accepted
   unfolding readSteps need _▸_
-  steps-pass = ap (λ (t : Bool). need t 1 ▸ lockLets m (lockOf k (b .lines))) (a .valid) ∙ lets (lockOf k (b .lines)) refl
+  steps-pass = ap₂ (λ (t u : Bool). need t 1 ▸ need u 14 ▸ lockLets m (lockOf k (b .lines))) (a .valid) (le-leb floor m (a .above)) ∙ lets (lockOf k (b .lines)) refl
 
-  read-is : read k m b ≡ walk k (b .defaults) (newestFirst m ws) .reply
+  read-is : read floor k m b ≡ walk k (b .defaults) (newestFirst m ws) .reply
   unfolding read examine ws ifPassed
   read-is = ap (λ (v : Answer). ifPassed v (walk k (b .defaults) (newestFirst m (recordsOf k (b .lines))) .reply)) steps-pass
 
@@ -297,17 +297,17 @@ module _ (k : Key) (m : ℕ) (b : Box) (a : Asked k m b) where
     newest = λ v i. n .newest v (first-in v i .0) (first-in v i .1);
   }
 
-  out : (r : Row) → Shows k m b r → NewestPut k m b r
+  out : (r : Row) → Shows floor k m b r → NewestPut k m b r
   unfolding ws
   out r e =
       let x = walk-out k (b .defaults) (newestFirst m ws) r sound-first falling-first (sym read-is ∙ e) in
       (x .0, top-newest (x .0) (x .1), x .2)
 
-  into : (r : Row) → NewestPut k m b r → Shows k m b r
+  into : (r : Row) → NewestPut k m b r → Shows floor k m b r
   unfolding ws
   into r x = read-is ∙ walk-in k (b .defaults) (newestFirst m ws) (x .0) r sound-first falling-first (newest-top (x .0) (x .1)) (x .2)
 
 -- "a valid key shows a row exactly when the newest record by that moment, rollbacks passed over, is a Put whose stored row decodes, and shows
 -- that row"
 pub shown-rows : ShownRows
-shown-rows k m b r a = (out k m b a r, into k m b a r)
+shown-rows floor k m b r a = (out floor k m b a r, into floor k m b a r)

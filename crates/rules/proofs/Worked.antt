@@ -1,6 +1,7 @@
 -- Document 01, "Proved table": W1 to W11, one table under one claim. Each row says what a call gives and what the paper says, both as the
 -- numbers that a caller sees, the holder as document 02, CR 9, has it; the claim is that the list of rows which differ is empty, so that a
 -- wrong row is named.
+-- Document 02's rows stand with them: CR 6's counts, CR 7's collections and 14s. W1 to W11 are on the floor 0, where the store begins.
 -- "Table 1, key a = 00 00 00 01 61 (b ends in 62), row 00 00, transaction 7; where unsaid, primary a, time to live 1, row limit 1, no bounds."
 -- Document 02, CR 4: "the smallest row is 00 00 00, and 01's row cases gain that byte, so the byte limits of W9 and W10 become 8 and 7."
 -- Assumes nothing.
@@ -19,20 +20,22 @@ use Rattle.forms.specs.Row.{Row, integers, texts, fields, maskBytes, bone, none
 use Rattle.forms.specs.Batch.{Mutation, ofKind, mutation, above, ascend, ifAscend, batchOf, mutations, keys}
 use Rattle.forms.specs.Ones.{fitted, oneMutation, oneKey}
 use Rattle.rules.specs.declared.answers.Answer.{Answer}
-use Rattle.rules.specs.declared.records.Kind.the-variants.{Delete}
+use Rattle.rules.specs.declared.records.Kind.the-variants.{Put, Delete}
 use Rattle.rules.specs.Answers.{number, holder, _▸_, need, needOwn, Reply, nothing, shown, refused, answerOf, ifPassed}
 use Rattle.rules.specs.Box.{Box, fresh, Lock, Line, Standing, Finished, KeyLine, Default, kindByte, recordsOf, addRecord, lockOf, addLock, rowOf, addRow, before, rowBefore, putIn, insertBy, dropLock, unlessLock, dropRow, unlessRow}
 use Rattle.rules.specs.Sound.{allSound, soundLock}
 use Rattle.rules.specs.Room.{sumOf, loadOf, fits, roomFor}
-use Rattle.rules.specs.Read.{lockLets, keepIf, atOrBelow, newestFirst, showIf, showRow, oneRecord, walk, Examined, readSteps, examine, read}
-use Rattle.rules.specs.Page.{Bounds, Limits, boundsStep, pageArguments, keysOf, keysWithin, onPage, tooLarge, costStep, limitStep, onJudged, pageWalk, unlessPast, readKey, page}
-use Rattle.rules.specs.Written.{keyRowBytes, allBytes, pageBytes, Written, writeIf, written, scanPage}
-use Rattle.rules.specs.Calls.{Done, settle, ofBatch, zeroStep, allBelow, foundIf, stampedAt, recordFor}
+use Rattle.rules.specs.Read.{lockLets, keepIf, those, atOrBelow, newestFirst, showIf, showRow, oneRecord, walk, Examined, readSteps, examine, read}
+use Rattle.rules.specs.Page.{Bounds, Limits, boundsStep, pageArguments, rowPageSteps, locksOf, locksWithin, soundStep, unlessAbove, conflicting, conflictPage, keysOf, keysWithin, onPage, tooLarge, costStep, limitStep, onJudged, pageWalk, unlessPast, readKey, page}
+use Rattle.rules.specs.Written.{keyRowBytes, keyLockBytes, allBytes, pageBytes, Written, writeIf, written, scanPage, scanConflictingIntents}
+use Rattle.rules.specs.Calls.{Done, settle, State, freshState, Ended, settleState, onFloor, ofBatch, zeroStep, allBelow, foundIf, stampedAt, recordFor}
 use Rattle.rules.specs.Prewrite.{PrewriteTerms, prewriteTermsStep, lockStep, prewriteEntry, prewriteEntries, storeIf, lockLine, unlessLocked, applyPrewrite, applyPrewrites, prewriteRoom, prewriteSteps, prewriteAll, prewriteBatch, prewrite}
 use Rattle.rules.specs.declared.terms.CommitTerms.{CommitTerms}
 use Rattle.rules.specs.Commit.{commitTermsStep, withStart, commitLock, commitStep, commitKey, commitKeys, commitTo, applyCommit, applyCommits, commitSteps, commitAll, commitBatch, commit}
-use Rattle.rules.specs.Rollback.{rollbackRecords, rollbackLock, rollbackStep, rollbackKey, rollbackKeys, rollbackTo, applyRollback, applyRollbacks, rollbackRoom, rollbackSteps, rollbackAll, rollbackBatch, rollback}
+use Rattle.rules.specs.Rollback.{rollbackTermsStep, rollbackRecords, rollbackLock, rollbackStep, rollbackKey, rollbackKeys, rollbackTo, applyRollback, applyRollbacks, rollbackRoom, rollbackSteps, rollbackAll, rollbackBatch, rollback}
 use Rattle.rules.specs.OneStep.{Counted, argumentsStep, appliedIf, appliedBy, appliedIn, noneOther, allApplied, someApplied, stepLock, stepEntry, stepEntries, newestStep, replaceIf, applyStep, applySteps, stepNew, stepApplied, stepArguments, thenApplied, countIf, stepDone, stepAll, ofCounted, oneStep}
+use Rattle.rules.specs.Restore.{pointedTo}
+use Rattle.rules.specs.Collect.{noneCounts, keptLines, droppedLines, collected, locksAboveStep, collectSteps, collect}
 
 -- ---- a row of the table, and the rows that differ
 
@@ -114,13 +117,13 @@ ending : ℕ → ℕ → CommitTerms
 ending start commit = record { txn = 7; start = start; commit = commit }
 
 prewriteA : ℕ → Box → Done
-prewriteA start b = prewrite (head start) (put keyA) b
+prewriteA start b = prewrite 0 (head start) (put keyA) b
 
 commitA : ℕ → ℕ → Box → Done
-commitA start at b = commit (ending start at) keyA b
+commitA start at b = commit 0 (ending start at) keyA b
 
 rollbackA : ℕ → Box → Done
-rollbackA start b = rollback 7 start keyA b
+rollbackA start b = rollback 0 7 start keyA b
 
 -- a mutation batch of Puts, as bytes
 batchA : Bytes
@@ -137,7 +140,7 @@ buffer : Bytes
 buffer = replicate 14 238
 
 pageAt12 : ℕ → Box → Written
-pageAt12 bytes b = scanPage noBounds 12 (record { rows = 1; bytes = bytes }) b buffer
+pageAt12 bytes b = scanPage 0 noBounds 12 (record { rows = 1; bytes = bytes }) b buffer
 
 box1 : Box
 box1 = prewriteA 10 fresh .box
@@ -150,27 +153,27 @@ box6 = rollbackA 5 fresh .box
 
 -- "a shown, b locked by the moment"
 box11 : Box
-box11 = prewrite (head 11) (put keyB) box2 .box
+box11 = prewrite 0 (head 11) (put keyB) box2 .box
 
 pub table : List Case
 table =
     record { name = "W1 prewrite Put start 10"; got = sawDone (prewriteA 10 fresh); wanted = plain 0 [] } ∷
-    record { name = "W1 read at 9 nothing"; got = sawRead (examine keyA 9 box1); wanted = plain 0 (0 ∷ 0 ∷ []) } ∷
-    record { name = "W1 read at 10 answer 7 with 7, 10, time to live 1, Put"; got = sawRead (examine keyA 10 box1); wanted = 7 ∷ 7 ∷ 10 ∷ 1 ∷ 1 ∷ 0 ∷ 0 ∷ [] } ∷
+    record { name = "W1 read at 9 nothing"; got = sawRead (examine 0 keyA 9 box1); wanted = plain 0 (0 ∷ 0 ∷ []) } ∷
+    record { name = "W1 read at 10 answer 7 with 7, 10, time to live 1, Put"; got = sawRead (examine 0 keyA 10 box1); wanted = 7 ∷ 7 ∷ 10 ∷ 1 ∷ 1 ∷ 0 ∷ 0 ∷ [] } ∷
     record { name = "W2 then commit at 12"; got = sawDone (commitA 10 12 box1); wanted = plain 0 [] } ∷
-    record { name = "W2 read at 11 nothing"; got = sawRead (examine keyA 11 box2); wanted = plain 0 (0 ∷ 0 ∷ []) } ∷
-    record { name = "W2 read at 12 the row"; got = sawRead (examine keyA 12 box2); wanted = plain 0 (1 ∷ 1 ∷ row) } ∷
+    record { name = "W2 read at 11 nothing"; got = sawRead (examine 0 keyA 11 box2); wanted = plain 0 (0 ∷ 0 ∷ []) } ∷
+    record { name = "W2 read at 12 the row"; got = sawRead (examine 0 keyA 12 box2); wanted = plain 0 (1 ∷ 1 ∷ row) } ∷
     record { name = "W3 then rollback of start 12: 9"; got = sawDone (rollbackA 12 box2); wanted = plain 9 [] } ∷
     record { name = "W4 after W2, rollback of start 10: 8"; got = sawDone (rollbackA 10 box2); wanted = plain 8 [] } ∷
     record { name = "W5 after W2, prewrite start 12: 8"; got = sawDone (prewriteA 12 box2); wanted = plain 8 [] } ∷
     record { name = "W5 start 13: 0"; got = sawDone (prewriteA 13 box2); wanted = plain 0 [] } ∷
     record { name = "W6 fresh, rollback start 5: 0, one line"; got = saw (rollbackA 5 fresh .answer) (length (box6 .lines) ∷ []); wanted = plain 0 (1 ∷ []) } ∷
     record { name = "W6 again: 0, same state"; got = saw (rollbackA 5 box6 .answer) (flat (rollbackA 5 box6 .box)); wanted = plain 0 (flat box6) } ∷
-    record { name = "02, CR 6: then read at 5, a Rollback passed over"; got = sawRead (examine keyA 5 box6); wanted = plain 0 (1 ∷ 0 ∷ []) } ∷
-    record { name = "02, CR 6: after W2 and a rollback of start 14, read at 14"; got = sawRead (examine keyA 14 (rollbackA 14 box2 .box)); wanted = plain 0 (2 ∷ 1 ∷ row) } ∷
+    record { name = "02, CR 6: then read at 5, a Rollback passed over"; got = sawRead (examine 0 keyA 5 box6); wanted = plain 0 (1 ∷ 0 ∷ []) } ∷
+    record { name = "02, CR 6: after W2 and a rollback of start 14, read at 14"; got = sawRead (examine 0 keyA 14 (rollbackA 14 box2 .box)); wanted = plain 0 (2 ∷ 1 ∷ row) } ∷
     record { name = "W7 then prewrite start 5: 8"; got = sawDone (prewriteA 5 box6); wanted = plain 8 [] } ∷
-    record { name = "W8 after W2, one-step (10, 12) of a alone with that row: 0, count 1"; got = sawCount (oneStep (ending 10 12) batchA box2); wanted = plain 0 (1 ∷ []) } ∷
-    record { name = "W8 of a and b: 9"; got = sawCount (oneStep (ending 10 12) batchAB box2); wanted = plain 9 (0 ∷ []) } ∷
+    record { name = "W8 after W2, one-step (10, 12) of a alone with that row: 0, count 1"; got = sawCount (oneStep 0 (ending 10 12) batchA box2); wanted = plain 0 (1 ∷ []) } ∷
+    record { name = "W8 of a and b: 9"; got = sawCount (oneStep 0 (ending 10 12) batchAB box2); wanted = plain 9 (0 ∷ []) } ∷
     record {
       name = "W9 after W2, page at 12, byte limit 8";
       got = sawPage (pageAt12 8 box2);
@@ -203,13 +206,69 @@ roomTable =
     record { name = "no room, and history forbids it: 8 goes before 11"; got = sawDone (prewriteA 12 full); wanted = plain 8 [] } ∷
     []
 
--- no row of either table differs
-both : (differing table ≡ []) × (differing roomTable ≡ [])
-unfolding sawLoad locks full roomTable nameUnless differing saw plain sawDone sawRow sawRead sawCount sawPage flatLine flatLines flatDefaults flat keyA keyB row put head ending prewriteA commitA rollbackA batchA batchAB noBounds buffer pageAt12 box1 box2 box6 box11 table cmp eqBytes ltBytes readOn _>>=_ just only byte stretch piece upTo times section ended whole numberFrom digits numberOf tableOf keyForm integers texts fields maskBytes bone noneSet sparesZero bones rowFrom rowForm ofKind mutation above ascend ifAscend batchOf mutations keys fitted oneMutation oneKey _▸_ need needOwn ifPassed fresh recordsOf addRecord lockOf addLock rowOf addRow before rowBefore putIn insertBy dropLock unlessLock dropRow unlessRow allSound soundLock sumOf loadOf fits roomFor lockLets keepIf atOrBelow newestFirst showIf showRow oneRecord walk readSteps examine read boundsStep pageArguments keysOf keysWithin onPage tooLarge costStep limitStep onJudged pageWalk unlessPast readKey page keyRowBytes allBytes pageBytes writeIf written scanPage settle ofBatch zeroStep allBelow foundIf stampedAt prewriteTermsStep lockStep prewriteEntry prewriteEntries storeIf lockLine unlessLocked applyPrewrite applyPrewrites prewriteRoom prewriteSteps prewriteAll prewriteBatch prewrite commitTermsStep withStart commitLock commitStep commitKey commitKeys commitTo applyCommit applyCommits commitSteps commitAll commitBatch commit rollbackRecords rollbackLock rollbackStep rollbackKey rollbackKeys rollbackTo applyRollback applyRollbacks rollbackRoom rollbackSteps rollbackAll rollbackBatch rollback argumentsStep appliedIf appliedBy appliedIn noneOther allApplied someApplied stepLock stepEntry stepEntries newestStep replaceIf applyStep applySteps stepNew stepApplied stepArguments thenApplied countIf stepDone stepAll ofCounted oneStep
-both = (refl, refl)
+-- ---- document 02, CR 7
+
+sawEnded : Ended → List ℕ
+sawEnded e = saw (e .answer) (e .state .floor ∷ flat (e .state .box))
+
+-- a store on the floor 0, and the store that a collection leaves
+on0 : Box → State
+on0 b = record { box = b; floor = 0 }
+
+after : ℕ → Box → State
+after f b = collect f (on0 b) .state
+
+-- a as Put (1, 2) and Delete (3, 4)
+deleted : Box
+deleted = record { lines = record { key = keyA; line = Finished (recordFor 1 2 Put) } ∷ record { key = keyA; line = Finished (recordFor 3 4 Delete) } ∷ []; defaults = record { key = keyA; start = 1; row = row } ∷ [] }
+
+-- a locked at 4, b at 3
+locked : Box
+locked = prewrite 0 (head 3) (put keyB) (prewriteA 4 fresh .box) .box
+
+short : Key
+short = 0 ∷ 0 ∷ 0 ∷ 1 ∷ []
+
+pub floorTable : List Case
+floorTable =
+    record { name = "a fresh store, collect 0: 0"; got = sawEnded (collect 0 freshState); wanted = plain 0 (0 ∷ flat fresh) } ∷
+    record { name = "after W6, collect 5: no line"; got = sawEnded (collect 5 (on0 box6)); wanted = plain 0 (5 ∷ flat fresh) } ∷
+    record { name = "again: 0, same state"; got = sawEnded (collect 5 (after 5 box6)); wanted = plain 0 (5 ∷ flat fresh) } ∷
+    record { name = "then collect 4: 14"; got = sawEnded (collect 4 (after 5 box6)); wanted = plain 14 (5 ∷ flat fresh) } ∷
+    record { name = "Put, then Delete, collect 5: both go"; got = sawEnded (collect 5 (on0 deleted)); wanted = plain 0 (5 ∷ flat fresh) } ∷
+    record { name = "Put, then Delete, collect 3: the Put stays with its row"; got = sawEnded (collect 3 (on0 deleted)); wanted = plain 0 (3 ∷ flat deleted) } ∷
+    record { name = "after W2, collect 11: the line is above"; got = sawEnded (collect 11 (on0 box2)); wanted = plain 0 (11 ∷ flat box2) } ∷
+    record { name = "after W2, collect 12: the newest Put stays"; got = sawEnded (collect 12 (on0 box2)); wanted = plain 0 (12 ∷ flat box2) } ∷
+    record { name = "after W2 and a rollback of start 14, collect 14: the Rollback goes"; got = sawEnded (collect 14 (on0 (rollbackA 14 box2 .box))); wanted = plain 0 (14 ∷ flat box2) } ∷
+    record { name = "b locked at 3, a at 4, collect 5: 7 with a's holder"; got = sawEnded (collect 5 (on0 locked)); wanted = 7 ∷ 7 ∷ 4 ∷ 1 ∷ 1 ∷ 0 ∷ flat locked } ∷
+    record { name = "collect 3: 7 with b's"; got = sawEnded (collect 3 (on0 locked)); wanted = 7 ∷ 7 ∷ 3 ∷ 1 ∷ 1 ∷ 0 ∷ flat locked } ∷
+    record { name = "floor 5, read at 4: 14"; got = sawRead (examine 5 keyA 4 fresh); wanted = plain 14 (0 ∷ 0 ∷ []) } ∷
+    record { name = "floor 5, read at 4 of a key of 4 bytes: 1"; got = sawRead (examine 5 short 4 fresh); wanted = plain 1 (0 ∷ 0 ∷ []) } ∷
+    record { name = "floor 12, after W2, read at 12 the row"; got = sawRead (examine 12 keyA 12 box2); wanted = plain 0 (1 ∷ 1 ∷ row) } ∷
+    record { name = "floor 1, page at 0, end and resume a: 14"; got = sawPage (scanPage 1 (record { from = none; to = some keyA; resume = some keyA }) 0 (record { rows = 1; bytes = 1 }) fresh []); wanted = plain 14 (0 ∷ []) } ∷
+    record { name = "floor 1, page at 0, resume of 4 bytes: 1"; got = sawPage (scanPage 1 (record { from = none; to = none; resume = some short }) 0 (record { rows = 1; bytes = 1 }) fresh []); wanted = plain 1 (0 ∷ []) } ∷
+    record { name = "a locked at 10, conflicting intents at 3: an empty page"; got = sawPage (scanConflictingIntents noBounds 3 (record { rows = 1; bytes = 1 }) (after 5 box1 .box) (9 ∷ 9 ∷ 9 ∷ [])); wanted = plain 0 (3 ∷ 0 ∷ 0 ∷ 0 ∷ []) } ∷
+    record { name = "floor 5, prewrite start 5: 14"; got = sawDone (prewrite 5 (head 5) (put short) fresh); wanted = plain 14 [] } ∷
+    record { name = "floor 5, prewrite start 6: 0"; got = sawDone (prewrite 5 (head 6) (put keyA) fresh); wanted = plain 0 [] } ∷
+    record { name = "floor 5, prewrite start 5, time to live 0: 3"; got = sawDone (prewrite 5 (record { txn = 7; start = 5; primary = keyA; ttl = 0 }) (put keyA) fresh); wanted = plain 3 [] } ∷
+    record { name = "floor 5, commit (5, 9): 14"; got = sawDone (commit 5 (ending 5 9) keyA fresh); wanted = plain 14 [] } ∷
+    record { name = "floor 5, commit (5, 5): 3"; got = sawDone (commit 5 (ending 5 5) keyA fresh); wanted = plain 3 [] } ∷
+    record { name = "floor 5, rollback start 5 of a key of 4 bytes: 14"; got = sawDone (rollback 5 7 5 short fresh); wanted = plain 14 [] } ∷
+    record { name = "floor 5, one-step (3, 9) of an empty batch: 14"; got = sawCount (oneStep 5 (ending 3 9) (0 ∷ 0 ∷ []) fresh); wanted = plain 14 (0 ∷ []) } ∷
+    record { name = "floor 5, one-step (5, 9) of a key of 4 bytes: 14"; got = sawCount (oneStep 5 (ending 5 9) (oneMutation (put short)) fresh); wanted = plain 14 (0 ∷ []) } ∷
+    record { name = "floor 10, W8 again: 14"; got = sawCount (oneStep 10 (ending 10 12) batchA (after 10 box2 .box)); wanted = plain 14 (0 ∷ []) } ∷
+    []
+
+-- no row of the tables differs
+all : (differing table ≡ []) × (differing roomTable ≡ []) × (differing floorTable ≡ [])
+unfolding sawEnded on0 after deleted locked short floorTable freshState settleState noneCounts keptLines droppedLines pointedTo those collected locksAboveStep collectSteps collect rowPageSteps locksOf locksWithin soundStep unlessAbove conflicting conflictPage keyLockBytes scanConflictingIntents rollbackTermsStep sawLoad locks full roomTable nameUnless differing saw plain sawDone sawRow sawRead sawCount sawPage flatLine flatLines flatDefaults flat keyA keyB row put head ending prewriteA commitA rollbackA batchA batchAB noBounds buffer pageAt12 box1 box2 box6 box11 table cmp eqBytes ltBytes readOn _>>=_ just only byte stretch piece upTo times section ended whole numberFrom digits numberOf tableOf keyForm integers texts fields maskBytes bone noneSet sparesZero bones rowFrom rowForm ofKind mutation above ascend ifAscend batchOf mutations keys fitted oneMutation oneKey _▸_ need needOwn ifPassed fresh recordsOf addRecord lockOf addLock rowOf addRow before rowBefore putIn insertBy dropLock unlessLock dropRow unlessRow allSound soundLock sumOf loadOf fits roomFor lockLets keepIf atOrBelow newestFirst showIf showRow oneRecord walk readSteps examine read boundsStep pageArguments keysOf keysWithin onPage tooLarge costStep limitStep onJudged pageWalk unlessPast readKey page keyRowBytes allBytes pageBytes writeIf written scanPage settle ofBatch zeroStep allBelow foundIf stampedAt prewriteTermsStep lockStep prewriteEntry prewriteEntries storeIf lockLine unlessLocked applyPrewrite applyPrewrites prewriteRoom prewriteSteps prewriteAll prewriteBatch prewrite commitTermsStep withStart commitLock commitStep commitKey commitKeys commitTo applyCommit applyCommits commitSteps commitAll commitBatch commit rollbackRecords rollbackLock rollbackStep rollbackKey rollbackKeys rollbackTo applyRollback applyRollbacks rollbackRoom rollbackSteps rollbackAll rollbackBatch rollback argumentsStep appliedIf appliedBy appliedIn noneOther allApplied someApplied stepLock stepEntry stepEntries newestStep replaceIf applyStep applySteps stepNew stepApplied stepArguments thenApplied countIf stepDone stepAll ofCounted oneStep
+all = (refl, refl, refl)
 
 pub worked : differing table ≡ []
-worked = both .0
+worked = all .0
 
 pub room-worked : differing roomTable ≡ []
-room-worked = both .1
+room-worked = all .1
+
+pub floor-worked : differing floorTable ≡ []
+floor-worked = all .2

@@ -15,7 +15,7 @@ use Rattle.rules.specs.declared.records.Kind.{Kind}
 use Rattle.rules.specs.declared.records.Kind.the-variants.{Put, Delete, Rollback}
 use Rattle.rules.specs.declared.records.Record.{Record}
 use Rattle.rules.specs.Answers.{_▸_, need}
-use Rattle.rules.specs.Box.{Box, Lock}
+use Rattle.rules.specs.Box.{Box, Lock, fresh}
 
 -- a call's answer, and the box after it
 pub record Done : Type 0 where
@@ -27,6 +27,30 @@ unfoldable pub settle : Answer → Box → Box → Done
 settle Accepted new old = record { answer = Accepted; box = new }
 settle (No n) new old = record { answer = No n; box = old }
 settle (Held h) new old = record { answer = Held h; box = old }
+
+-- document 02, CR 7: "The floor is part of the store, begins at 0": what a store holds, and its floor beside it
+pub record State : Type 0 where
+  pub box : Box
+  pub floor : ℕ
+
+-- "a fresh store has none"; "begins at 0"
+unfoldable pub freshState : State
+freshState = record { box = fresh; floor = 0 }
+
+-- a call's answer, and the state after it
+pub record Ended : Type 0 where
+  pub answer : Answer
+  pub state : State
+
+-- "A refusal changes nothing in store or buffers", of a call that can change the floor too
+unfoldable pub settleState : Answer → State → State → Ended
+settleState Accepted new old = record { answer = Accepted; state = new }
+settleState (No n) new old = record { answer = No n; state = old }
+settleState (Held h) new old = record { answer = Held h; state = old }
+
+-- a call that leaves the floor as it is
+abbrev pub onFloor : ℕ → Done → Ended
+onFloor floor d = record { answer = d .answer; state = record { box = d .box; floor = floor } }
 
 -- a batch out of form is 6; else what the call does with its entries
 unfoldable pub ofBatch : {A : Type 0} → Option (List A) → (List A → Box → Done) → Box → Done

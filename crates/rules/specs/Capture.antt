@@ -1,6 +1,7 @@
 -- Document 02, CR 1: "From a store and a table number, write that table's image: defaults, locks, writes, each ascending by key, then stamp.
 -- Restoring what was written gives that table's part of the store, and two stores holding only that table have equal bytes exactly when they
 -- hold the same entries. Refusals: a zero table number 3, then a short buffer 12." The entries' forms are those that restore reads (Image).
+-- CR 7: the floor "stands in the image, 8 bytes, after the table number"; "CR 1's equal bytes now need equal floors too".
 -- Assumes nothing.
 use Prim.Native.Nat.{ℕ, _^_, _<_}
 use mathlib.Core.Bool.{Bool, true, false, not}
@@ -43,9 +44,9 @@ unfoldable pub writesOf : List KeyLine → List KeyRecord
 writesOf [] = []
 writesOf (e ∷ es) = addWrite (e .key) (e .line) (writesOf es)
 
--- "defaults, locks, writes, each ascending by key, then stamp": as a box stands in order, so do they
-unfoldable pub entriesOf : ℕ → Box → Image
-entriesOf t b = record { table = t; defaults = partOf t b .defaults; locks = locksOf (partOf t b .lines); writes = writesOf (partOf t b .lines) }
+-- "defaults, locks, writes, each ascending by key, then stamp": as a box stands in order, so do they. The image of any table has the store's floor.
+unfoldable pub entriesOf : ℕ → ℕ → Box → Image
+entriesOf floor t b = record { table = t; floor = floor; defaults = partOf t b .defaults; locks = locksOf (partOf t b .lines); writes = writesOf (partOf t b .lines) }
 
 -- ---- its bytes
 
@@ -64,14 +65,15 @@ writeBytes x = pieceBytes (x .key) ++ recordBytes (x .write)
 unfoldable pub sectionBytes : {A : Type 0} → (A → Bytes) → List A → Bytes
 sectionBytes f xs = digits 2 (length xs) ++ allBytes f xs
 
--- "Image: 4-byte table number; 2-byte count of defaults ..; 2-byte count of locks ..; 2-byte count of writes .."
+-- "Image: 4-byte table number; 2-byte count of defaults ..; 2-byte count of locks ..; 2-byte count of writes .."; the floor, "8 bytes, after the
+-- table number"
 unfoldable pub imageBytes : Image → Bytes
 imageBytes i =
-    digits 4 (i .table) ++ (sectionBytes defaultBytes (i .defaults) ++ (sectionBytes keyLockBytes (i .locks) ++ sectionBytes writeBytes (i .writes)))
+    digits 4 (i .table) ++ (digits 8 (i .floor) ++ (sectionBytes defaultBytes (i .defaults) ++ (sectionBytes keyLockBytes (i .locks) ++ sectionBytes writeBytes (i .writes))))
 
 -- "From a store and a table number, write that table's image"
-unfoldable pub imageOf : ℕ → Box → Bytes
-imageOf t b = imageBytes (entriesOf t b)
+unfoldable pub imageOf : ℕ → ℕ → Box → Bytes
+imageOf floor t b = imageBytes (entriesOf floor t b)
 
 -- ---- the call
 
@@ -80,8 +82,8 @@ captureIf true bytes buffer = writeIf (leb (length bytes) (length buffer)) bytes
 captureIf false bytes buffer = record { answer = No 3; count = 0; buffer = buffer }
 
 -- "a zero table number 3, then a short buffer 12"
-unfoldable pub captureImage : ℕ → Box → Bytes → Written
-captureImage t b buffer = captureIf (not (eqb t 0)) (imageOf t b) buffer
+unfoldable pub captureImage : ℕ → ℕ → Box → Bytes → Written
+captureImage floor t b buffer = captureIf (not (eqb t 0)) (imageOf floor t b) buffer
 
 -- ---- what its numbers need to fit their bytes
 
@@ -110,6 +112,7 @@ pub record Few {A : Type 0} (P : A → Type 0) (xs : List A) : Type 0 where
 
 pub record ImageWords (i : Image) : Type 0 where
   pub table : i .table < 256 ^ 4
+  pub floor : Word (i .floor)
   pub defaults : Few (λ (d : Default). Word (d .start)) (i .defaults)
   pub locks : Few (λ (x : KeyLock). LockWords (x .lock)) (i .locks)
   pub writes : Few (λ (x : KeyRecord). RecordWords (x .write)) (i .writes)

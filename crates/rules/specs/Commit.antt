@@ -2,6 +2,7 @@
 -- 8; equal commit, accepted and unchanged, but 9 if this start's lock stands or a Put's default is missing. None: no lock, 8; another's lock,
 -- 7; newest stamp at or above commit, 8; Put whose default is missing or does not decode, Delete with a default, or kind Rollback, 9. Then a
 -- record of the lock's start and kind, stamped with the commit, replaces the lock; a Put's row stays."
+-- Document 02, CR 7: "14, below the floor, .. for a start at or below F in any changing call (after the last 3, ..)".
 -- Assumes nothing.
 use Prim.Native.Nat.{ℕ}
 use mathlib.Core.Bool.{Bool, true, false, _&&_, not}
@@ -25,11 +26,12 @@ use Rattle.rules.specs.Box.{Box, Lock, Finished, holderOf, recordsOf, lo
 use Rattle.rules.specs.Sound.{allSound}
 use Rattle.rules.specs.Calls.{Done, settle, ofBatch, nonEmpty, owns, zeroStep, allBelow, lockAt, kindReady, foundIf, recordFor}
 
--- "3": "zero transaction, start ..; commit not above start"
-unfoldable pub commitTermsStep : CommitTerms → Answer
-commitTermsStep h =
+-- "3": "zero transaction, start ..; commit not above start"; "after the last 3" 14, of a commit and of a one-step batch
+unfoldable pub commitTermsStep : ℕ → CommitTerms → Answer
+commitTermsStep floor h =
     zeroStep (h .txn) (h .start) ▸
-    need (ltb (h .start) (h .commit)) 3
+    need (ltb (h .start) (h .commit)) 3 ▸
+    need (ltb floor (h .start)) 14
 
 -- "the lowest-stamped record with this start, if any"
 unfoldable pub withStart : ℕ → List Record → Option Record
@@ -88,18 +90,18 @@ applyCommits h [] b = b
 applyCommits h (k ∷ ks) b = applyCommits h ks (applyCommit h k b)
 
 -- the steps after 6 and 5; no 11: a line replaces a line, and live bytes fall by the primary
-unfoldable pub commitSteps : CommitTerms → List Key → Box → Answer
-commitSteps h ks b =
-    commitTermsStep h ▸
+unfoldable pub commitSteps : ℕ → CommitTerms → List Key → Box → Answer
+commitSteps floor h ks b =
+    commitTermsStep floor h ▸
     commitKeys h b ks
 
-unfoldable pub commitAll : CommitTerms → List Key → Box → Done
-commitAll h ks b = settle (need (nonEmpty ks) 5 ▸ commitSteps h ks b) (applyCommits h ks b) b
+unfoldable pub commitAll : ℕ → CommitTerms → List Key → Box → Done
+commitAll floor h ks b = settle (need (nonEmpty ks) 5 ▸ commitSteps floor h ks b) (applyCommits h ks b) b
 
 -- "6, 5; 3; per key: .."
-unfoldable pub commitBatch : CommitTerms → Bytes → Box → Done
-commitBatch h s b = ofBatch (keys s) (commitAll h) b
+unfoldable pub commitBatch : ℕ → CommitTerms → Bytes → Box → Done
+commitBatch floor h s b = ofBatch (keys s) (commitAll floor h) b
 
 -- document 02, CR 10: "the single form disappears as a step of its own and is a batch of one"
-unfoldable pub commit : CommitTerms → Key → Box → Done
-commit h k b = commitBatch h (oneKey k) b
+unfoldable pub commit : ℕ → CommitTerms → Key → Box → Done
+commit floor h k b = commitBatch floor h (oneKey k) b

@@ -1,6 +1,6 @@
 -- Document 02, CR 4: "A converter adds a zero count to each row of an old image; an image with an unconverted row is refused. Refusals: .. in the
 -- converter a fault by 01's image checks or a 255-byte row is 13, then a short buffer 12." An old image is document 01's, with document 01's rows;
--- neither CR 3's checks nor the room are asked of it.
+-- neither CR 3's checks nor the room are asked of it. CR 7: "CR 4's converter writes floor 0"; an old image has none.
 -- Assumes nothing.
 use Prim.Native.Nat.{ℕ}
 use mathlib.Core.Bool.{Bool, true, false, _&&_, not}
@@ -15,7 +15,7 @@ use Rattle.forms.specs.Row.{Row, oldRowForm}
 use Rattle.rules.specs.declared.answers.Answer.the-variants.{No}
 use Rattle.rules.specs.Box.{Default}
 use Rattle.rules.specs.Written.{Written, writeIf}
-use Rattle.rules.specs.Image.{Image, defaultFrom, image}
+use Rattle.rules.specs.Image.{Image, defaultFrom, oldImage}
 use Rattle.rules.specs.Restore.{allGood, goodImageBy}
 use Rattle.rules.specs.Capture.{defaultBytes, sectionBytes}
 
@@ -25,7 +25,7 @@ use Rattle.rules.specs.Capture.{defaultBytes, sectionBytes}
 abbrev pub withCount : Default → Default
 withCount d = record { key = d .key; start = d .start; row = d .row ++ (0 ∷ []) }
 
--- the table number and the defaults of an image; what follows them are its locks and its writes
+-- the table number and the defaults of an old image; what follows them are its locks and its writes
 pub record Front : Type 0 where
   pub table : ℕ
   pub defaults : List Default
@@ -36,17 +36,18 @@ frontFrom = do
   ds ← section (numberOf 2) defaultFrom
   just (record { table = t; defaults = ds })
 
--- the same table number and the same defaults in the order given, each row with its count; and then the bytes of locks and writes as they stand
+-- the same table number, "floor 0" in its 8 bytes, and the same defaults in the order given, each row with its count; and then the bytes of locks
+-- and writes as they stand
 unfoldable pub frontBytes : Option (Read Front) → Bytes
 frontBytes none = []
-frontBytes (some q) = digits 4 (q .got .table) ++ (sectionBytes defaultBytes (map withCount (q .got .defaults)) ++ q .rest)
+frontBytes (some q) = digits 4 (q .got .table) ++ (digits 8 0 ++ (sectionBytes defaultBytes (map withCount (q .got .defaults)) ++ q .rest))
 
 unfoldable pub convertedBytes : Bytes → Bytes
 convertedBytes s = frontBytes (frontFrom s)
 
 -- the entries that they hold
 unfoldable pub converted : Image → Image
-converted i = record { table = i .table; defaults = map withCount (i .defaults); locks = i .locks; writes = i .writes }
+converted i = record { table = i .table; floor = 0; defaults = map withCount (i .defaults); locks = i .locks; writes = i .writes }
 
 -- ---- the call
 
@@ -68,4 +69,4 @@ convertIf false bytes buffer = record { answer = No 13; count = 0; buffer = buff
 
 -- "a fault by 01's image checks or a 255-byte row is 13, then a short buffer 12"
 unfoldable pub convertImage : Bytes → Bytes → Written
-convertImage s buffer = convertIf (convertible (image s)) (convertedBytes s) buffer
+convertImage s buffer = convertIf (convertible (oldImage s)) (convertedBytes s) buffer

@@ -1,6 +1,7 @@
 -- Document 01: "Image: 4-byte table number; 2-byte count of defaults (key length, key, 8-byte start, row length, row); 2-byte count of locks
 -- (key length, key, lock); 2-byte count of writes (key length, key, 8-byte write stamp, start, commit, kind byte). Lock: 8-byte transaction,
 -- primary length, primary, 8-byte start, 8-byte time to live, kind byte. Kinds: 1 Put, 2 Delete, 3 Rollback."
+-- Document 02, CR 7: "The floor .. stands in the image, 8 bytes, after the table number".
 -- Assumes nothing.
 use Prim.Native.Nat.{ℕ}
 use mathlib.Core.Bool.{Bool, true, false}
@@ -23,6 +24,7 @@ pub record KeyRecord : Type 0 where
 
 pub record Image : Type 0 where
   pub table : ℕ
+  pub floor : ℕ
   pub defaults : List Default
   pub locks : List KeyLock
   pub writes : List KeyRecord
@@ -74,14 +76,29 @@ writeFrom = do
   n ← kindFrom
   just (record { key = k; write = record { stamp = w; start = s; commit = c; kind = n } })
 
--- "4-byte table number; 2-byte count of defaults ..; 2-byte count of locks ..; 2-byte count of writes"
-unfoldable pub imageFrom : Reader Image
-imageFrom = do
-  t ← numberOf 4
+-- "2-byte count of defaults ..; 2-byte count of locks ..; 2-byte count of writes", after what stands before them
+unfoldable pub sectionsFrom : ℕ → ℕ → Reader Image
+sectionsFrom t f = do
   ds ← section (numberOf 2) defaultFrom
   ls ← section (numberOf 2) keyLockFrom
   ws ← section (numberOf 2) writeFrom
-  just (record { table = t; defaults = ds; locks = ls; writes = ws })
+  just (record { table = t; floor = f; defaults = ds; locks = ls; writes = ws })
+
+-- "4-byte table number"; "The floor .., 8 bytes, after the table number"
+unfoldable pub imageFrom : Reader Image
+imageFrom = do
+  t ← numberOf 4
+  f ← numberOf 8
+  sectionsFrom t f
+
+-- 01's own image, without a floor: CR 4's converter reads it
+unfoldable pub oldImageFrom : Reader Image
+oldImageFrom = do
+  t ← numberOf 4
+  sectionsFrom t 0
 
 unfoldable pub image : Bytes → Option Image
 image s = whole imageFrom s
+
+unfoldable pub oldImage : Bytes → Option Image
+oldImage s = whole oldImageFrom s

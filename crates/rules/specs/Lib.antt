@@ -17,7 +17,8 @@ pub mod OneStep
 pub mod Image
 pub mod Restore
 pub mod Figures
-pub mod Call
 pub mod Capture
 pub mod Convert
 pub mod Bones
+pub mod Collect
+pub mod Call

@@ -3,6 +3,7 @@
 -- entry, another's lock 7, own lock of other kind 9, unsound record 9, record at or above start 8; then per entry newest at or above commit 8;
 -- 11. Each entry gets a record of this start and its kind, stamped with the commit; a Put's row is stored and replaces one already stored at
 -- this start; an own lock goes. The count is the number of entries."
+-- Document 02, CR 7: "14, below the floor, .. (after the last 3, .. and before any entry is judged)"; so before "empty, accepted" too.
 -- Assumes nothing.
 use Prim.Native.Nat.{ℕ}
 use mathlib.Core.Bool.{Bool, true, false, _&&_, _||_, not}
@@ -132,10 +133,10 @@ stepApplied false h ms b =
     (applySteps h ms b)
     b
 
--- "3; each entry in turn 1, 2; .. same start but other kind or row, 9"
-unfoldable pub stepArguments : CommitTerms → List Mutation → Box → Answer
-stepArguments h ms b =
-    commitTermsStep h ▸
+-- "3", 14; "each entry in turn 1, 2; .. same start but other kind or row, 9"
+unfoldable pub stepArguments : ℕ → CommitTerms → List Mutation → Box → Answer
+stepArguments floor h ms b =
+    commitTermsStep floor h ▸
     argumentsStep ms ▸
     need (noneOther h b ms) 9
 
@@ -149,16 +150,16 @@ pub record Counted : Type 0 where
   pub done : Done
   pub count : ℕ
 
-unfoldable pub stepDone : CommitTerms → List Mutation → Box → Done
-stepDone h ms b = thenApplied (stepArguments h ms b) b (stepApplied (allApplied h b ms) h ms b)
+unfoldable pub stepDone : ℕ → CommitTerms → List Mutation → Box → Done
+stepDone floor h ms b = thenApplied (stepArguments floor h ms b) b (stepApplied (allApplied h b ms) h ms b)
 
-unfoldable pub stepAll : CommitTerms → List Mutation → Box → Counted
-stepAll h ms b = record { done = stepDone h ms b; count = countIf (stepDone h ms b .answer) (length ms) }
+unfoldable pub stepAll : ℕ → CommitTerms → List Mutation → Box → Counted
+stepAll floor h ms b = record { done = stepDone floor h ms b; count = countIf (stepDone floor h ms b .answer) (length ms) }
 
 unfoldable pub ofCounted : Option (List Mutation) → (List Mutation → Box → Counted) → Box → Counted
 ofCounted none call b = record { done = record { answer = No 6; box = b }; count = 0 }
 ofCounted (some ms) call b = call ms b
 
 -- "6; 3; .."
-unfoldable pub oneStep : CommitTerms → Bytes → Box → Counted
-oneStep h s b = ofCounted (mutations s) (stepAll h) b
+unfoldable pub oneStep : ℕ → CommitTerms → Bytes → Box → Counted
+oneStep floor h s b = ofCounted (mutations s) (stepAll floor h) b

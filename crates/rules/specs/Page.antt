@@ -1,4 +1,5 @@
 -- Document 01, "Page", "Intent page" and "Conflicting intents": which keys, which rows or locks, and whether there are more.
+-- Document 02, CR 7: "14, below the floor, for a read or row page moment below F (.. in a page after the resume key's 1 ..)".
 -- Assumes nothing.
 use Prim.Native.Nat.{ℕ, suc, _+_}
 use mathlib.Core.Bool.{Bool, true, false, _&&_, not}
@@ -48,6 +49,12 @@ pageArguments limit bytes a =
     need (not (eqb limit 0)) 3 ▸
     need (not (eqb bytes 0)) 3 ▸
     boundsStep a
+
+-- "in a page after the resume key's 1", and so before "resume at or past end"
+unfoldable pub rowPageSteps : ℕ → ℕ → ℕ → ℕ → Bounds → Answer
+rowPageSteps floor moment limit bytes a =
+    pageArguments limit bytes a ▸
+    need (leb floor moment) 14
 
 -- "Page's argument checks without byte limit"
 unfoldable pub intentArguments : ℕ → Bounds → Answer
@@ -176,18 +183,18 @@ withKey k nothing = nothing
 withKey k (shown r) = shown (record { key = k; row = r })
 withKey k (refused v) = refused v
 
--- "Each key is read first"
+-- "Each key is read first"; the floor was asked for the whole page, and no key is below it then
 unfoldable pub readKey : ℕ → Box → Key → Reply KeyRow
-readKey moment b k = withKey k (read k moment b)
+readKey moment b k = withKey k (read 0 k moment b)
 
 -- "Cost is key plus row length"
 abbrev pub rowCost : KeyRow → ℕ
 rowCost x = length (x .key) + length (x .row)
 
-unfoldable pub page : Bounds → ℕ → Limits → Box → Reply (Page KeyRow)
-page a moment m b =
+unfoldable pub page : ℕ → Bounds → ℕ → Limits → Box → Reply (Page KeyRow)
+page floor a moment m b =
     let walked = pageWalk (readKey moment b) rowCost m (keysWithin a (keysOf (b .lines))) 0 0 in
-    ifPassed (pageArguments (m .rows) (m .bytes) a)
+    ifPassed (rowPageSteps floor moment (m .rows) (m .bytes) a)
     (unlessPast (pastEnd (a .resume) (a .to)) walked)
 
 -- ---- "Intent page": "keys of locks only, none read; per lock the lock limit, then sound (9)"

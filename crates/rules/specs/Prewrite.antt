@@ -4,12 +4,14 @@
 -- 9. Then 11. Each entry not yet locked gets a lock with the call's fields and the entry's kind, and a Put's row is stored at this start. The
 -- primary need not be an entry. Single forms, here and below, take the steps without 6 and 5; the kind is Put or Delete, and a Delete's row
 -- argument is ignored."
+-- Document 02, CR 7: "14, below the floor, .. for a start at or below F in any changing call (after the last 3, in a prewrite after the time to
+-- live, and before any entry is judged)". The floor is a number beside the box, the store's.
 -- Assumes nothing.
 use Prim.Native.Nat.{ℕ}
 use mathlib.Core.Bool.{Bool, true, false, _&&_, not}
 use mathlib.Core.List.{List, [], _∷_}
 use mathlib.Core.Option.{Option, none, some}
-use lib.Dec.{eqb}
+use lib.Dec.{ltb, eqb}
 use Rattle.forms.specs.Bytes.{Bytes, eqBytes}
 use Rattle.forms.specs.Key.{Key, keyForm}
 use Rattle.forms.specs.Row.{Row}
@@ -32,13 +34,14 @@ pub record PrewriteTerms : Type 0 where
   pub primary : Key
   pub ttl : ℕ
 
--- "transaction, start 3; primary 1; time to live 3"
-unfoldable pub prewriteTermsStep : PrewriteTerms → Answer
-prewriteTermsStep h =
+-- "transaction, start 3; primary 1; time to live 3"; "in a prewrite after the time to live" 14
+unfoldable pub prewriteTermsStep : ℕ → PrewriteTerms → Answer
+prewriteTermsStep floor h =
     need (not (eqb (h .txn) 0)) 3 ▸
     need (not (eqb (h .start) 0)) 3 ▸
     need (keyForm (h .primary)) 1 ▸
-    need (not (eqb (h .ttl) 0)) 3
+    need (not (eqb (h .ttl) 0)) 3 ▸
+    need (ltb floor (h .start)) 14
 
 -- own lock with no other field
 abbrev pub sameLock : PrewriteTerms → Kind → Lock → Bool
@@ -98,19 +101,19 @@ unfoldable pub prewriteRoom : PrewriteTerms → List Mutation → Box → Answer
 prewriteRoom h ms b = need (roomFor (applyPrewrites h ms b)) 11
 
 -- the steps after 6 and 5
-unfoldable pub prewriteSteps : PrewriteTerms → List Mutation → Box → Answer
-prewriteSteps h ms b =
-    prewriteTermsStep h ▸
+unfoldable pub prewriteSteps : ℕ → PrewriteTerms → List Mutation → Box → Answer
+prewriteSteps floor h ms b =
+    prewriteTermsStep floor h ▸
     prewriteEntries h b ms ▸
     prewriteRoom h ms b
 
-unfoldable pub prewriteAll : PrewriteTerms → List Mutation → Box → Done
-prewriteAll h ms b = settle (need (nonEmpty ms) 5 ▸ prewriteSteps h ms b) (applyPrewrites h ms b) b
+unfoldable pub prewriteAll : ℕ → PrewriteTerms → List Mutation → Box → Done
+prewriteAll floor h ms b = settle (need (nonEmpty ms) 5 ▸ prewriteSteps floor h ms b) (applyPrewrites h ms b) b
 
 -- "batch 6, 5; .."
-unfoldable pub prewriteBatch : PrewriteTerms → Bytes → Box → Done
-prewriteBatch h s b = ofBatch (mutations s) (prewriteAll h) b
+unfoldable pub prewriteBatch : ℕ → PrewriteTerms → Bytes → Box → Done
+prewriteBatch floor h s b = ofBatch (mutations s) (prewriteAll floor h) b
 
 -- document 02, CR 10: "the single form disappears as a step of its own and is a batch of one"
-unfoldable pub prewrite : PrewriteTerms → Mutation → Box → Done
-prewrite h m b = prewriteBatch h (oneMutation m) b
+unfoldable pub prewrite : ℕ → PrewriteTerms → Mutation → Box → Done
+prewrite floor h m b = prewriteBatch floor h (oneMutation m) b

@@ -2,6 +2,7 @@
 -- checked (9): Rollback, go on; Delete, nothing; Put, its default must exist and decode (9), shown."
 -- Document 02, CR 6: "Each read also reports the number of write records it examined, the refusing one included. Other refusals still count 0,
 -- as does a key .. with no record by the moment. .. The definition's own walk gives the number."
+-- CR 7: "14, below the floor, for a read .. moment below F (in a read after 1 ..)". The floor is a number beside the box, the store's.
 -- Assumes nothing.
 use Prim.Native.Nat.{ℕ, suc}
 use mathlib.Core.Bool.{Bool, true, false}
@@ -67,16 +68,17 @@ walk k ds [] = record { reply = nothing; count = 0 }
 walk k ds (w ∷ ws) = oneRecord (soundRecord w) (w .kind) (showRow (rowOf k (w .start) ds)) (walk k ds ws)
 
 -- the steps before the walk; "Other refusals still count 0"
-unfoldable pub readSteps : Key → ℕ → Box → Answer
-readSteps k m b =
+unfoldable pub readSteps : ℕ → Key → ℕ → Box → Answer
+readSteps floor k m b =
     need (keyForm k) 1 ▸
+    need (leb floor m) 14 ▸
     lockLets m (lockOf k (b .lines))
 
-unfoldable pub examine : Key → ℕ → Box → Examined
-examine k m b =
+unfoldable pub examine : ℕ → Key → ℕ → Box → Examined
+examine floor k m b =
     let walked = walk k (b .defaults) (newestFirst m (recordsOf k (b .lines))) in
-    record { reply = ifPassed (readSteps k m b) (walked .reply); count = countIf (readSteps k m b) (walked .count) }
+    record { reply = ifPassed (readSteps floor k m b) (walked .reply); count = countIf (readSteps floor k m b) (walked .count) }
 
 -- the reply alone, as pages and demand 2 speak of it
-unfoldable pub read : Key → ℕ → Box → Reply Row
-read k m b = examine k m b .reply
+unfoldable pub read : ℕ → Key → ℕ → Box → Reply Row
+read floor k m b = examine floor k m b .reply

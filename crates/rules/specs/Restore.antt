@@ -3,12 +3,13 @@
 -- Put has its default. Any fault 13, then 11."
 -- Document 02, CR 3: "Restore shall also refuse: a Put lock without its default; a default to which no Put lock or Put record of its key and
 -- start points; two lines of one key and start. .. all are 13, after 01's image checks and before 11."
+-- CR 7: "a restored store taking the image's" floor; "a collection with a lock at or below F ..; an image with such a lock is 13".
 -- Assumes nothing.
 use Prim.Native.Nat.{ℕ}
 use mathlib.Core.Bool.{Bool, true, false, _&&_, _||_, not}
 use mathlib.Core.List.{List, [], _∷_, _++_, map}
 use mathlib.Core.Option.{Option, none, some}
-use lib.Dec.{eqb}
+use lib.Dec.{ltb, eqb}
 use Rattle.forms.specs.Bytes.{Bytes, eqBytes}
 use Rattle.forms.specs.Key.{Key, keyForm, tableOf}
 use Rattle.forms.specs.Row.{Row, rowForm}
@@ -22,7 +23,7 @@ use Rattle.rules.specs.Box.{Box, Standing, Finished, KeyLine, Default, s
 use Rattle.rules.specs.Sound.{soundRecord, soundLock}
 use Rattle.rules.specs.Room.{roomFor}
 use Rattle.rules.specs.Page.{KeyLock}
-use Rattle.rules.specs.Calls.{Done, settle}
+use Rattle.rules.specs.Calls.{State, Ended, settleState}
 use Rattle.rules.specs.Image.{Image, KeyRecord, image}
 
 -- "key of this table"
@@ -127,6 +128,16 @@ healthyImage i =
     allGood (pointedTo (imageLines i)) (i .defaults) &&
     noSecond likeLine (imageLines i)
 
+-- ---- document 02, CR 7
+
+-- a lock starts above the floor
+abbrev pub lockAbove : ℕ → KeyLock → Bool
+lockAbove floor x = ltb floor (x .lock .start)
+
+-- "an image with such a lock is 13", a lock at or below the image's own floor: none is
+unfoldable pub flooredImage : Image → Bool
+flooredImage i = allGood (lockAbove (i .floor)) (i .locks)
+
 -- ---- the box
 
 -- the image's entries, each at its place
@@ -150,12 +161,16 @@ unfoldable pub restoreSteps : Image → Answer
 restoreSteps i =
     need (goodImage i) 13 ▸
     need (healthyImage i) 13 ▸
+    need (flooredImage i) 13 ▸
     need (roomFor (boxOf i)) 11
 
--- "replaces the whole store"
-unfoldable pub restoreTo : Option Image → Box → Done
-restoreTo none b = record { answer = No 13; box = b }
-restoreTo (some i) b = settle (restoreSteps i) (boxOf i) b
+-- "replaces the whole store", its floor too: "a restored store taking the image's"
+unfoldable pub stateOf : Image → State
+stateOf i = record { box = boxOf i; floor = i .floor }
 
-unfoldable pub restore : Bytes → Box → Done
-restore s b = restoreTo (image s) b
+unfoldable pub restoreTo : Option Image → State → Ended
+restoreTo none st = record { answer = No 13; state = st }
+restoreTo (some i) st = settleState (restoreSteps i) (stateOf i) st
+
+unfoldable pub restore : Bytes → State → Ended
+restore s st = restoreTo (image s) st

@@ -2,12 +2,13 @@
 -- stamped with this start that is not its Rollback, 9; its Rollback with lock or default at this start, 9, else accepted and unchanged;
 -- another's lock 7; Put lock without decoding default 9; Delete lock or no lock with a default 9; kind Rollback 9. Then 11. Lock and its row
 -- go, a Rollback record comes."
+-- Document 02, CR 7: "14, below the floor, .. for a start at or below F in any changing call (after the last 3, ..)".
 -- Assumes nothing.
 use Prim.Native.Nat.{ℕ}
 use mathlib.Core.Bool.{Bool, true, false, _&&_, _||_, not}
 use mathlib.Core.List.{List, [], _∷_}
 use mathlib.Core.Option.{Option, none, some}
-use lib.Dec.{eqb}
+use lib.Dec.{ltb, eqb}
 use Rattle.forms.specs.Bytes.{Bytes}
 use Rattle.forms.specs.Key.{Key, keyForm}
 use Rattle.forms.specs.Row.{Row}
@@ -23,6 +24,12 @@ use Rattle.rules.specs.Box.{Box, Lock, Finished, holderOf, recordsOf, lo
 use Rattle.rules.specs.Sound.{soundRecord}
 use Rattle.rules.specs.Room.{roomFor}
 use Rattle.rules.specs.Calls.{Done, settle, ofBatch, nonEmpty, owns, zeroStep, lockAt, kindReady, stampedAt, recordFor}
+
+-- "3": "zero transaction, start"; "after the last 3" 14
+unfoldable pub rollbackTermsStep : ℕ → ℕ → ℕ → Answer
+rollbackTermsStep floor txn start =
+    zeroStep txn start ▸
+    need (ltb floor start) 14
 
 -- "records by ascending stamp, each sound (9), with this start and not Rollback 8"
 unfoldable pub rollbackRecords : ℕ → List Record → Answer
@@ -79,19 +86,19 @@ unfoldable pub rollbackRoom : ℕ → List Key → Box → Answer
 rollbackRoom start ks b = need (roomFor (applyRollbacks start ks b)) 11
 
 -- the steps after 6 and 5
-unfoldable pub rollbackSteps : ℕ → ℕ → List Key → Box → Answer
-rollbackSteps txn start ks b =
-    zeroStep txn start ▸
+unfoldable pub rollbackSteps : ℕ → ℕ → ℕ → List Key → Box → Answer
+rollbackSteps floor txn start ks b =
+    rollbackTermsStep floor txn start ▸
     rollbackKeys txn start b ks ▸
     rollbackRoom start ks b
 
-unfoldable pub rollbackAll : ℕ → ℕ → List Key → Box → Done
-rollbackAll txn start ks b = settle (need (nonEmpty ks) 5 ▸ rollbackSteps txn start ks b) (applyRollbacks start ks b) b
+unfoldable pub rollbackAll : ℕ → ℕ → ℕ → List Key → Box → Done
+rollbackAll floor txn start ks b = settle (need (nonEmpty ks) 5 ▸ rollbackSteps floor txn start ks b) (applyRollbacks start ks b) b
 
 -- "6, 5; 3; per key: .."
-unfoldable pub rollbackBatch : ℕ → ℕ → Bytes → Box → Done
-rollbackBatch txn start s b = ofBatch (keys s) (rollbackAll txn start) b
+unfoldable pub rollbackBatch : ℕ → ℕ → ℕ → Bytes → Box → Done
+rollbackBatch floor txn start s b = ofBatch (keys s) (rollbackAll floor txn start) b
 
 -- document 02, CR 10: "the single form disappears as a step of its own and is a batch of one"
-unfoldable pub rollback : ℕ → ℕ → Key → Box → Done
-rollback txn start k b = rollbackBatch txn start (oneKey k) b
+unfoldable pub rollback : ℕ → ℕ → ℕ → Key → Box → Done
+rollback floor txn start k b = rollbackBatch floor txn start (oneKey k) b

@@ -1,5 +1,6 @@
 -- Demand 2: "So, with sound records and no lock on the key starting at or before the moment asked, a valid key shows a row exactly when the
 -- newest record by that moment, rollbacks passed over, is a Put whose stored row decodes, and shows that row."
+-- Document 02, CR 7: "Demand 2's sentence on shown rows then speaks of moments at or above the floor."
 -- The words of that sentence, said without the read's own walk; proofs/ShownRows.antt has the theorem.
 -- Assumes nothing.
 use Prim.Native.Nat.{ℕ, _≤_, _<_}
@@ -18,7 +19,9 @@ use Rattle.rules.specs.Sound.{allSound}
 use Rattle.rules.specs.Read.{read}
 
 -- "with sound records and no lock on the key starting at or before the moment asked, a valid key"
-pub record Asked (k : Key) (m : ℕ) (b : Box) : Type 0 where
+pub record Asked (floor : ℕ) (k : Key) (m : ℕ) (b : Box) : Type 0 where
+  -- "moments at or above the floor"
+  pub above : floor ≤ m
   pub valid : keyForm k ≡ true
   pub sound : allSound (recordsOf k (b .lines)) ≡ true
   pub free : (l : Lock) → lockOf k (b .lines) ≡ some l → m < l .start
@@ -41,8 +44,8 @@ pub record PutRow (k : Key) (ds : List Default) (w : Record) (r : Row) : Type 0 
   pub decodes : rowForm r ≡ true
 
 -- a key shows a row
-abbrev pub Shows : Key → ℕ → Box → Row → Type 0
-Shows k m b r = read k m b ≡ shown r
+abbrev pub Shows : ℕ → Key → ℕ → Box → Row → Type 0
+Shows floor k m b r = read floor k m b ≡ shown r
 
 -- the newest record by the moment is a Put of that row
 abbrev pub NewestPut : Key → ℕ → Box → Row → Type 0
@@ -50,4 +53,4 @@ NewestPut k m b r = (w : Record) × Newest m (recordsOf k (b .lines)) w × PutRo
 
 -- the sentence
 abbrev pub ShownRows : Type 0
-ShownRows = (k : Key) (m : ℕ) (b : Box) (r : Row) → Asked k m b → Shows k m b r ↔ NewestPut k m b r
+ShownRows = (floor : ℕ) (k : Key) (m : ℕ) (b : Box) (r : Row) → Asked floor k m b → Shows floor k m b r ↔ NewestPut k m b r

@@ -66,8 +66,8 @@ written f (refused v) buffer = record { answer = v; count = 0; buffer = buffer }
 written f (shown p) buffer = writeIf (leb (length (pageBytes f p)) (length buffer)) (pageBytes f p) buffer
 
 -- the three calls, down to the whole buffer
-unfoldable pub scanPage : Bounds → ℕ → Limits → Box → Bytes → Written
-scanPage a moment m b buffer = written keyRowBytes (page a moment m b) buffer
+unfoldable pub scanPage : ℕ → Bounds → ℕ → Limits → Box → Bytes → Written
+scanPage floor a moment m b buffer = written keyRowBytes (page floor a moment m b) buffer
 
 unfoldable pub scanIntentPage : Bounds → ℕ → Box → Bytes → Written
 scanIntentPage a limit b buffer = written keyLockBytes (intentPage a limit b) buffer

@@ -1,12 +1,15 @@
 // A worked session in one hall: a curator prewrites two labels, a visitor reads and is told who holds the key, for what and how long, the
-// commit, the bones that a row shows, a page, a removal that is withdrawn, and a second box that is filled from the hall's image. Each line says
-// who asks for what, and then what the box answered. The store and its area live here; every step hands on a made store, whatever was answered.
+// commit, the bones that a row shows, a page, a removal that is withdrawn, a second box that is filled from the hall's image, and a season that
+// fills the box and is collected. Each line says who asks for what, and then what the box answered. The store and its area live here; every
+// step hands on a made store, whatever was answered.
 mod copying;
+mod season;
 
 ghost use Rattle.store.specs.Made.{Made};
 use copying::copies_hall;
 use mvcc::AREA;
 use mvcc::Store;
+use season::passes_season;
 use visits::asks_bones;
 use visits::asks_figures;
 use visits::asks_key;
@@ -69,6 +72,7 @@ fn main() {
     asks_bones(&area, reading);
     asks_page(kept, &area, 16);
     kept = withdrawn_removal(kept, &mut area, jaw);
-    asks_figures(kept, &area, b"in the end: ");
+    asks_figures(kept, &area, b"after that: ");
     copies_hall(kept, &area, 1, jaw);
+    passes_season(kept, &mut area, jaw);
 }

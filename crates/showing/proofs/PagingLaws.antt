@@ -13,9 +13,10 @@ use borrow.Author.Tests.{leb-true}
 use Rattle.forms.specs.Bytes.{Bytes, bytesAt}
 use Rattle.rules.specs.Answers.{Reply, nothing, shown, refused}
 use Rattle.rules.specs.Box.{Box}
+use Rattle.rules.specs.Calls.{State}
 use Rattle.rules.specs.Page.{Bounds, Page, page, intentPage, conflictPage}
 use Rattle.rules.specs.Written.{Written, writeIf, written, pageBytes, keyRowBytes, keyLockBytes, scanPage, scanIntentPage, scanConflictingIntents, WroteAs}
-use Rattle.rules.specs.Image.{image}
+use Rattle.rules.specs.Image.{oldImage}
 use Rattle.rules.specs.Capture.{imageOf, captureIf, captureImage}
 use Rattle.rules.specs.Convert.{convertedBytes, convertible, convertIf, convertImage}
 use Rattle.rules.specs.Call.{Call}
@@ -59,25 +60,25 @@ same-length f nothing buffer = refl
 same-length f (refused v) buffer = refl
 same-length f (shown p) buffer = write-long (pageBytes f p) buffer
 
-module _ (a : Bounds) (first second third : ℕ) (b : Box) (buffer : Bytes) where
-  pub scanned-long : (w : Which) → length (scanned w a first second third b buffer .buffer) ≡ length buffer
+module _ (a : Bounds) (first second third : ℕ) (state : State) (buffer : Bytes) where
+  pub scanned-long : (w : Which) → length (scanned w a first second third state buffer .buffer) ≡ length buffer
   unfolding scanPage scanIntentPage scanConflictingIntents
-  scanned-long Which.Rows = same-length keyRowBytes (page a first (record { rows = second; bytes = third }) b) buffer
-  scanned-long Which.Intents = same-length keyLockBytes (intentPage a first b) buffer
-  scanned-long Which.Conflicts = same-length keyLockBytes (conflictPage a first (record { rows = second; bytes = third }) b) buffer
+  scanned-long Which.Rows = same-length keyRowBytes (page (state .floor) a first (record { rows = second; bytes = third }) (state .box)) buffer
+  scanned-long Which.Intents = same-length keyLockBytes (intentPage a first (state .box)) buffer
+  scanned-long Which.Conflicts = same-length keyLockBytes (conflictPage a first (record { rows = second; bytes = third }) (state .box)) buffer
 
 -- of an image, written from a table or converted
-captured-long : (t : ℕ) (b : Box) (buffer : Bytes) → length (captureImage t b buffer .buffer) ≡ length buffer
+captured-long : (floor t : ℕ) (b : Box) (buffer : Bytes) → length (captureImage floor t b buffer .buffer) ≡ length buffer
 unfolding captureImage captureIf
-captured-long t b buffer = by-table (not (eqb t 0))
+captured-long floor t b buffer = by-table (not (eqb t 0))
   where
-    by-table : (some : Bool) → length (captureIf some (imageOf t b) buffer .buffer) ≡ length buffer
-    by-table true = write-long (imageOf t b) buffer
+    by-table : (some : Bool) → length (captureIf some (imageOf floor t b) buffer .buffer) ≡ length buffer
+    by-table true = write-long (imageOf floor t b) buffer
     by-table false = refl
 
 pub converted-long : (s buffer : Bytes) → length (convertImage s buffer .buffer) ≡ length buffer
 unfolding convertImage convertIf
-converted-long s buffer = by-image (convertible (image s))
+converted-long s buffer = by-image (convertible (oldImage s))
   where
     by-image : (good : Bool) → length (convertIf good (convertedBytes s) buffer .buffer) ≡ length buffer
     by-image true = write-long (convertedBytes s) buffer
@@ -85,8 +86,8 @@ converted-long s buffer = by-image (convertible (image s))
 
 -- ---- what was written to the front of a longer buffer, shown
 
-front-shown : (w : Written) (b : Box) (n : ℕ) (buffer : Bytes) {done : Wrote} {out : Bytes} → WroteAs w done out → length (w .buffer) ≡ n → ShownTold (paging w b) b (record { answer = done .answer; count = done .count; len = n }) (out ++ drop n buffer)
-front-shown w b n buffer {out = out} v e =
+front-shown : (w : Written) (state : State) (n : ℕ) (buffer : Bytes) {done : Wrote} {out : Bytes} → WroteAs w done out → length (w .buffer) ≡ n → ShownTold (paging w state) state (record { answer = done .answer; count = done .count; len = n }) (out ++ drop n buffer)
+front-shown w state n buffer {out = out} v e =
     let long : length out ≡ n = ap length (v .out-is) ∙ e in
     record {
       told = record {
@@ -95,15 +96,15 @@ front-shown w b n buffer {out = out} v e =
         within = omega (arith, length-append out (drop n buffer));
         payload-is = take-at out (drop n buffer) n long ∙ v .out-is;
       };
-      box-is = refl;
+      state-is = refl;
     }
 
 -- an image, in a buffer of the call's length
-module _ (w : Bytes → Written) (same-long : (buffer : Bytes) → length (w buffer .buffer) ≡ length buffer) (n : ℕ) (b : Box) {buffer : Bytes} {done : Wrote} {out : Bytes} (lent-is : buffer ≡ lent 262144) (small : n < 262145) (v : WroteAs (w (take n buffer)) done out) where
-  pub image-shown : ShownTold (paging (w (lent n)) b) b (record { answer = done .answer; count = done .count; len = n }) (out ++ drop n buffer)
+module _ (w : Bytes → Written) (same-long : (buffer : Bytes) → length (w buffer .buffer) ≡ length buffer) (n : ℕ) (state : State) {buffer : Bytes} {done : Wrote} {out : Bytes} (lent-is : buffer ≡ lent 262144) (small : n < 262145) (v : WroteAs (w (take n buffer)) done out) where
+  pub image-shown : ShownTold (paging (w (lent n)) state) state (record { answer = done .answer; count = done .count; len = n }) (out ++ drop n buffer)
   image-shown =
       let e : take n buffer ≡ lent n = ap (take n) lent-is ∙ front n 262144 238 (omega arith) in
-      front-shown (w (lent n)) b n buffer (subst (λ (x : Bytes). WroteAs (w x) done out) e v) (same-long (lent n) ∙ length-replicate {A = ℕ} n 238)
+      front-shown (w (lent n)) state n buffer (subst (λ (x : Bytes). WroteAs (w x) done out) e v) (same-long (lent n) ∙ length-replicate {A = ℕ} n 238)
 
   pub image-room : length (out ++ drop n buffer) ≤ 262144
   image-room =
@@ -112,39 +113,39 @@ module _ (w : Bytes → Written) (same-long : (buffer : Bytes) → length (w buf
       omega (arith, length-append out (drop n buffer), length-drop n buffer)
 
 -- that of a table
-module _ (t n : ℕ) (b : Box) {buffer : Bytes} {done : Wrote} {out : Bytes} (lent-is : buffer ≡ lent 262144) (small : n < 262145) (v : WroteAs (captureImage t b (take n buffer)) done out) where
-  pub capture-shown : ShownTold (told (Call.Capture t) n b) b (record { answer = done .answer; count = done .count; len = n }) (out ++ drop n buffer)
+module _ (floor t n : ℕ) (b : Box) {buffer : Bytes} {done : Wrote} {out : Bytes} (lent-is : buffer ≡ lent 262144) (small : n < 262145) (v : WroteAs (captureImage floor t b (take n buffer)) done out) where
+  pub capture-shown : ShownTold (told (Call.Capture t) n (record { box = b; floor = floor })) (record { box = b; floor = floor }) (record { answer = done .answer; count = done .count; len = n }) (out ++ drop n buffer)
   unfolding told
-  capture-shown = image-shown (captureImage t b) (captured-long t b) n b lent-is small v
+  capture-shown = image-shown (captureImage floor t b) (captured-long floor t b) n (record { box = b; floor = floor }) lent-is small v
 
   pub capture-room : length (out ++ drop n buffer) ≤ 262144
-  capture-room = image-room (captureImage t b) (captured-long t b) n b lent-is small v
+  capture-room = image-room (captureImage floor t b) (captured-long floor t b) n (record { box = b; floor = floor }) lent-is small v
 
 pub fits-long : (n : ℕ) → n < 262145 → n ≤ length (lent 262144)
 fits-long n h = omega (arith, length-replicate {A = ℕ} 262144 238)
 
 -- ---- a page, shown
 
-pub as-which : (w v : Which) (a : Bounds) (first second third : ℕ) (b : Box) (buffer : Bytes) {r : Wrote} {out : Bytes} → w ≡ v → WroteAs (scanned v a first second third b buffer) r out → WroteAs (scanned w a first second third b buffer) r out
-as-which w v a first second third b buffer {r} {out} e p = subst (λ (x : Which). WroteAs (scanned x a first second third b buffer) r out) (sym e) p
+pub as-which : (w v : Which) (a : Bounds) (first second third : ℕ) (state : State) (buffer : Bytes) {r : Wrote} {out : Bytes} → w ≡ v → WroteAs (scanned v a first second third state buffer) r out → WroteAs (scanned w a first second third state buffer) r out
+as-which w v a first second third state buffer {r} {out} e p = subst (λ (x : Which). WroteAs (scanned x a first second third state buffer) r out) (sym e) p
 
-module _ (w : Which) (s : Bytes) (a : Args) (b : Box) {start end resume buffer : Bytes} {done : Wrote} {page′ : Bytes}
+module _ (w : Which) (s : Bytes) (a : Args) (state : State) {start end resume buffer : Bytes} {done : Wrote} {page′ : Bytes}
     (start-is : start ≡ bytesAt s (a .fromat) (a .fromlen)) (end-is : end ≡ bytesAt s (a .toat) (a .tolen)) (resume-is : resume ≡ bytesAt s (a .resumeat) (a .resumelen))
     (lent-is : buffer ≡ lent 65535) (small : a .buffer < 65536)
-    (v : WroteAs (scanned w (boundsOf (a .from) start (a .to) end (a .resume) resume) (a .first) (a .second) (a .third) b (take (a .buffer) buffer)) done page′) where
+    (v : WroteAs (scanned w (boundsOf (a .from) start (a .to) end (a .resume) resume) (a .first) (a .second) (a .third) state (take (a .buffer) buffer)) done page′) where
   -- the definition's page, in a buffer of the call's length
   abbrev asked : Written
-  asked = scanned w (boundsIn s a) (a .first) (a .second) (a .third) b (lent (a .buffer))
+  asked = scanned w (boundsIn s a) (a .first) (a .second) (a .third) state (lent (a .buffer))
 
-  same : scanned w (boundsOf (a .from) start (a .to) end (a .resume) resume) (a .first) (a .second) (a .third) b (take (a .buffer) buffer) ≡ asked
+  same : scanned w (boundsOf (a .from) start (a .to) end (a .resume) resume) (a .first) (a .second) (a .third) state (take (a .buffer) buffer) ≡ asked
   same =
-      ap (λ (x : Bytes). scanned w (boundsOf (a .from) x (a .to) end (a .resume) resume) (a .first) (a .second) (a .third) b (take (a .buffer) buffer)) start-is
-      ∙ ap (λ (x : Bytes). scanned w (boundsOf (a .from) (bytesAt s (a .fromat) (a .fromlen)) (a .to) x (a .resume) resume) (a .first) (a .second) (a .third) b (take (a .buffer) buffer)) end-is
-      ∙ ap (λ (x : Bytes). scanned w (boundsOf (a .from) (bytesAt s (a .fromat) (a .fromlen)) (a .to) (bytesAt s (a .toat) (a .tolen)) (a .resume) x) (a .first) (a .second) (a .third) b (take (a .buffer) buffer)) resume-is
-      ∙ ap (λ (x : Bytes). scanned w (boundsIn s a) (a .first) (a .second) (a .third) b x) (ap (take (a .buffer)) lent-is ∙ front (a .buffer) 65535 238 (omega arith))
+      ap (λ (x : Bytes). scanned w (boundsOf (a .from) x (a .to) end (a .resume) resume) (a .first) (a .second) (a .third) state (take (a .buffer) buffer)) start-is
+      ∙ ap (λ (x : Bytes). scanned w (boundsOf (a .from) (bytesAt s (a .fromat) (a .fromlen)) (a .to) x (a .resume) resume) (a .first) (a .second) (a .third) state (take (a .buffer) buffer)) end-is
+      ∙ ap (λ (x : Bytes). scanned w (boundsOf (a .from) (bytesAt s (a .fromat) (a .fromlen)) (a .to) (bytesAt s (a .toat) (a .tolen)) (a .resume) x) (a .first) (a .second) (a .third) state (take (a .buffer) buffer)) resume-is
+      ∙ ap (λ (x : Bytes). scanned w (boundsIn s a) (a .first) (a .second) (a .third) state x) (ap (take (a .buffer)) lent-is ∙ front (a .buffer) 65535 238 (omega arith))
 
   -- what is told is the front of the longer buffer
-  pub page-shown : ShownTold (paging asked b) b (record { answer = done .answer; count = done .count; len = a .buffer }) (page′ ++ drop (a .buffer) buffer)
+  pub page-shown : ShownTold (paging asked state) state (record { answer = done .answer; count = done .count; len = a .buffer }) (page′ ++ drop (a .buffer) buffer)
   page-shown =
-      front-shown asked b (a .buffer) buffer (subst (λ (x : Written). WroteAs x done page′) same v)
-      (scanned-long (boundsIn s a) (a .first) (a .second) (a .third) b (lent (a .buffer)) w ∙ length-replicate {A = ℕ} (a .buffer) 238)
+      front-shown asked state (a .buffer) buffer (subst (λ (x : Written). WroteAs x done page′) same v)
+      (scanned-long (boundsIn s a) (a .first) (a .second) (a .third) state (lent (a .buffer)) w ∙ length-replicate {A = ℕ} (a .buffer) 238)

@@ -78,9 +78,9 @@ refused-row : (a : Answer) → RowShort (refused a)
 unfolding readPayload
 refused-row a = omega arith
 
-pub read-short : (k : Key) (m : ℕ) (b : Box) → RowShort (examine k m b .reply)
+pub read-short : (floor : ℕ) (k : Key) (m : ℕ) (b : Box) → RowShort (examine floor k m b .reply)
 unfolding examine
-read-short k m b = after-steps RowShort refused-row _ _ (walk-short k (b .defaults) _)
+read-short floor k m b = after-steps RowShort refused-row _ _ (walk-short k (b .defaults) _)
 
 abbrev pub LockShort : Reply Lock → Type 0
 LockShort r = length (intentPayload r) ≤ 75

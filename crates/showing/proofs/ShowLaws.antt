@@ -10,6 +10,7 @@ use Rattle.forms.specs.Key.{Key}
 use Rattle.rules.specs.declared.answers.Answer.{Answer}
 use Rattle.rules.specs.Answers.{number, holder}
 use Rattle.rules.specs.Box.{Box}
+use Rattle.rules.specs.Calls.{State}
 use Rattle.rules.specs.Read.{examine}
 use Rattle.rules.specs.Intent.{intentAt}
 use Rattle.traces.specs.declared.args.Args.{Args}
@@ -22,7 +23,7 @@ use Rattle.traces.specs.Payloads.{readPayload, intentPayload}
 use Rattle.traces.specs.Answers.{answerBytes}
 use Rattle.traces.proofs.FormLaws.{length-answer}
 use Rattle.store.specs.declared.table.Store.{Store}
-use Rattle.store.specs.View.{boxOf}
+use Rattle.store.specs.View.{stateShown}
 use Rattle.store.specs.Made.{Made}
 use Rattle.showing.specs.Told.{Told, told, toldBytes, Writes}
 use Rattle.showing.specs.Ran.{RanAs, ShownAs, ShownReply, ShownTold, longest}
@@ -38,17 +39,17 @@ told-as {a} {count} {r = r} {buffer = buffer} {out = out} {out′ = out′} {n =
     subst (λ (x : Bytes). Writes (answerBytes a count x) out n out′) (p .payload-is) y
 
 -- what is told, with the store after it, is what running the call promises
-pub ran-told : (t : Told) {st : Store} {area out out′ : Bytes} {n : ℕ} → Made st area → boxOf st area ≡ t .box → length (t .payload) ≤ 262144 → longest ≤ length out → Writes (toldBytes t) out n out′ → RanAs t out (record { store = st; len = n }) area out′
+pub ran-told : (t : Told) {st : Store} {area out out′ : Bytes} {n : ℕ} → Made st area → stateShown st area ≡ t .state → length (t .payload) ≤ 262144 → longest ≤ length out → Writes (toldBytes t) out n out′ → RanAs t out (record { store = st; len = n }) area out′
 ran-told t {out = out} m e short length-is w =
     let h : length (toldBytes t) ≤ length out = omega (arith, length-answer (number (t .answer)) (holder (t .answer)) (t .count) (t .payload)) in
     record { made = m; shown = e; put = written h w; within = omega (arith, written-count h w) }
 
 -- what is shown, once it is told
-pub showed : (t : Told) {st : Store} {area : Bytes} {r : Shown} {buffer out out′ : Bytes} {n : ℕ} → Made st area → ShownTold t (boxOf st area) r buffer → length buffer ≤ 262144 → longest ≤ length out → Writes (answerBytes (r .answer) (r .count) (take (r .len) buffer)) out n out′
+pub showed : (t : Told) {st : Store} {area : Bytes} {r : Shown} {buffer out out′ : Bytes} {n : ℕ} → Made st area → ShownTold t (stateShown st area) r buffer → length buffer ≤ 262144 → longest ≤ length out → Writes (answerBytes (r .answer) (r .count) (take (r .len) buffer)) out n out′
     → RanAs t out (record { store = st; len = n }) area out′
 showed t {r = r} {buffer = buffer} m v short length-is w =
     let p = v .told in
-    ran-told t m (v .box-is) (omega (arith, ap length (p .payload-is), length-take-le (r .len) buffer (p .within), p .within)) length-is (told-as p w)
+    ran-told t m (v .state-is) (omega (arith, ap length (p .payload-is), length-take-le (r .len) buffer (p .within), p .within)) length-is (told-as p w)
 
 -- ---- by the op
 
@@ -57,12 +58,12 @@ pub shown-small : (a : Args) {op : ShowOp} → a .op ≡ Op.Shows op → a .buff
 shown-small a e h = subst (λ (x : Op). a .buffer < bufferBelow (isLong x)) e h
 
 -- a call of this op, shown
-pub by-show : (s : Bytes) (a : Args) (b : Box) (o op : ShowOp) {r : Shown} {buffer : Bytes} → o ≡ op → ShownTold (told (callAs (Op.Shows op) s a) (a .buffer) b) b r buffer → ShownTold (told (callAs (Op.Shows o) s a) (a .buffer) b) b r buffer
-by-show s a b o op {r} {buffer} e v = subst (λ (x : ShowOp). ShownTold (told (callAs (Op.Shows x) s a) (a .buffer) b) b r buffer) (sym e) v
+pub by-show : (s : Bytes) (a : Args) (state : State) (o op : ShowOp) {r : Shown} {buffer : Bytes} → o ≡ op → ShownTold (told (callAs (Op.Shows op) s a) (a .buffer) state) state r buffer → ShownTold (told (callAs (Op.Shows o) s a) (a .buffer) state) state r buffer
+by-show s a state o op {r} {buffer} e v = subst (λ (x : ShowOp). ShownTold (told (callAs (Op.Shows x) s a) (a .buffer) state) state r buffer) (sym e) v
 
 -- what is shown of a key is shown of the key that the arguments say
-pub read-of : (m : ℕ) (b : Box) {k k′ : Key} {r : Shown} {buffer : Bytes} → k ≡ k′ → ShownReply readPayload (examine k m b .count) (examine k m b .reply) r buffer → ShownReply readPayload (examine k′ m b .count) (examine k′ m b .reply) r buffer
-read-of m b {r = r} {buffer = buffer} e v = subst (λ (x : Key). ShownReply readPayload (examine x m b .count) (examine x m b .reply) r buffer) e v
+pub read-of : (floor m : ℕ) (b : Box) {k k′ : Key} {r : Shown} {buffer : Bytes} → k ≡ k′ → ShownReply readPayload (examine floor k m b .count) (examine floor k m b .reply) r buffer → ShownReply readPayload (examine floor k′ m b .count) (examine floor k′ m b .reply) r buffer
+read-of floor m b {r = r} {buffer = buffer} e v = subst (λ (x : Key). ShownReply readPayload (examine floor x m b .count) (examine floor x m b .reply) r buffer) e v
 
 pub intent-of : (m : ℕ) (b : Box) {k k′ : Key} {r : Shown} {buffer : Bytes} → k ≡ k′ → ShownReply intentPayload 0 (intentAt k m b) r buffer → ShownReply intentPayload 0 (intentAt k′ m b) r buffer
 intent-of m b {r = r} {buffer = buffer} e v = subst (λ (x : Key). ShownReply intentPayload 0 (intentAt x m b) r buffer) e v

@@ -7,9 +7,7 @@ use lib.ListN.{length, take}
 use Rattle.forms.specs.Bytes.{Bytes}
 use Rattle.rules.specs.declared.answers.Answer.{Answer}
 use Rattle.rules.specs.Answers.{Reply, answerOf}
-use Rattle.rules.specs.Box.{Box}
-use Rattle.rules.specs.Calls.{Done}
-use Rattle.calls.specs.declared.changed.Changed.{Changed}
+use Rattle.rules.specs.Calls.{State}
 use Rattle.traces.specs.declared.op.Op.{Op}
 use Rattle.traces.specs.declared.args.Args.{Args}
 use Rattle.traces.specs.Calls.{call}
@@ -17,30 +15,19 @@ use Rattle.rules.specs.Page.{Bounds}
 use Rattle.traces.specs.Args.{ArgsIn, boundOf}
 use Rattle.traces.specs.Put.{Put}
 use Rattle.store.specs.declared.table.Store.{Store}
-use Rattle.store.specs.View.{boxOf}
+use Rattle.store.specs.View.{stateShown}
 use Rattle.store.specs.Made.{Made}
-use Rattle.showing.specs.Told.{Told, toldOf, toldBytes, changing, lent}
+use Rattle.showing.specs.Told.{Told, toldOf, toldBytes, lent}
 use Rattle.showing.specs.declared.ran.Ran.{Ran}
 use Rattle.showing.specs.declared.ran.Shown.{Shown}
 
--- the store shows the box that the call leaves; the answer's bytes stand over the front of the buffer, all of them and nothing beyond, and
+-- the store shows the state that the call leaves; the answer's bytes stand over the front of the buffer, all of them and nothing beyond, and
 -- the length is theirs
 pub record RanAs (t : Told) (out : Bytes) (r : Ran) (area′ out′ : Bytes) : Type 0 where
   pub made : Made (r .store) area′
-  pub shown : boxOf (r .store) area′ ≡ t .box
+  pub shown : stateShown (r .store) area′ ≡ t .state
   pub put : Put true (toldBytes t) out (r .len) out′
   pub within : r .len ≤ length out
-
--- what the promise of every changing call holds, restore's and the others': the answer is the definition's, the store is made and shows the
--- definition's box
-pub record DoneAs (d : Done) (m : Changed) (area′ : Bytes) : Type 0 where
-  pub answer-is : m .answer ≡ d .answer
-  pub made : Made (m .store) area′
-  pub shown : boxOf (m .store) area′ ≡ d .box
-
--- whatever the definition, what it tells is told
-pub record TellsChange (m : Changed) (out : Bytes) (r : Ran) (out′ : Bytes) : Type 0 where
-  pub tells : (d : Done) (area′ : Bytes) → DoneAs d m area′ → RanAs (changing d) out r area′ out′
 
 -- nothing is run or written
 pub record Unrun (st : Store) (area out : Bytes) (r : Ran) (area′ out′ : Bytes) : Type 0 where
@@ -54,7 +41,7 @@ abbrev pub longest : ℕ
 longest = 262182
 
 pub record RunCall (st : Store) (area s out : Bytes) (r : Ran) (area′ out′ : Bytes) : Type 0 where
-  pub ran : longest ≤ length out → RanAs (toldOf (call s) (boxOf st area)) out r area′ out′
+  pub ran : longest ≤ length out → RanAs (toldOf (call s) (stateShown st area)) out r area′ out′
   pub short : length out < longest → Unrun st area out r area′ out′
 
 -- what running the arguments of a call of this op asks
@@ -88,10 +75,10 @@ pub record ShownAs (answer : Answer) (count : ℕ) (payload : Bytes) (r : Shown)
 abbrev pub ShownReply : {A : Type 0} → (Reply A → Bytes) → ℕ → Reply A → Shown → Bytes → Type 0
 ShownReply payload count reply r buffer = ShownAs (answerOf reply) count (payload reply) r buffer
 
--- all that is told, of a box that stays as it is
-pub record ShownTold (t : Told) (b : Box) (r : Shown) (buffer : Bytes) : Type 0 where
+-- all that is told, of a state that stays as it is
+pub record ShownTold (t : Told) (state : State) (r : Shown) (buffer : Bytes) : Type 0 where
   pub told : ShownAs (t .answer) (t .count) (t .payload) r buffer
-  pub box-is : b ≡ t .box
+  pub state-is : state ≡ t .state
 
 -- what it asks: a buffer for the longest payload but the image
 pub record ShowAsks (st : Store) (area s : Bytes) (a : Args) (buffer : Bytes) : Type 0 where

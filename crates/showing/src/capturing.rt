@@ -1,6 +1,6 @@
 // The call that writes the image, run. Its buffer is an array of its own, so that no other call has to fill so many bytes.
 ghost use Rattle.rules.specs.Call.{Call};
-ghost use Rattle.store.specs.View.{boxOf};
+ghost use Rattle.store.specs.View.{stateShown};
 ghost use Rattle.showing.specs.Told.{told};
 ghost use Rattle.showing.specs.Ran.{CaptureAsks, RanAs};
 use crate::ran::Ran;
@@ -11,7 +11,7 @@ use store::Store;
 // "the call is lent a buffer of that many bytes, each 0xEE before the call"; it is the front of an array of the most that may be lent.
 pub fn run_capture(store: Store, area: &[u8; AREA], table: u32, len: usize, out: &mut [u8]) -> Ran
     requires { ⌜ CaptureAsks store (now area) len (now out) ⌝ }
-    ensures { λ r. ⌜ RanAs (told (Call.Capture table) len (boxOf store (now (area .entry)))) (now (out .entry)) r (now (area .entry)) (now (out .exit)) ⌝ }
+    ensures { λ r. ⌜ RanAs (told (Call.Capture table) len (stateShown store (now (area .entry)))) (now (out .entry)) r (now (area .entry)) (now (out .exit)) ⌝ }
 {
     let mut image = [0xEEu8; 262144];
     let done = captures::capture_snapshot_table(store, area, table, &mut image[..len]);

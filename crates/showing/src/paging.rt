@@ -2,7 +2,7 @@
 // stands after the call, refused or not".
 ghost use mathlib.Core.Path.{_≡_};
 ghost use Rattle.bounds.specs.Bounds.{boundsOf};
-ghost use Rattle.store.specs.View.{boxOf};
+ghost use Rattle.store.specs.View.{stateShown};
 ghost use Rattle.store.specs.Made.{Made};
 ghost use Rattle.rules.specs.Written.{WroteAs};
 ghost use Rattle.showing.specs.Told.{lent, paging};
@@ -40,7 +40,7 @@ fn scan(
     page: &mut [u8],
 ) -> Wrote
     requires { ⌜ Made store (now area) ⌝ }
-    ensures { λ w. ⌜ WroteAs (scanned which (boundsOf f (now (from .entry)) t (now (to .entry)) r (now (resume .entry))) a b c (boxOf store (now (area .entry))) (now (page .entry))) w (now (page .exit)) ⌝ }
+    ensures { λ w. ⌜ WroteAs (scanned which (boundsOf f (now (from .entry)) t (now (to .entry)) r (now (resume .entry))) a b c (stateShown store (now (area .entry))) (now (page .entry))) w (now (page .exit)) ⌝ }
 {
     match which {
         Which::Rows => pages::scan_page(store, area, a, b, c, f, from, t, to, r, resume, page),
@@ -61,7 +61,7 @@ pub fn show_page(
     payload: &mut [u8],
 ) -> Shown
     requires { ⌜ ShowAsks store (now area) (now call) args (now payload) ⌝ }
-    ensures { λ r. ⌜ ShownTold (paging (scanned which (boundsIn (now (call .entry)) args) (args .first) (args .second) (args .third) (boxOf store (now (area .entry))) (lent (args .buffer))) (boxOf store (now (area .entry)))) (boxOf store (now (area .entry))) r (now (payload .exit)) ⌝ }
+    ensures { λ r. ⌜ ShownTold (paging (scanned which (boundsIn (now (call .entry)) args) (args .first) (args .second) (args .third) (stateShown store (now (area .entry))) (lent (args .buffer))) (stateShown store (now (area .entry)))) (stateShown store (now (area .entry))) r (now (payload .exit)) ⌝ }
 {
     let start = part(call, args.fromat, args.fromlen);
     let end = part(call, args.toat, args.tolen);

@@ -43,7 +43,7 @@ fn show_seen(seen: RowSeen, count: usize, row: &[u8], out: &mut [u8]) -> Shown
 // The count is "the number of write records it examined". A row has at most 255 bytes.
 pub fn show_read(store: Store, area: &[u8; AREA], key: &[u8], moment: u64, out: &mut [u8]) -> Shown
     requires { ⌜ (Made store (now area)) × (256 ≤ length (now out)) ⌝ }
-    ensures { λ r. ⌜ ShownReply readPayload (examine (now (key .entry)) moment (boxOf store (now (area .entry))) .count) (examine (now (key .entry)) moment (boxOf store (now (area .entry))) .reply) r (now (out .exit)) ⌝ }
+    ensures { λ r. ⌜ ShownReply readPayload (examine (store .floor) (now (key .entry)) moment (boxOf store (now (area .entry))) .count) (examine (store .floor) (now (key .entry)) moment (boxOf store (now (area .entry))) .reply) r (now (out .exit)) ⌝ }
 {
     let reading = reads::read(store, area, key, moment);
     let seen = reading.seen;

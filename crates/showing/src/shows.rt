@@ -1,7 +1,7 @@
 // The calls that show something, run: each puts its payload into a buffer, which is told, and the store is as it was.
 ghost use Rattle.traces.specs.declared.op.Op.{Op};
 ghost use Rattle.traces.specs.Args.{callAs};
-ghost use Rattle.store.specs.View.{boxOf};
+ghost use Rattle.store.specs.View.{stateShown};
 ghost use Rattle.showing.specs.Told.{told};
 ghost use Rattle.showing.specs.Ran.{RunAsks, RanAs, ShowAsks, ShownTold};
 use crate::paging::Which;
@@ -29,7 +29,7 @@ fn show(
     payload: &mut [u8],
 ) -> Shown
     requires { ⌜ ShowAsks store (now area) (now call) args (now payload) ⌝ }
-    ensures { λ r. ⌜ ShownTold (told (callAs (Op.Shows op) (now (call .entry)) args) (args .buffer) (boxOf store (now (area .entry)))) (boxOf store (now (area .entry))) r (now (payload .exit)) ⌝ }
+    ensures { λ r. ⌜ ShownTold (told (callAs (Op.Shows op) (now (call .entry)) args) (args .buffer) (stateShown store (now (area .entry)))) (stateShown store (now (area .entry))) r (now (payload .exit)) ⌝ }
 {
     let key = part(call, args.keyat, args.keylen);
     match op {
@@ -53,7 +53,7 @@ pub fn run_shown(
     out: &mut [u8],
 ) -> Ran
     requires { ⌜ RunAsks store (now area) (now call) args (Op.Shows op) (now out) ⌝ }
-    ensures { λ r. ⌜ RanAs (told (callAs (Op.Shows op) (now (call .entry)) args) (args .buffer) (boxOf store (now (area .entry)))) (now (out .entry)) r (now (area .entry)) (now (out .exit)) ⌝ }
+    ensures { λ r. ⌜ RanAs (told (callAs (Op.Shows op) (now (call .entry)) args) (args .buffer) (stateShown store (now (area .entry)))) (now (out .entry)) r (now (area .entry)) (now (out .exit)) ⌝ }
 {
     let mut payload = [0xEEu8; 65535];
     let shown = show(store, area, call, args, op, &mut payload);

@@ -2,6 +2,7 @@
 pub mod MemberLaws
 pub mod StoredLaws
 pub mod FreshLaws
+pub mod FloorLaws
 pub mod ViewLaws
 pub mod StretchLaws
 pub mod HolderLaws

@@ -14,9 +14,11 @@ use Rattle.rules.specs.declared.records.Kind.the-variants.{Put, Delete, Rollbac
 use Rattle.rules.specs.Box as box
 use Rattle.rules.specs.Room.{loadOf, Fits}
 use Rattle.rules.specs.Restore.{allGood, noSecond, likeLine}
+use Rattle.rules.specs.Calls.{freshState}
 use Rattle.rules.specs.declared.room.Load.{Load}
 pub use Rattle.ledger.specs.Tidy.{soundLine, goodLine}
-use Rattle.store.specs.View.{placeOf, past, boxOf, noSlot}
+use Rattle.ledger.specs.Tidy.{LocksAbove}
+use Rattle.store.specs.View.{placeOf, past, boxOf, stateShown, noSlot}
 use Rattle.store.specs.declared.table.Line.{Line}
 use Rattle.store.specs.declared.table.Line.the-variants.{Standing, Finished}
 use Rattle.store.specs.declared.table.Slot.{Slot}
@@ -57,14 +59,15 @@ pub record Built (s : Store) (area : Bytes) : Type 0 where
   pub lines : Table (SlotBelow (s .top)) noSlot 1024 (s .load .lines) (s .lines)
   pub kept : Tallied (boxOf s area) (s .load)
 
--- within the four limits: what every call asks, and leaves
+-- within the four limits, and each lock starts above the floor: what every call asks, and leaves
 pub record Made (s : Store) (area : Bytes) : Type 0 where
   pub built : Built s area
   pub fit : Fits (s .load)
+  pub above : LocksAbove (s .floor) (boxOf s area)
 
 -- a store by its parts
-abbrev pub storeOf : List Slot → Load → ℕ → Store
-storeOf lines load top = record { lines = lines; load = load; top = top }
+abbrev pub storeOf : List Slot → Load → ℕ → ℕ → Store
+storeOf lines load top floor = record { lines = lines; load = load; top = top; floor = floor }
 
 -- tallies so small that none of their sums overflows
 pub record Counted (l : Load) : Type 0 where
@@ -75,5 +78,5 @@ pub record Counted (l : Load) : Type 0 where
 
 pub record FreshStore (s : Store) (area : Bytes) : Type 0 where
   pub made : Made s area
-  pub shown : boxOf s area ≡ box.fresh
+  pub shown : stateShown s area ≡ freshState
   pub top-is : s .top ≡ 0

@@ -14,6 +14,7 @@ use Rattle.rules.specs.declared.records.Kind.{Kind}
 use Rattle.rules.specs.declared.records.Kind.the-variants.{Put, Delete, Rollback}
 use Rattle.rules.specs.Box as box
 use Rattle.rules.specs.Box.{startOf, kindIn}
+use Rattle.rules.specs.Calls.{State}
 use Rattle.store.specs.declared.table.Line.{Line}
 use Rattle.store.specs.declared.table.Line.the-variants.{Standing, Finished}
 use Rattle.store.specs.declared.table.Slot.{Slot}
@@ -101,6 +102,10 @@ stored (o ∷ os) = addIf o (stored os)
 
 abbrev pub boxOf : Store → Bytes → box.Box
 boxOf s area = record { lines = shown (lineOf area) (s .load .lines) (s .lines); defaults = stored (shown (defaultIn area) (s .load .lines) (s .lines)) }
+
+-- document 02, CR 7: "The floor is part of the store"
+abbrev pub stateShown : Store → Bytes → State
+stateShown s area = record { box = boxOf s area; floor = s .floor }
 
 -- the one empty slot
 abbrev pub noSlot : Slot

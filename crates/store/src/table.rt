@@ -41,11 +41,12 @@ pub struct Slot {
 }
 
 // "At most 1,024 lines (locks plus records)": the slots below the count stand in order, those past it are empty. `top` is the first byte of
-// the area that no slot needs.
+// the area that no slot needs. "The floor is part of the store, begins at 0 and never falls."
 pub struct Store {
     pub lines: [Slot; 1024],
     pub load: Load,
     pub top: usize,
+    pub floor: u64,
 }
 
 pub fn no_slot() -> Slot
@@ -63,7 +64,7 @@ pub fn no_slot() -> Slot
     }
 }
 
-// "a fresh store has none"
+// "a fresh store has none"; "The floor .. begins at 0"
 pub fn fresh() -> Store
     ensures { λ r. ⌜ ((area : Bytes) → length area ≡ 131072 → FreshStore r area) ⌝ }
 {
@@ -78,6 +79,7 @@ pub fn fresh() -> Store
             bytes: 0,
         },
         top: 0,
+        floor: 0,
     }
 }
 

@@ -137,7 +137,7 @@ no-places s = record {
 
 -- the arguments of a call are those that its shape names
 ops-shaped : (op : Op) (t : Bytes) → shaped (shapeOf op) t ≡ calls.argumentsOf op t
-unfolding shaped calls.argumentsOf _>>=_ readOn just calls.readArguments calls.pageArguments calls.intentPageArguments calls.conflictingIntentsArguments calls.oneIntentArguments calls.prewriteArguments calls.prewriteBatchArguments calls.commitArguments calls.commitBatchArguments calls.rollbackArguments calls.rollbackBatchArguments calls.oneStepArguments calls.restoreArguments calls.statisticsArguments calls.marksArguments calls.captureArguments calls.boneArguments calls.bonesArguments calls.convertArguments
+unfolding shaped calls.argumentsOf _>>=_ readOn just calls.readArguments calls.pageArguments calls.intentPageArguments calls.conflictingIntentsArguments calls.oneIntentArguments calls.prewriteArguments calls.prewriteBatchArguments calls.commitArguments calls.commitBatchArguments calls.rollbackArguments calls.rollbackBatchArguments calls.oneStepArguments calls.collectArguments calls.restoreArguments calls.statisticsArguments calls.marksArguments calls.captureArguments calls.boneArguments calls.bonesArguments calls.convertArguments
 ops-shaped (Op.Shows ShowOp.Read) t = refl
 ops-shaped (Op.Shows ShowOp.Page) t = refl
 ops-shaped (Op.Shows ShowOp.IntentPage) t = refl
@@ -150,6 +150,7 @@ ops-shaped (Op.Changes ChangeOp.CommitBatch) t = refl
 ops-shaped (Op.Changes ChangeOp.Rollback) t = refl
 ops-shaped (Op.Changes ChangeOp.RollbackBatch) t = refl
 ops-shaped Op.OneStep t = refl
+ops-shaped (Op.Changes ChangeOp.Collect) t = refl
 ops-shaped (Op.Asks AskOp.Bone) t = refl
 ops-shaped (Op.Asks AskOp.Bones) t = refl
 ops-shaped (Op.Changes ChangeOp.Restore) t = refl
@@ -193,6 +194,7 @@ module _ {s : Bytes} where
           good (Op.Changes ChangeOp.Rollback) = refl
           good (Op.Changes ChangeOp.RollbackBatch) = refl
           good Op.OneStep = refl
+          good (Op.Changes ChangeOp.Collect) = refl
           good (Op.Asks AskOp.Bone) = refl
           good (Op.Asks AskOp.Bones) = refl
           good (Op.Changes ChangeOp.Restore) = refl

@@ -44,6 +44,7 @@ callBy (Op.Changes ChangeOp.CommitBatch) a b c d p k r f t u s = Call.Change (Ch
 callBy (Op.Changes ChangeOp.Rollback) a b c d p k r f t u s = Call.Change (Changing.Rollback a b (oneKey k))
 callBy (Op.Changes ChangeOp.RollbackBatch) a b c d p k r f t u s = Call.Change (Changing.Rollback a b s)
 callBy Op.OneStep a b c d p k r f t u s = Call.Change (Changing.OneStep (record { txn = a; start = b; commit = c }) s)
+callBy (Op.Changes ChangeOp.Collect) a b c d p k r f t u s = Call.Change (Changing.Collect a)
 callBy (Op.Asks AskOp.Bone) a b c d p k r f t u s = Call.Bone r a
 callBy (Op.Asks AskOp.Bones) a b c d p k r f t u s = Call.Bones r
 callBy (Op.Changes ChangeOp.Restore) a b c d p k r f t u s = Call.Restore s

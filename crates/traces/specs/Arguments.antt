@@ -12,7 +12,7 @@ use Rattle.forms.specs.Key.{Key}
 use Rattle.rules.specs.declared.records.Kind.{Kind}
 use Rattle.rules.specs.declared.records.Kind.the-variants.{Put, Delete}
 
--- "number (moment, limit, transaction, start, commit, time to live, bone number) | 8"
+-- "number (moment, limit, transaction, start, commit, time to live, bone number, floor) | 8"
 abbrev pub number : Reader ℕ
 number = numberOf 8
 

@@ -152,6 +152,12 @@ oneStepArguments = do
   b ← remaining
   just (lentNone (Call.Change (Changing.OneStep (record { txn = t; start = s; commit = c }) b)))
 
+-- "13 | collection | floor"
+unfoldable pub collectArguments : Reader TraceCall
+collectArguments = do
+  f ← number
+  just (lentNone (Call.Change (Changing.Collect f)))
+
 -- "17 | is bone n shown | bone number, row"
 unfoldable pub boneArguments : Reader TraceCall
 boneArguments = do
@@ -206,6 +212,7 @@ argumentsOf (Op.Changes ChangeOp.CommitBatch) = commitBatchArguments
 argumentsOf (Op.Changes ChangeOp.Rollback) = rollbackArguments
 argumentsOf (Op.Changes ChangeOp.RollbackBatch) = rollbackBatchArguments
 argumentsOf Op.OneStep = oneStepArguments
+argumentsOf (Op.Changes ChangeOp.Collect) = collectArguments
 argumentsOf (Op.Asks AskOp.Bone) = boneArguments
 argumentsOf (Op.Asks AskOp.Bones) = bonesArguments
 argumentsOf (Op.Changes ChangeOp.Restore) = restoreArguments

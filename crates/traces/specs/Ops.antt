@@ -24,6 +24,7 @@ knownOps =
     10 ∷  -- rollback
     11 ∷  -- rollback of a key batch
     12 ∷  -- one-step batch
+    13 ∷  -- collection
     17 ∷  -- is bone n shown
     18 ∷  -- how many bones are shown
     32 ∷  -- restore
@@ -61,6 +62,7 @@ opOf b =
     eqb b 10 ⇒ Op.Changes ChangeOp.Rollback else
     eqb b 11 ⇒ Op.Changes ChangeOp.RollbackBatch else
     eqb b 12 ⇒ Op.OneStep else
+    eqb b 13 ⇒ Op.Changes ChangeOp.Collect else
     eqb b 17 ⇒ Op.Asks AskOp.Bone else
     eqb b 18 ⇒ Op.Asks AskOp.Bones else
     eqb b 32 ⇒ Op.Changes ChangeOp.Restore else

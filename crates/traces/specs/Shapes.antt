@@ -40,6 +40,7 @@ shapeOf (Op.Changes ChangeOp.CommitBatch) = withRest (Op.Changes ChangeOp.Commit
 shapeOf (Op.Changes ChangeOp.Rollback) = withKey (Op.Changes ChangeOp.Rollback) 2 false
 shapeOf (Op.Changes ChangeOp.RollbackBatch) = withRest (Op.Changes ChangeOp.RollbackBatch) 2 false
 shapeOf Op.OneStep = withRest Op.OneStep 3 false
+shapeOf (Op.Changes ChangeOp.Collect) = withNumbers (Op.Changes ChangeOp.Collect) 1
 shapeOf (Op.Asks AskOp.Bone) = withRow (Op.Asks AskOp.Bone) 1
 shapeOf (Op.Asks AskOp.Bones) = withRow (Op.Asks AskOp.Bones) 0
 shapeOf (Op.Changes ChangeOp.Restore) = withRest (Op.Changes ChangeOp.Restore) 0 false

@@ -22,6 +22,7 @@ pub enum ChangeOp {
     CommitBatch,
     Rollback,
     RollbackBatch,
+    Collect,
     Restore,
 }
 
@@ -85,6 +86,7 @@ pub fn known_op(byte: u8) -> bool
         10, // rollback
         11, // rollback of a key batch
         12, // one-step batch
+        13, // collection
         17, // is bone n shown
         18, // how many bones are shown
         32, // restore

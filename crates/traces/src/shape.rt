@@ -110,6 +110,7 @@ pub(crate) fn shape_of(byte: u8) -> Shape
         10 => with_key(Op::Changes(ChangeOp::Rollback), 2, false),
         11 => with_rest(Op::Changes(ChangeOp::RollbackBatch), 2, false),
         12 => with_rest(Op::OneStep, 3, false),
+        13 => with_numbers(Op::Changes(ChangeOp::Collect), 1),
         17 => with_row(Op::Asks(AskOp::Bone), 1),
         18 => with_row(Op::Asks(AskOp::Bones), 0),
         32 => with_rest(Op::Changes(ChangeOp::Restore), 0, false),

@@ -5,4 +5,5 @@ pub mod EntryPairLaws
 pub mod SortedPlaceLaws
 pub mod PutsMatchLaws
 pub mod SortedLaws
+pub mod EachLaws
 pub mod VerdictLaws

@@ -4,34 +4,40 @@ use Prim.Native.Nat.{ℕ, _+_, _≤_}
 use native.Mathlib.Omega.{arith}
 use mathlib.Core.Path.{_≡_, refl, sym, _∙_, ap, ap₂}
 use mathlib.Core.Bool.{Bool, true, false, not, _&&_, and-false, and-assoc, and-comm, true≢false, false≢true}
-use mathlib.Core.List.{List, _++_, map}
+use mathlib.Core.List.{List, _++_, map, map-map}
 use mathlib.Core.Option.{Option, none, some}
 use lib.ListN.{length, take, drop, replicate, length-append, length-replicate}
 use lib.Seq.{length-take-le, take-at}
 use borrow.Author.Tests.{ne-eqb, not-true, not-false}
 use Rattle.forms.specs.Bytes.{Bytes}
-use Rattle.forms.specs.Row.{Row, rowForm}
+use Rattle.forms.specs.Row.{rowForm}
 use Rattle.rules.specs.declared.answers.Answer.the-variants.{Accepted, No}
 use Rattle.rules.specs.declared.room.Load.{Load}
 use Rattle.rules.specs.Answers.{_▸_, need}
-use Rattle.rules.specs.Box.{Box, KeyLine, Default, ordered}
+use Rattle.rules.specs.Box.{KeyLine, Default, ordered}
+use Rattle.rules.specs.Calls.{State}
 use Rattle.rules.specs.Room.{fits, Fits, loadOf, roomFor}
 use Rattle.rules.specs.Image.{Image, image}
-use Rattle.rules.specs.Restore.{allGood, noSecond, likeDefault, likeLock, likeWrite, hasDefault, goodImage, imageLines, lockHasDefault, pointedTo, likeLine, healthyImage, boxOf, restoreSteps, restoreTo, restore}
+use Rattle.rules.specs.Restore.{allGood, noSecond, likeDefault, likeLock, likeWrite, hasDefault, goodImage, imageLines, lockHasDefault, pointedTo, likeLine, healthyImage, lockAbove, flooredImage, boxOf, stateOf, restoreSteps, restoreTo, restore}
 use Rattle.rules.proofs.RoomLaws.{fits-out}
 use Rattle.seqs.proofs.Tests.{and-left, and-right, and-both}
 use Rattle.laws.proofs.LoadLaws.{load-eq}
-use Rattle.laws.proofs.SettleLaws.{settle-answer}
+use Rattle.laws.proofs.SettleLaws.{settleState-answer}
 use Rattle.laws.proofs.StepLaws.{need-true}
 use Rattle.orders.specs.declared.marks.By.the-variants.{Rows, Pairs, Lines}
 use Rattle.orders.specs.Marks.{beforeAt}
 use Rattle.orders.specs.Sorts.{sorted, Sorted}
 use Rattle.orders.proofs.SortLaws.{sorted-length}
+use Rattle.images.specs.declared.checks.Form.{Form}
+use Rattle.images.specs.declared.checks.Form.the-variants.{New}
+use Rattle.images.specs.declared.entries.Section.the-variants as sections
 use Rattle.images.specs.declared.sections.Sections.{Sections}
+use Rattle.images.specs.Entries.{rawAt}
+use Rattle.images.specs.Good.{keyLockOf}
 use Rattle.images.specs.Sections.{Enough, isGood, imageOf, rowAt, lineAt, Listed, SectionsAt, noSections}
 use Rattle.images.proofs.TestLaws.{fails, holds, and-out}
 use Rattle.verdicts.specs.Puts.{putsOf, samePairs, putsMatch}
-use Rattle.verdicts.specs.Verdicts.{isSound, AlikeAsk, Alike, JudgeAsk, loadFrom, Judged, DecideAsk, VerdictAsk, Decided}
+use Rattle.verdicts.specs.Verdicts.{isSound, locksAbove, AlikeAsk, Alike, JudgeAsk, loadFrom, Judged, DecideAsk, VerdictAsk, Decided}
 use Rattle.verdicts.proofs.SortedLaws.{and-cross, sorted-once}
 use Rattle.verdicts.proofs.SortedPlaceLaws.{likes-rows, likes-pairs, rows-in-order, rows-placed, rows-once, pairs-in-order, pairs-once, lines-placed, lines-once}
 use Rattle.verdicts.proofs.EntryPairLaws.{lineHas, lines-have, pairs-match}
@@ -49,9 +55,9 @@ in-turn true true w hw hl p n = and-cross w hw (hl && p) n ∙ ap₂ _&&_ (and-c
     go w hw false p n = sym (and-false n)
     go w hw true p n = and-comm (p && w) (n && hw) ∙ and-assoc n hw (p && w) ∙ ap (λ (b : Bool). n && b) (sym (and-assoc hw p w))
 
-module _ {s : Bytes} {i : Sections} {ds ls ws : List ℕ} (v : Listed rowForm s i ds ls ws) where
+module _ {s : Bytes} {i : Sections} {ds ls ws : List ℕ} (v : Listed New s i ds ls ws) where
   abbrev img : Image
-  img = imageOf s (v .table) ds ls ws
+  img = imageOf s (v .table) (i .floor) ds ls ws
 
   abbrev lines : List KeyLine
   lines = imageLines img
@@ -68,64 +74,81 @@ module _ {s : Bytes} {i : Sections} {ds ls ws : List ℕ} (v : Listed rowForm s 
   abbrev apart : Bool
   apart = noSecond likeLock (img .locks) && noSecond likeWrite (img .writes)
 
-  sound-is : isSound (image s) ≡ once && (paired && (pointed && apart))
+  abbrev above : Bool
+  above = locksAbove s (i .floor) ls
+
+  above-is : flooredImage img ≡ above
+  unfolding flooredImage
+  above-is = ap (allGood (lockAbove (i .floor))) (map-map keyLockOf (rawAt sections.Lock s) ls)
+
+  sound-is : isSound (image s) ≡ above && (once && (paired && (pointed && apart)))
   unfolding goodImage healthyImage
   sound-is =
       ap isSound (v .is)
-      ∙ ap (λ (b : Bool). (b && once && noSecond likeLock (img .locks) && noSecond likeWrite (img .writes) && allGood (hasDefault (img .defaults)) (img .writes)) && healthyImage img)
+      ∙ and-comm (goodImage img && healthyImage img) (flooredImage img)
+      ∙ ap₂ _&&_ above-is
+      (ap (λ (b : Bool). (b && once && noSecond likeLock (img .locks) && noSecond likeWrite (img .writes) && allGood (hasDefault (img .defaults)) (img .writes)) && healthyImage img)
       (and-both _ _ (and-both _ _ (and-both _ _ (ap not (ne-eqb (v .table) 0 (v .some-table))) (v .good-defaults)) (v .good-locks)) (v .good-writes))
       ∙ in-turn once (noSecond likeLock (img .locks)) (noSecond likeWrite (img .writes)) (allGood (hasDefault (img .defaults)) (img .writes)) (allGood (lockHasDefault (img .defaults)) (img .locks)) (allGood (pointedTo lines) (img .defaults)) paired
-      ∙ ap (λ (b : Bool). once && (paired && ((b && allGood (pointedTo lines) (img .defaults)) && apart))) (sym (lines-have (img .defaults) (img .locks) (img .writes)))
+      ∙ ap (λ (b : Bool). once && (paired && ((b && allGood (pointedTo lines) (img .defaults)) && apart))) (sym (lines-have (img .defaults) (img .locks) (img .writes))))
 
   bad : {ds′ ps′ : List ℕ} → isSound (image s) ≡ false → Alike s i ds ls ws false ds′ ps′
   bad e = record { is = sym e; rows = λ h. absurd (false≢true h); lines = λ h. absurd (false≢true h) }
 
-  module _ {d : Bool} {ds′ : List ℕ} (dv : Sorted (beforeAt Rows s) ds d ds′) where
-    d-is : d ≡ once
-    d-is = dv .ascends ∙ ap (ordered (beforeAt Rows s)) (dv .is) ∙ rows-once rowForm (v .table) s 4 (v .lat) ds (v .defaults)
+  module _ {a : Bool} (av : a ≡ locksAbove s (i .floor) ls) where
+    pub alike-above : {ds′ ps′ : List ℕ} → not a ≡ true → Alike s i ds ls ws false ds′ ps′
+    alike-above h = bad (sound-is ∙ ap (λ (b : Bool). b && (once && (paired && (pointed && apart)))) (fails av h))
 
-    pub alike-rows : {ps′ : List ℕ} → not d ≡ true → Alike s i ds ls ws false ds′ ps′
-    alike-rows h = bad (sound-is ∙ ap (λ (b : Bool). b && (paired && (pointed && apart))) (fails d-is h))
+    module _ (ag : not a ≡ false) where
+      left-all : isSound (image s) ≡ once && (paired && (pointed && apart))
+      left-all = sound-is ∙ ap (λ (b : Bool). b && (once && (paired && (pointed && apart)))) (holds av ag)
 
-    module _ (dg : not d ≡ false) {p : Bool} {ps : List ℕ} (pv : Sorted (beforeAt (Pairs (i .writesat)) s) (ls ++ ws) p ps) where
-      p-is : p ≡ paired
-      p-is = pv .ascends ∙ ap (ordered (beforeAt (Pairs (i .writesat)) s)) (pv .is) ∙ pairs-once rowForm (v .table) s (v .lat) (i .writesat) (length s) ls ws (v .locks) (v .writes)
+      module _ {d : Bool} {ds′ : List ℕ} (dv : Sorted (beforeAt Rows s) ds d ds′) where
+        d-is : d ≡ once
+        d-is = dv .ascends ∙ ap (ordered (beforeAt Rows s)) (dv .is) ∙ rows-once rowForm (v .table) s (v .begin) (v .lat) ds (v .defaults)
 
-      left-two : isSound (image s) ≡ paired && (pointed && apart)
-      left-two = sound-is ∙ ap (λ (b : Bool). b && (paired && (pointed && apart))) (holds d-is dg)
+        pub alike-rows : {ps′ : List ℕ} → not d ≡ true → Alike s i ds ls ws false ds′ ps′
+        alike-rows h = bad (left-all ∙ ap (λ (b : Bool). b && (paired && (pointed && apart))) (fails d-is h))
 
-      pub alike-pairs : {ps′ : List ℕ} → not p ≡ true → Alike s i ds ls ws false ds′ ps′
-      alike-pairs h = bad (left-two ∙ ap (λ (b : Bool). b && (pointed && apart)) (fails p-is h))
+        module _ (dg : not d ≡ false) {p : Bool} {ps : List ℕ} (pv : Sorted (beforeAt (Pairs (i .writesat)) s) (ls ++ ws) p ps) where
+          p-is : p ≡ paired
+          p-is = pv .ascends ∙ ap (ordered (beforeAt (Pairs (i .writesat)) s)) (pv .is) ∙ pairs-once rowForm (v .table) s (v .lat) (i .writesat) (length s) ls ws (v .locks) (v .writes)
 
-      module _ (pg : not p ≡ false) {m : Bool} (mv : m ≡ putsMatch s (i .writesat) ds′ ps) where
-        m-is : m ≡ pointed
-        m-is =
-            mv
-            ∙ ap₂ (λ (a : List KeyLine) (b : List Default). samePairs (putsOf a) b) (ap (map (lineAt s (i .writesat))) (pv .is) ∙ pairs-in-order rowForm (v .table) s (v .lat) (i .writesat) (length s) ls ws (v .locks) (v .writes))
-            (ap (map (rowAt s)) (dv .is) ∙ rows-in-order rowForm (v .table) s 4 (v .lat) ds (v .defaults))
-            ∙ pairs-match lines (img .defaults) (sorted-once likes-pairs lines ∙ holds p-is pg) (sorted-once likes-rows (img .defaults) ∙ holds d-is dg)
+          left-two : isSound (image s) ≡ paired && (pointed && apart)
+          left-two = left-all ∙ ap (λ (b : Bool). b && (paired && (pointed && apart))) (holds d-is dg)
 
-        left-one : isSound (image s) ≡ pointed && apart
-        left-one = left-two ∙ ap (λ (b : Bool). b && (pointed && apart)) (holds p-is pg)
+          pub alike-pairs : {ps′ : List ℕ} → not p ≡ true → Alike s i ds ls ws false ds′ ps′
+          alike-pairs h = bad (left-two ∙ ap (λ (b : Bool). b && (pointed && apart)) (fails p-is h))
 
-        pub alike-puts : {ps′ : List ℕ} → not m ≡ true → Alike s i ds ls ws false ds′ ps′
-        alike-puts h = bad (left-one ∙ ap (λ (b : Bool). b && apart) (fails m-is h))
+          module _ (pg : not p ≡ false) {m : Bool} (mv : m ≡ putsMatch s (i .writesat) ds′ ps) where
+            m-is : m ≡ pointed
+            m-is =
+                mv
+                ∙ ap₂ (λ (a : List KeyLine) (b : List Default). samePairs (putsOf a) b) (ap (map (lineAt s (i .writesat))) (pv .is) ∙ pairs-in-order rowForm (v .table) s (v .lat) (i .writesat) (length s) ls ws (v .locks) (v .writes))
+                (ap (map (rowAt s)) (dv .is) ∙ rows-in-order rowForm (v .table) s (v .begin) (v .lat) ds (v .defaults))
+                ∙ pairs-match lines (img .defaults) (sorted-once likes-pairs lines ∙ holds p-is pg) (sorted-once likes-rows (img .defaults) ∙ holds d-is dg)
 
-        pub alike-end : not m ≡ false → {l : Bool} {ps′ : List ℕ} → Sorted (beforeAt (Lines (i .writesat)) s) (ls ++ ws) l ps′ → Alike s i ds ls ws l ds′ ps′
-        alike-end h lv = record {
-          is =
-              lv .ascends ∙ ap (ordered (beforeAt (Lines (i .writesat)) s)) (lv .is) ∙ lines-once rowForm (v .table) s (v .lat) (i .writesat) (length s) ls ws (v .locks) (v .writes)
-              ∙ sym (left-one ∙ ap (λ (b : Bool). b && apart) (holds m-is h));
-          rows = λ e. dv .is;
-          lines = λ e. lv .is;
-        }
+            left-one : isSound (image s) ≡ pointed && apart
+            left-one = left-two ∙ ap (λ (b : Bool). b && (pointed && apart)) (holds p-is pg)
+
+            pub alike-puts : {ps′ : List ℕ} → not m ≡ true → Alike s i ds ls ws false ds′ ps′
+            alike-puts h = bad (left-one ∙ ap (λ (b : Bool). b && apart) (fails m-is h))
+
+            pub alike-end : not m ≡ false → {l : Bool} {ps′ : List ℕ} → Sorted (beforeAt (Lines (i .writesat)) s) (ls ++ ws) l ps′ → Alike s i ds ls ws l ds′ ps′
+            alike-end h lv = record {
+              is =
+                  lv .ascends ∙ ap (ordered (beforeAt (Lines (i .writesat)) s)) (lv .is) ∙ lines-once rowForm (v .table) s (v .lat) (i .writesat) (length s) ls ws (v .locks) (v .writes)
+                  ∙ sym (left-one ∙ ap (λ (b : Bool). b && apart) (holds m-is h));
+              rows = λ e. dv .is;
+              lines = λ e. lv .is;
+            }
 
 -- ---- the ways out of `judge`
 
 not-sound : (o : Option Image) → isGood rowForm o ≡ false → isSound o ≡ false
 unfolding goodImage
 not-sound none e = refl
-not-sound (some i) e = and-out _ _ e
+not-sound (some i) e = and-out _ _ (and-out _ _ e)
 
 -- a list that was sorted in place
 part : (lt : ℕ → ℕ → Bool) (n : ℕ) (l y x : List ℕ) → length x ≡ n → y ≡ sorted lt x → take n (y ++ drop n l) ≡ sorted lt x
@@ -134,7 +157,7 @@ part lt n l y x h e = take-at y (drop n l) n (ap length e ∙ sorted-length lt x
 part-few : (lt : ℕ → ℕ → Bool) (n : ℕ) (l y x : List ℕ) → length x ≡ n → y ≡ sorted lt x → n ≤ length (y ++ drop n l)
 part-few lt n l y x h e = omega (arith, ap length e, sorted-length lt x, length-append y (drop n l))
 
-module _ {form : Row → Bool} {s : Bytes} {i : Sections} {ds ls ws : List ℕ} (v : SectionsAt form s i ds ls ws) where
+module _ {form : Form} {s : Bytes} {i : Sections} {ds ls ws : List ℕ} (v : SectionsAt form s i ds ls ws) where
   pub judge-asks : not (i .ok) ≡ false → (ps room : List ℕ) → length ls + length ws ≤ length ps → length ds ≤ length room → length ps ≤ length room
       → AlikeAsk form s i (take (i .defaults) ds) (take (i .locks) ls) (take (i .writes) ws) (take (i .locks + i .writes) ps) room
   judge-asks ok ps room a b c =
@@ -144,7 +167,7 @@ module _ {form : Row → Bool} {s : Bytes} {i : Sections} {ds ls ws : List ℕ} 
       let m = length-take-le (i .locks + i .writes) ps (omega (arith, v .few-locks, v .few-writes)) in
       record { listed = v .good ok; lines = omega arith; rows-room = omega (arith, v .few-defaults); lines-room = omega (arith, v .few-locks, v .few-writes) }
 
-module _ {s : Bytes} {i : Sections} {ds ls ws : List ℕ} (v : SectionsAt rowForm s i ds ls ws) where
+module _ {s : Bytes} {i : Sections} {ds ls ws : List ℕ} (v : SectionsAt New s i ds ls ws) where
   abbrev n : ℕ
   n = i .locks + i .writes
 
@@ -172,16 +195,19 @@ module _ {s : Bytes} {i : Sections} {ds ls ws : List ℕ} (v : SectionsAt rowFor
         let l = take (i .locks) ls in
         let m = take (i .writes) ws in
         let dl = length-take-le (i .defaults) ds (v .few-defaults) in
+        let img′ = imageOf s (w .table) (i .floor) d l m in
         let both = sym (sym t ∙ a .is ∙ ap isSound (w .is)) in
         record {
           bad = λ g. absurd (false≢true (sym ok ∙ g));
           good = λ g. record {
-            img = imageOf s (w .table) d l m;
+            img = imageOf s (w .table) (i .floor) d l m;
             is = w .is;
-            good = and-left _ _ both;
-            healthy = and-right (goodImage (imageOf s (w .table) d l m)) _ both;
-            load-is = load-eq (loadFrom i) _ (omega (arith, w .bytes-is, length-take-le (i .locks) ls (v .few-locks), length-take-le (i .writes) ws (v .few-writes))) ∙ load-at s (w .table) d l m;
-            rows-are = ap (map (rowAt s)) (part (beforeAt Rows s) (i .defaults) ds ds′ d dl (a .rows t)) ∙ rows-placed rowForm (w .table) s 4 (w .lat) d (w .defaults);
+            good = and-left _ _ (and-left _ _ both);
+            healthy = and-right (goodImage img′) _ (and-left _ _ both);
+            floored = and-right (goodImage img′ && healthyImage img′) _ both;
+            floor-is = refl;
+            load-is = load-eq (loadFrom i) _ (omega (arith, w .bytes-is, length-take-le (i .locks) ls (v .few-locks), length-take-le (i .writes) ws (v .few-writes))) ∙ load-at s (w .table) (i .floor) d l m;
+            rows-are = ap (map (rowAt s)) (part (beforeAt Rows s) (i .defaults) ds ds′ d dl (a .rows t)) ∙ rows-placed rowForm (w .table) s (w .begin) (w .lat) d (w .defaults);
             lines-are =
                 ap (map (lineAt s (i .writesat))) (part (beforeAt (Lines (i .writesat)) s) n ps ps′ (l ++ m) length-is (a .lines t)) ∙ lines-placed rowForm (w .table) s (w .lat) (i .writesat) (length s) l m (w .locks) (w .writes);
           };
@@ -191,23 +217,30 @@ module _ {s : Bytes} {i : Sections} {ds ls ws : List ℕ} (v : SectionsAt rowFor
 
 -- ---- restore's answer
 
-bad-answer : (o : Option Image) (b : Box) → isSound o ≡ false → restoreTo o b .answer ≡ No 13
+bad-answer : (o : Option Image) (st : State) → isSound o ≡ false → restoreTo o st .answer ≡ No 13
 unfolding restoreTo restoreSteps need _▸_
-bad-answer none b e = refl
-bad-answer (some i) b e = settle-answer (restoreSteps i) (boxOf i) b ∙ go (goodImage i) (healthyImage i) e
+bad-answer none st e = refl
+bad-answer (some i) st e = settleState-answer (restoreSteps i) (stateOf i) st ∙ go (goodImage i) (healthyImage i) (flooredImage i) e
   where
-    go : (g h : Bool) → g && h ≡ false → need g 13 ▸ need h 13 ▸ need (roomFor (boxOf i)) 11 ≡ No 13
-    go true true q = absurd (true≢false q)
-    go true false q = refl
-    go false h q = refl
+    go : (g h f : Bool) → g && h && f ≡ false → need g 13 ▸ need h 13 ▸ need f 13 ▸ need (roomFor (boxOf i)) 11 ≡ No 13
+    go true true true q = absurd (true≢false q)
+    go true true false q = refl
+    go true false f q = refl
+    go false h f q = refl
 
-good-answer : (i : Image) (b : Box) → goodImage i ≡ true → healthyImage i ≡ true → restoreTo (some i) b .answer ≡ need (fits (loadOf (boxOf i))) 11
+good-answer : (i : Image) (st : State) → isSound (some i) ≡ true → restoreTo (some i) st .answer ≡ need (fits (loadOf (boxOf i))) 11
 unfolding restoreTo restoreSteps need _▸_ roomFor
-good-answer i b g h = settle-answer (restoreSteps i) (boxOf i) b ∙ ap₂ (λ (p q : Bool). need p 13 ▸ need q 13 ▸ need (roomFor (boxOf i)) 11) g h
+good-answer i st e = settleState-answer (restoreSteps i) (stateOf i) st ∙ go (goodImage i) (healthyImage i) (flooredImage i) e
+  where
+    go : (g h f : Bool) → g && h && f ≡ true → need g 13 ▸ need h 13 ▸ need f 13 ▸ need (roomFor (boxOf i)) 11 ≡ need (roomFor (boxOf i)) 11
+    go true true true q = refl
+    go true true false q = absurd (false≢true q)
+    go true false f q = absurd (false≢true q)
+    go false h f q = absurd (false≢true q)
 
-refused : (s : Bytes) (n : ℕ) {load : Load} {writesat : ℕ} {rows lines : List ℕ} → ((b : Box) → restore s b .answer ≡ No n) → Decided s (record { answer = No n; load = load; writesat = writesat }) rows lines
+refused : (s : Bytes) (n : ℕ) {load : Load} {floor writesat : ℕ} {rows lines : List ℕ} → ((st : State) → restore s st .answer ≡ No n) → Decided s (record { answer = No n; load = load; floor = floor; writesat = writesat }) rows lines
 unfolding need
-refused s n e = record { answer-is = λ b. sym (e b); placed = λ h. absurd (false≢true (need-true false n h)) }
+refused s n e = record { answer-is = λ st. sym (e st); placed = λ h. absurd (false≢true (need-true false n h)) }
 
 -- ---- the ways out of `decide`
 
@@ -221,20 +254,20 @@ module _ {s : Bytes} {i : Sections} {ds ps rows lines : List ℕ} (v : DecideAsk
   abbrev all : ℕ
   all = i .locks + i .writes
 
-  pub decided-bad : {load : Load} {writesat : ℕ} → not (i .ok) ≡ true → Decided s (record { answer = No 13; load = load; writesat = writesat }) rows lines
+  pub decided-bad : {load : Load} {floor writesat : ℕ} → not (i .ok) ≡ true → Decided s (record { answer = No 13; load = load; floor = floor; writesat = writesat }) rows lines
   unfolding restore
-  decided-bad h = refused s 13 (λ b. bad-answer (image s) b (v .judged .bad h))
+  decided-bad h = refused s 13 (λ st. bad-answer (image s) st (v .judged .bad h))
 
   module _ (ok : not (i .ok) ≡ false) {f : Bool} (fv : f ≡ fits (loadFrom i)) where
-    answer : (b : Box) → restore s b .answer ≡ need f 11
+    answer : (st : State) → restore s st .answer ≡ need f 11
     unfolding restore
-    answer b =
+    answer st =
         let g = v .judged .good ok in
-        ap (λ (o : Option Image). restoreTo o b .answer) (g .is) ∙ good-answer (g .img) b (g .good) (g .healthy) ∙ ap (λ (t : Bool). need t 11) (sym (fv ∙ ap fits (g .load-is)))
+        ap (λ (o : Option Image). restoreTo o st .answer) (g .is) ∙ good-answer (g .img) st (and-both _ _ (and-both _ _ (g .good) (g .healthy)) (g .floored)) ∙ ap (λ (t : Bool). need t 11) (sym (fv ∙ ap fits (g .load-is)))
 
-    pub decided-full : {writesat : ℕ} → not f ≡ true → Decided s (record { answer = No 11; load = loadFrom i; writesat = writesat }) rows lines
+    pub decided-full : {floor writesat : ℕ} → not f ≡ true → Decided s (record { answer = No 11; load = loadFrom i; floor = floor; writesat = writesat }) rows lines
     unfolding need
-    decided-full h = refused s 11 (λ b. answer b ∙ ap (λ (t : Bool). need t 11) (not-true f h))
+    decided-full h = refused s 11 (λ st. answer st ∙ ap (λ (t : Bool). need t 11) (not-true f h))
 
     module _ (fg : not f ≡ false) where
       fit : Fits (loadFrom i)
@@ -253,17 +286,19 @@ module _ {s : Bytes} {i : Sections} {ds ps rows lines : List ℕ} (v : DecideAsk
       lines-fit = omega (arith, length-take-le all lines lines-in, v .judged .few-lines)
 
       pub decided : {x y : List ℕ} → x ≡ take (length (take (i .defaults) rows)) ds → y ≡ take (length (take all lines)) ps
-          → Decided s (record { answer = Accepted; load = loadFrom i; writesat = i .writesat }) (x ++ drop (i .defaults) rows) (y ++ drop all lines)
+          → Decided s (record { answer = Accepted; load = loadFrom i; floor = i .floor; writesat = i .writesat }) (x ++ drop (i .defaults) rows) (y ++ drop all lines)
       unfolding need
       decided {x} {y} p q =
           let g = v .judged .good ok in
           record {
-            answer-is = λ b. sym (answer b ∙ ap (λ (t : Bool). need t 11) (not-false f fg));
+            answer-is = λ st. sym (answer st ∙ ap (λ (t : Bool). need t 11) (not-false f fg));
             placed = λ e. record {
               img = g .img;
               is = g .is;
               good = g .good;
               healthy = g .healthy;
+              floored = g .floored;
+              floor-is = g .floor-is;
               fit = fit;
               load-is = g .load-is;
               rows-are = ap (map (rowAt s)) (copied (i .defaults) ds rows x rows-in (v .judged .few-rows) p) ∙ g .rows-are;

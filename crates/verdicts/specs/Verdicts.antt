@@ -7,17 +7,21 @@ use mathlib.Core.Option.{Option, none, some}
 use Prim.Native.Nat.{ℕ, _+_, _≤_}
 use lib.ListN.{length, take}
 use Rattle.forms.specs.Bytes.{Bytes}
-use Rattle.forms.specs.Row.{Row}
 use Rattle.rules.specs.declared.answers.Answer.the-variants.{Accepted}
 use Rattle.rules.specs.declared.room.Load.{Load}
-use Rattle.rules.specs.Box.{Box}
+use Rattle.rules.specs.Calls.{State}
 use Rattle.rules.specs.Room.{loadOf}
 use Rattle.rules.specs.Image.{Image, image}
-use Rattle.rules.specs.Restore.{goodImage, healthyImage, boxOf, restore}
+use Rattle.rules.specs.Page.{KeyLock}
+use Rattle.rules.specs.Restore.{allGood, goodImage, healthyImage, lockAbove, flooredImage, boxOf, restore}
 use Rattle.orders.specs.declared.marks.By.the-variants.{Rows, Lines}
 use Rattle.orders.specs.Marks.{beforeAt}
 use Rattle.orders.specs.Sorts.{sorted}
+use Rattle.images.specs.declared.checks.Form.{Form}
+use Rattle.images.specs.declared.entries.Section.the-variants.{Lock}
 use Rattle.images.specs.declared.sections.Sections.{Sections}
+use Rattle.images.specs.Entries.{rawAt}
+use Rattle.images.specs.Good.{keyLockOf}
 use Rattle.images.specs.Sections.{Room, rowAt, lineAt, Placed, Listed}
 use Rattle.verdicts.specs.declared.outcome.ImageVerdict.{ImageVerdict}
 
@@ -26,10 +30,18 @@ use Rattle.verdicts.specs.declared.outcome.ImageVerdict.{ImageVerdict}
 -- bytes that are an image that restore lets in, if it has room
 abbrev pub isSound : Option Image → Bool
 isSound none = false
-isSound (some i) = goodImage i && healthyImage i
+isSound (some i) = goodImage i && healthyImage i && flooredImage i
+
+-- the lock at a place
+abbrev pub lockAt : Bytes → ℕ → KeyLock
+lockAt s p = keyLockOf (rawAt Lock s p)
+
+-- "an image with such a lock is 13", a lock at or below the image's floor: none of those at these places is
+abbrev pub locksAbove : Bytes → ℕ → List ℕ → Bool
+locksAbove s floor ls = allGood (lockAbove floor) (map (lockAt s) ls)
 
 -- the places of an image whose entries are good, each by itself, with room for those of all lines, and to sort them
-pub record AlikeAsk (form : Row → Bool) (s : Bytes) (i : Sections) (ds ls ws ps room : List ℕ) : Type 0 where
+pub record AlikeAsk (form : Form) (s : Bytes) (i : Sections) (ds ls ws ps room : List ℕ) : Type 0 where
   pub listed : Listed form s i ds ls ws
   pub lines : length ps ≡ length ls + length ws
   pub rows-room : length ds ≤ length room
@@ -60,6 +72,8 @@ pub record InPlace (s : Bytes) (i : Sections) (ds ps : List ℕ) : Type 0 where
   pub is : image s ≡ some img
   pub good : goodImage img ≡ true
   pub healthy : healthyImage img ≡ true
+  pub floored : flooredImage img ≡ true
+  pub floor-is : i .floor ≡ img .floor
   pub load-is : loadFrom i ≡ loadOf (boxOf img)
   pub rows-are : map (rowAt s) ds ≡ boxOf img .defaults
   pub lines-are : map (lineAt s (i .writesat)) ps ≡ boxOf img .lines
@@ -87,5 +101,5 @@ pub record VerdictAsk (s : Bytes) (ds ls ws ps room rows lines : List ℕ) : Typ
 
 -- the answer is restore's, whatever the image replaces; of an accepted image the two lists have the places of its box
 pub record Decided (s : Bytes) (v : ImageVerdict) (rows lines : List ℕ) : Type 0 where
-  pub answer-is : (b : Box) → v .answer ≡ restore s b .answer
-  pub placed : v .answer ≡ Accepted → Placed s (v .load) (v .writesat) rows lines
+  pub answer-is : (st : State) → v .answer ≡ restore s st .answer
+  pub placed : v .answer ≡ Accepted → Placed s (v .load) (v .floor) (v .writesat) rows lines

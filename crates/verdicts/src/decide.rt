@@ -11,13 +11,14 @@ use rules::Answer;
 use rules::Load;
 use rules::load_fits;
 
-fn refusal(number: u8, load: Load, writesat: usize) -> ImageVerdict
-    ensures { λ v. ⌜ v ≡ record { answer = Answer.No number; load = load; writesat = writesat } ⌝ }
+fn refusal(number: u8, load: Load, i: Sections) -> ImageVerdict
+    ensures { λ v. ⌜ v ≡ record { answer = Answer.No number; load = load; floor = i .floor; writesat = i .writesat } ⌝ }
 {
     ImageVerdict {
         answer: Answer::No(number),
         load: load,
-        writesat: writesat,
+        floor: i.floor,
+        writesat: i.writesat,
     }
 }
 
@@ -36,7 +37,6 @@ fn decide(
     let d = i.defaults;
     let l = i.locks;
     let n = l + i.writes;
-    let writesat = i.writesat;
     let load = Load {
         lines: n,
         locks: l,
@@ -44,17 +44,18 @@ fn decide(
         bytes: i.bytes,
     };
     if !i.ok {
-        return refusal(13, load, writesat);
+        return refusal(13, load, i);
     }
     if !load_fits(load) {
-        return refusal(11, load, writesat);
+        return refusal(11, load, i);
     }
     copy(ds, &mut rows[..d]);
     copy(ps, &mut lines[..n]);
     ImageVerdict {
         answer: Answer::Accepted,
         load: load,
-        writesat: writesat,
+        floor: i.floor,
+        writesat: i.writesat,
     }
 }
 

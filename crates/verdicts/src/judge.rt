@@ -1,6 +1,7 @@
 // An image judged whole: each entry by itself, and then its entries held against each other.
-ghost use Rattle.forms.specs.Row.{rowForm};
+ghost use Rattle.images.specs.declared.checks.Form.the-variants.{New};
 ghost use Rattle.verdicts.specs.Verdicts.{AlikeAsk, Alike, JudgeAsk, Judged};
+use crate::locks::locks_above;
 use crate::puts::puts_match;
 use images::Form;
 use images::sections::Sections;
@@ -11,8 +12,8 @@ use orders::order;
 use orders::order_both;
 
 // The entries of an image held against each other: "no second default or write for one key and stamp, no second lock for a key, every write
-// Put has its default"; and "a Put lock without its default; a default to which no Put lock or Put record of its key and start points; two lines
-// of one key and start".
+// Put has its default"; "a Put lock without its default; a default to which no Put lock or Put record of its key and start points; two lines
+// of one key and start"; and no lock at or below the image's floor.
 fn entries_agree(
     s: &[u8],
     i: Sections,
@@ -22,10 +23,13 @@ fn entries_agree(
     ps: &mut [u32],
     room: &mut [u32],
 ) -> bool
-    requires { ⌜ AlikeAsk rowForm (now s) i (now ds) (now ls) (now ws) (now ps) (now room) ⌝ }
+    requires { ⌜ AlikeAsk New (now s) i (now ds) (now ls) (now ws) (now ps) (now room) ⌝ }
     ensures { λ r. ⌜ Alike (now (s .entry)) i (now (ds .entry)) (now (ls .entry)) (now (ws .entry)) r (now (ds .exit)) (now (ps .exit)) ⌝ }
 {
     let writesat = i.writesat;
+    if !locks_above(s, i.floor, ls) {
+        return false;
+    }
     if !order(s, By::Rows, ds, room) {
         return false;
     }

@@ -26,15 +26,15 @@ count-in f nothing out = omega arith
 count-in f (refused v) out = omega arith
 count-in f (shown p) out = count-if (leb (length (pageBytes f p)) (length out)) (pageBytes f p) out refl
 
-pub page-within : (a : Bounds) (t : ℕ) (l : Limits) (b : Box) (out : Bytes) {r : Wrote} {out′ : Bytes} → WroteAs (scanPage a t l b out) r out′ → r .count ≤ length out
+pub page-within : (floor : ℕ) (a : Bounds) (t : ℕ) (l : Limits) (b : Box) (out : Bytes) {r : Wrote} {out′ : Bytes} → WroteAs (scanPage floor a t l b out) r out′ → r .count ≤ length out
 unfolding scanPage
-page-within a t l b out v = omega (arith, v .count-is, count-in keyRowBytes (page a t l b) out)
+page-within floor a t l b out v = omega (arith, v .count-is, count-in keyRowBytes (page floor a t l b) out)
 
 capture-in : (k : Bool) (bytes out : Bytes) → captureIf k bytes out .count ≤ length out
 unfolding captureIf
 capture-in true bytes out = count-if (leb (length bytes) (length out)) bytes out refl
 capture-in false bytes out = omega arith
 
-pub image-within : (t : ℕ) (b : Box) (out : Bytes) {r : Wrote} {out′ : Bytes} → WroteAs (captureImage t b out) r out′ → r .count ≤ length out
+pub image-within : (floor t : ℕ) (b : Box) (out : Bytes) {r : Wrote} {out′ : Bytes} → WroteAs (captureImage floor t b out) r out′ → r .count ≤ length out
 unfolding captureImage
-image-within t b out v = omega (arith, v .count-is, capture-in (not (eqb t 0)) (imageOf t b) out)
+image-within floor t b out v = omega (arith, v .count-is, capture-in (not (eqb t 0)) (imageOf floor t b) out)

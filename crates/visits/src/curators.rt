@@ -28,7 +28,7 @@ fn say_act(txn: u64, does: &[u8], at: &[u8], number: u64) {
 }
 
 // What was answered, and the store after it.
-fn answered(done: Changed) -> Store
+pub fn answered(done: Changed) -> Store
     ensures { λ r. ⌜ r ≡ done .store ⌝ }
 {
     let answer = done.answer;

@@ -4,10 +4,13 @@ pub mod curators;
 pub mod telling;
 pub mod visitors;
 
+pub use curators::answered;
 pub use curators::commits;
 pub use curators::fills;
 pub use curators::prewrites;
 pub use curators::withdraws;
+pub use telling::say;
+pub use telling::say_answer;
 pub use telling::tell;
 pub use visitors::asks_bones;
 pub use visitors::asks_figures;

@@ -38,12 +38,13 @@ fn meaning_stored(number: u8) {
         10 => say(b"byte limit below the first entry"),
         11 => say(b"no room"),
         12 => say(b"lent buffer shorter than the page"),
-        _ => say(b"image refused"),
+        13 => say(b"image refused"),
+        _ => say(b"below the floor"),
     }
 }
 
 fn meaning(number: u8) {
-    if 13 < number {
+    if 14 < number {
         say(b"no number of the paper");
     } else if 6 < number {
         meaning_stored(number);

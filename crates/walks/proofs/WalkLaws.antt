@@ -8,6 +8,7 @@ use native.Mathlib.Omega.{arith}
 use mathlib.Core.Path.{_≡_, refl, sym, ap, _∙_, subst}
 use mathlib.Core.Bool.{Bool, true, false}
 use mathlib.Core.List.{List, [], _∷_, _++_}
+use lib.Dec.{leb}
 use lib.ListN.{length, set, replicate, length-append}
 use Rattle.seqs.specs.Tables as tables
 use Rattle.seqs.proofs.Tables.{shown-added, table-added, table-empty}
@@ -17,17 +18,18 @@ use Rattle.forms.proofs.NumberLaws.{length-digits}
 use Rattle.rules.specs.declared.answers.Answer.{Answer}
 use Rattle.rules.specs.declared.answers.Answer.the-variants.{Accepted, No, Held}
 use Rattle.rules.specs.Answers.{Reply, shown, refused, ifPassed, need, _▸_}
-use Rattle.rules.specs.Page.{Page, emptyPage, onPage, Bounds, pageArguments, intentArguments, pastEnd, unlessPast, page, intentPage, conflictPage}
+use Rattle.rules.specs.Page.{Page, emptyPage, onPage, Bounds, pageArguments, rowPageSteps, intentArguments, pastEnd, unlessPast, page, intentPage, conflictPage}
 use Rattle.rules.specs.Written.{allBytes, moreByte, pageBytes}
 use Rattle.rules.proofs.EntryWriterLaws.{bytes-snoc}
 use Rattle.store.specs.declared.table.Slot.{Slot}
+use Rattle.rules.proofs.FloorLaws.{page-above, page-on-0}
 use Rattle.store.specs.View.{noSlot}
 use Rattle.walks.specs.declared.turns.Turn.{Turn}
 use Rattle.walks.specs.declared.turns.Turn.the-variants.{On, Stop, Refuse, Add}
 use Rattle.walks.specs.declared.walked.Walked.{Walked}
-use Rattle.walks.specs.Walked.{entryBytes, same, SlotIn, WalkedAs, emptyOf, pageOn, limitsOf, pageBy, pageAsked, walkBy, walkFrom, WalkAsks}
+use Rattle.walks.specs.Walked.{entryBytes, same, SlotIn, WalkedAs, emptyOf, pageOn, limitsOf, pageBy, pageAsked, floorOf, walkBy, walkFrom, WalkAsks}
 use Rattle.walks.specs.Turns.{turnTo, Refusal}
-use borrow.Author.Tests.{ne-eqb}
+use borrow.Author.Tests.{ne-eqb, lt-leb}
 use Rattle.rules.specs.declared.answers.Holder.{Holder}
 use Rattle.rules.specs.Box.{Box}
 use Rattle.store.specs.declared.table.Store.{Store}
@@ -201,39 +203,65 @@ steps-on f Accepted false r = refl
 steps-on f (No n) past r = refl
 steps-on f (Held h) past r = refl
 
--- "Page's argument checks without byte limit": none that is 0
+-- "Page's argument checks without byte limit": none that is 0. A page of locks is one on the floor 0.
 module _ {st : Store} {area : Bytes} {q : PageQuery} (asks : WalkAsks st area q) (a : Bounds) (b : Box) where
-  page-steps : pageAsked q a b ≡ ifPassed (pageArguments (q .limit) (q .bytes) a) (unlessPast (pastEnd (a .resume) (a .to)) (walkFrom q a b (b .lines) 0 0))
+  abbrev floor : ℕ
+  floor = floorOf (q .scan) (st .floor)
+
+  abbrev steps : Answer
+  steps = rowPageSteps floor (q .moment) (q .limit) (q .bytes) a
+
+  page-steps : pageAsked (st .floor) q a b ≡ ifPassed steps (unlessPast (pastEnd (a .resume) (a .to)) (walkFrom q a b (b .lines) 0 0))
   unfolding page intentPage conflictPage pageArguments intentArguments _▸_ need
   page-steps = go (q .scan) (asks .large)
     where
-      go : (s : Scan) → (s ≡ Intents → 1048576 ≤ q .bytes) → pageBy s (q .moment) (limitsOf q) a b ≡ ifPassed (pageArguments (q .limit) (q .bytes) a) (unlessPast (pastEnd (a .resume) (a .to)) (walkBy s (q .moment) (limitsOf q) a b (b .lines) 0 0))
-      go Rows h = steps-on _ (pageArguments (q .limit) (q .bytes) a) (pastEnd (a .resume) (a .to)) _
-      go Intents h = steps-on _ (intentArguments (q .limit) a) (pastEnd (a .resume) (a .to)) _ ∙ sym (rw (ne-eqb (q .bytes) 0 (λ e. omega (arith, h refl))))
-      go Conflicts h = steps-on _ (pageArguments (q .limit) (q .bytes) a) (pastEnd (a .resume) (a .to)) _
+      -- without a floor
+      freed : (s : Scan) (v : Answer) → v ≡ pageArguments (q .limit) (q .bytes) a
+          → ifPassed v (unlessPast (pastEnd (a .resume) (a .to)) (walkBy s (q .moment) (limitsOf q) a b (b .lines) 0 0))
+          ≡ ifPassed (rowPageSteps 0 (q .moment) (q .limit) (q .bytes) a) (unlessPast (pastEnd (a .resume) (a .to)) (walkBy s (q .moment) (limitsOf q) a b (b .lines) 0 0))
+      freed s v e = ap (λ (x : Answer). ifPassed x (unlessPast (pastEnd (a .resume) (a .to)) (walkBy s (q .moment) (limitsOf q) a b (b .lines) 0 0))) (e ∙ sym (page-on-0 (q .moment) (q .limit) (q .bytes) a))
+
+      go : (s : Scan) → (s ≡ Intents → 1048576 ≤ q .bytes)
+          → pageBy (st .floor) s (q .moment) (limitsOf q) a b ≡ ifPassed (rowPageSteps (floorOf s (st .floor)) (q .moment) (q .limit) (q .bytes) a) (unlessPast (pastEnd (a .resume) (a .to)) (walkBy s (q .moment) (limitsOf q) a b (b .lines) 0 0))
+      go Rows h = steps-on _ (rowPageSteps (st .floor) (q .moment) (q .limit) (q .bytes) a) (pastEnd (a .resume) (a .to)) _
+      go Intents h = steps-on _ (intentArguments (q .limit) a) (pastEnd (a .resume) (a .to)) _ ∙ freed Intents (intentArguments (q .limit) a) (sym (rw (ne-eqb (q .bytes) 0 (λ e. omega (arith, h refl)))))
+      go Conflicts h = steps-on _ (pageArguments (q .limit) (q .bytes) a) (pastEnd (a .resume) (a .to)) _ ∙ freed Conflicts (pageArguments (q .limit) (q .bytes) a) refl
+
+  by : (u : Answer) (r : Reply (Page Bytes)) → steps ≡ u → ifPassed u r ≡ ifPassed u (unlessPast (pastEnd (a .resume) (a .to)) (walkFrom q a b (b .lines) 0 0)) → ifPassed u r ≡ pageAsked (st .floor) q a b
+  by u r f g = g ∙ ap (λ (x : Answer). ifPassed x (unlessPast (pastEnd (a .resume) (a .to)) (walkFrom q a b (b .lines) 0 0))) (sym f) ∙ sym page-steps
 
   module _ {v : Answer} (e : v ≡ pageArguments (q .limit) (q .bytes) a) where
-    by : (u : Answer) (r : Reply (Page Bytes)) → v ≡ u → ifPassed u r ≡ ifPassed u (unlessPast (pastEnd (a .resume) (a .to)) (walkFrom q a b (b .lines) 0 0)) → ifPassed u r ≡ pageAsked q a b
-    by u r f g = g ∙ ap (λ (x : Answer). ifPassed x (unlessPast (pastEnd (a .resume) (a .to)) (walkFrom q a b (b .lines) 0 0))) (sym f ∙ e) ∙ sym page-steps
+    -- by what the arguments answer
+    steps-by : {u : Answer} → v ≡ u → steps ≡ u ▸ need (leb floor (q .moment)) 14
+    unfolding rowPageSteps
+    steps-by f = ap (λ (x : Answer). x ▸ need (leb floor (q .moment)) 14) (sym e ∙ f)
 
-    pub judge-no : {n : ℕ} {r : Walked} → v ≡ No n → r ≡ emptyOf (No n) → WalkedAs area (pageAsked q a b) r
-    unfolding ifPassed
-    judge-no {n} f p = empty-walked (No n) (by _ (emptyPage false) f refl) p
+    pub judge-no : {n : ℕ} {r : Walked} → v ≡ No n → r ≡ emptyOf (No n) → WalkedAs area (pageAsked (st .floor) q a b) r
+    unfolding ifPassed _▸_
+    judge-no {n} f p = empty-walked (No n) (by _ (emptyPage false) (steps-by f) refl) p
 
-    pub judge-held : {h : Holder} {r : Walked} → v ≡ Held h → r ≡ emptyOf (Held h) → WalkedAs area (pageAsked q a b) r
-    unfolding ifPassed
-    judge-held {h} f p = empty-walked (Held h) (by _ (emptyPage false) f refl) p
+    pub judge-held : {h : Holder} {r : Walked} → v ≡ Held h → r ≡ emptyOf (Held h) → WalkedAs area (pageAsked (st .floor) q a b) r
+    unfolding ifPassed _▸_
+    judge-held {h} f p = empty-walked (Held h) (by _ (emptyPage false) (steps-by f) refl) p
 
-    module _ (f : v ≡ Accepted) {t : Bool} (g : t ≡ pastEnd (a .resume) (a .to)) where
-      past-is : {u : Bool} → t ≡ u → unlessPast u (walkFrom q a b (b .lines) 0 0) ≡ pageAsked q a b
-      unfolding ifPassed
-      past-is {u} h = by Accepted (unlessPast u (walkFrom q a b (b .lines) 0 0)) f (ap (λ (x : Bool). unlessPast x (walkFrom q a b (b .lines) 0 0)) (sym h ∙ g))
+    module _ (f : v ≡ Accepted) {fl : ℕ} (z : fl ≡ floor) where
+      -- "14, below the floor"
+      pub judge-below : {r : Walked} → q .moment < fl → r ≡ emptyOf (No 14) → WalkedAs area (pageAsked (st .floor) q a b) r
+      unfolding ifPassed _▸_ need
+      judge-below h p = empty-walked (No 14) (by (No 14) (emptyPage false) (steps-by f ∙ rw (lt-leb floor (q .moment) (omega (arith, z)))) refl) p
 
-      -- "resume at or past end, empty page without more"
-      pub judge-past : {r : Walked} → t ≡ true → r ≡ emptyOf Accepted → WalkedAs area (pageAsked q a b) r
-      unfolding ifPassed unlessPast
-      judge-past h p = empty-walked Accepted (past-is h) p
+      module _ (above : fl ≤ q .moment) {t : Bool} (g : t ≡ pastEnd (a .resume) (a .to)) where
+        past-is : {u : Bool} → t ≡ u → unlessPast u (walkFrom q a b (b .lines) 0 0) ≡ pageAsked (st .floor) q a b
+        unfolding ifPassed
+        past-is {u} h =
+            by Accepted (unlessPast u (walkFrom q a b (b .lines) 0 0)) (page-above floor (q .moment) (q .limit) (q .bytes) a (omega (arith, z)) ∙ sym e ∙ f)
+            (ap (λ (x : Bool). unlessPast x (walkFrom q a b (b .lines) 0 0)) (sym h ∙ g))
 
-      pub judge-walk : {r : Walked} → t ≡ false → WalkedAs area (walkFrom q a b (b .lines) 0 0) r → WalkedAs area (pageAsked q a b) r
-      unfolding unlessPast
-      judge-walk {r} h w = subst (λ (x : Reply (Page Bytes)). WalkedAs area x r) (past-is h) w
+        -- "resume at or past end, empty page without more"
+        pub judge-past : {r : Walked} → t ≡ true → r ≡ emptyOf Accepted → WalkedAs area (pageAsked (st .floor) q a b) r
+        unfolding ifPassed unlessPast
+        judge-past h p = empty-walked Accepted (past-is h) p
+
+        pub judge-walk : {r : Walked} → t ≡ false → WalkedAs area (walkFrom q a b (b .lines) 0 0) r → WalkedAs area (pageAsked (st .floor) q a b) r
+        unfolding unlessPast
+        judge-walk {r} h w = subst (λ (x : Reply (Page Bytes)). WalkedAs area x r) (past-is h) w

@@ -39,14 +39,20 @@ pageOn f (refused v) = refused v
 abbrev pub limitsOf : PageQuery → Limits
 limitsOf q = record { rows = q .limit; bytes = q .bytes }
 
--- the call's page
-abbrev pub pageBy : Scan → ℕ → Limits → Bounds → Box → Reply (Page Bytes)
-pageBy Rows moment m a b = pageOn keyRowBytes (page a moment m b)
-pageBy Intents moment m a b = pageOn keyLockBytes (intentPage a (m .rows) b)
-pageBy Conflicts moment m a b = pageOn keyLockBytes (conflictPage a moment m b)
+-- the call's page, in a store of this floor
+abbrev pub pageBy : ℕ → Scan → ℕ → Limits → Bounds → Box → Reply (Page Bytes)
+pageBy floor Rows moment m a b = pageOn keyRowBytes (page floor a moment m b)
+pageBy floor Intents moment m a b = pageOn keyLockBytes (intentPage a (m .rows) b)
+pageBy floor Conflicts moment m a b = pageOn keyLockBytes (conflictPage a moment m b)
 
-abbrev pub pageAsked : PageQuery → Bounds → Box → Reply (Page Bytes)
-pageAsked q a b = pageBy (q .scan) (q .moment) (limitsOf q) a b
+abbrev pub pageAsked : ℕ → PageQuery → Bounds → Box → Reply (Page Bytes)
+pageAsked floor q a b = pageBy floor (q .scan) (q .moment) (limitsOf q) a b
+
+-- "14, below the floor, for a .. row page moment below F": a page of locks asks for none, as one on the floor 0
+abbrev pub floorOf : Scan → ℕ → ℕ
+floorOf Rows floor = floor
+floorOf Intents floor = 0
+floorOf Conflicts floor = 0
 
 -- what is left of its walk at these lines, with a page of this count and sum
 abbrev pub walkBy : Scan → ℕ → Limits → Bounds → Box → List KeyLine → ℕ → ℕ → Reply (Page Bytes)

@@ -85,7 +85,7 @@ macro_rules! of_forms {
             BatchTrailing "bytes may follow a batch";
             // Sound
             LockTransactionZero "a lock of transaction 0 is sound";
-            LockStartZero "a lock of start 0 is sound";
+            LockStartZero "a lock of start 0 is sound" of 36;
             LockTimeToLiveZero "a lock of time to live 0 is sound";
             LockKindRollback "a lock of kind Rollback is sound";
             LockPrimaryAny "a lock's primary may be any bytes";

@@ -13,4 +13,4 @@ two-labels-requires : tie.Need-two-labels-requires
 two-labels-requires c κs = (c .before .before .before .before .before .fresh) .ensures _ (length-replicate {A = ℕ} 131072 0) .made
 
 pub main-spec : {M : Type 1} → statement M
-main-spec = tie.close (tie.spec (λ c κs. search needs) (λ c. search needs) asks-figures-requires two-labels-requires (λ c κs. search needs) (λ c κs. search needs) (λ c κs. search needs) (λ c κs. search needs) (λ c. search needs) (λ c κs. search needs) (λ c κs. search needs) (λ c. search needs))
+main-spec = tie.close (tie.spec (λ c κs. search needs) (λ c. search needs) asks-figures-requires two-labels-requires (λ c κs. search needs) (λ c κs. search needs) (λ c κs. search needs) (λ c κs. search needs) (λ c. search needs) (λ c κs. search needs) (λ c κs. search needs) (λ c κs. search needs) (λ c. search needs))

@@ -1,7 +1,6 @@
 -- `calls::applying::apply_all` meets its contract. Its loops: the area is packed anew (`Packing` of ApplyAllLaws), the
 -- entries are applied in turn (`Underway`), and a slot comes to its place (`MakingPlace` and `ClosingUp` of changes' TableLaws).
 -- Assumes nothing.
-use Rattle.actions.proofs.ApplyEntryLaws.{made}
 use Rattle.changes.specs.Changes.{changed}
 use Rattle.changes.proofs.TableLaws.{MakingPlace, inserts, making-start, making-more, making-end, ClosingUp, replaces, closing-start, closing-more, closing-end}
 use Rattle.calls.proofs.ApplyAllLaws.{Packing, Underway, few-bytes, packing-start, packing-more, packing-less, packed-asks, packed-applied, underway-start, underway-small, underway-at, underway-more, underway-end}
@@ -67,7 +66,7 @@ add-i : tie.Need-add-i Inv-loop μ-loop Inv-loop3 μ-loop3 Inv-loop4 μ-loop4 In
 add-i c = omega (arith, underway-small (packed-asks (c .before .before .before .before .before .before .before .before .before .before .before .before .before .pre) ((c .before .before .before .before .before .before .before .before .loop) .inv)) ((c .before .before .before .before .before .before .loop2) .inv) ((c .before .before .before .before .before .loop2-test) .taken))
 
 loop2-again : tie.Need-loop2-again Inv-loop μ-loop Inv-loop3 μ-loop3 Inv-loop4 μ-loop4 Inv-loop2 μ-loop2
-loop2-again c = underway-more (packed-asks (c .before .before .before .before .before .before .before .before .before .before .before .before .before .before .before .pre) ((c .before .before .before .before .before .before .before .before .before .before .loop) .inv)) ((c .before .before .before .before .before .before .before .before .loop2) .inv) ((c .before .before .before .before .before .before .before .loop2-test) .taken) (made (sym (ap (changed ((c .before .before .before .before .before .before .before .before .loop2) .l)) ((c .enum-told) .given .1))) ((c .before .before .before .before .change-of) .ensures .1))
+loop2-again c = underway-more (packed-asks (c .before .before .before .before .before .before .before .before .before .before .before .before .before .before .before .pre) ((c .before .before .before .before .before .before .before .before .before .before .loop) .inv)) ((c .before .before .before .before .before .before .before .before .loop2) .inv) ((c .before .before .before .before .before .before .before .loop2-test) .taken) ((c .before .before .before .before .change-of) .result) (sym (ap (changed ((c .before .before .before .before .before .before .before .before .loop2) .l)) ((c .enum-told) .given .1))) ((c .before .before .before .before .change-of) .ensures .1)
 
 loop3-holds : tie.Need-loop3-holds Inv-loop μ-loop Inv-loop3 μ-loop3 Inv-loop4 μ-loop4 Inv-loop2 μ-loop2
 loop3-holds c = let p = (c .before .before .before .c) .given .1 in making-start p (inserts p ((c .before .before .before .before .before .before .before .change-of) .ensures .0))
@@ -79,7 +78,7 @@ loop2-less-2 : tie.Need-loop2-less-2 Inv-loop μ-loop Inv-loop3 μ-loop3 Inv-loo
 loop2-less-2 c = omega (arith, (c .before .before .before .before .before .before .before .before .before .before .before .before .loop2-test) .taken)
 
 loop2-again-2 : tie.Need-loop2-again-2 Inv-loop μ-loop Inv-loop3 μ-loop3 Inv-loop4 μ-loop4 Inv-loop2 μ-loop2
-loop2-again-2 c = let p = (c .before .before .before .before .before .c) .given .1 in underway-more (packed-asks (c .before .before .before .before .before .before .before .before .before .before .before .before .before .before .before .before .before .before .before .before .pre) ((c .before .before .before .before .before .before .before .before .before .before .before .before .before .before .before .loop) .inv)) ((c .before .before .before .before .before .before .before .before .before .before .before .before .before .loop2) .inv) ((c .before .before .before .before .before .before .before .before .before .before .before .before .loop2-test) .taken) (made (making-end p (inserts p ((c .before .before .before .before .before .before .before .before .before .change-of) .ensures .0)) ((c .before .loop3) .inv) ((c .loop3-test) .left)) ((c .before .before .before .before .before .before .before .before .before .change-of) .ensures .1))
+loop2-again-2 c = let p = (c .before .before .before .before .before .c) .given .1 in underway-more (packed-asks (c .before .before .before .before .before .before .before .before .before .before .before .before .before .before .before .before .before .before .before .before .pre) ((c .before .before .before .before .before .before .before .before .before .before .before .before .before .before .before .loop) .inv)) ((c .before .before .before .before .before .before .before .before .before .before .before .before .before .loop2) .inv) ((c .before .before .before .before .before .before .before .before .before .before .before .before .loop2-test) .taken) ((c .before .before .before .before .before .before .before .before .before .change-of) .result) (making-end p (inserts p ((c .before .before .before .before .before .before .before .before .before .change-of) .ensures .0)) ((c .before .loop3) .inv) ((c .loop3-test) .left)) ((c .before .before .before .before .before .before .before .before .before .change-of) .ensures .1)
 
 loop4-holds : tie.Need-loop4-holds Inv-loop μ-loop Inv-loop3 μ-loop3 Inv-loop4 μ-loop4 Inv-loop2 μ-loop2
 loop4-holds c = let p = (c .before .before .before .c2) .given .1 in closing-start p (replaces p ((c .before .before .before .before .before .before .before .change-of) .ensures .0))
@@ -91,7 +90,7 @@ loop2-less-3 : tie.Need-loop2-less-3 Inv-loop μ-loop Inv-loop3 μ-loop3 Inv-loo
 loop2-less-3 c = omega (arith, (c .before .before .before .before .before .before .before .before .before .before .before .before .loop2-test) .taken)
 
 loop2-again-3 : tie.Need-loop2-again-3 Inv-loop μ-loop Inv-loop3 μ-loop3 Inv-loop4 μ-loop4 Inv-loop2 μ-loop2
-loop2-again-3 c = let p = (c .before .before .before .before .before .c2) .given .1 in underway-more (packed-asks (c .before .before .before .before .before .before .before .before .before .before .before .before .before .before .before .before .before .before .before .before .pre) ((c .before .before .before .before .before .before .before .before .before .before .before .before .before .before .before .loop) .inv)) ((c .before .before .before .before .before .before .before .before .before .before .before .before .before .loop2) .inv) ((c .before .before .before .before .before .before .before .before .before .before .before .before .loop2-test) .taken) (made (closing-end p (replaces p ((c .before .before .before .before .before .before .before .before .before .change-of) .ensures .0)) ((c .before .loop4) .inv) ((c .loop4-test) .left)) ((c .before .before .before .before .before .before .before .before .before .change-of) .ensures .1))
+loop2-again-3 c = let p = (c .before .before .before .before .before .c2) .given .1 in underway-more (packed-asks (c .before .before .before .before .before .before .before .before .before .before .before .before .before .before .before .before .before .before .before .before .pre) ((c .before .before .before .before .before .before .before .before .before .before .before .before .before .before .before .loop) .inv)) ((c .before .before .before .before .before .before .before .before .before .before .before .before .before .loop2) .inv) ((c .before .before .before .before .before .before .before .before .before .before .before .before .loop2-test) .taken) ((c .before .before .before .before .before .before .before .before .before .change-of) .result) (closing-end p (replaces p ((c .before .before .before .before .before .before .before .before .before .change-of) .ensures .0)) ((c .before .loop4) .inv) ((c .loop4-test) .left)) ((c .before .before .before .before .before .before .before .before .before .change-of) .ensures .1)
 
 same-length : tie.Need-same-length Inv-loop μ-loop Inv-loop3 μ-loop3 Inv-loop4 μ-loop4 Inv-loop2 μ-loop2
 same-length c = (c .before .loop2) .inv .left .built .area-long ∙ sym ((c .before .before .before .before .before .before .before .before .pre) .made .built .area-long)

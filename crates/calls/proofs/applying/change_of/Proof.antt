@@ -14,10 +14,10 @@ row-of-requires : tie.Need-row-of-requires
 row-of-requires c κs = (c .before .before .before .before .before .pre) .inside
 
 look-up-requires : tie.Need-look-up-requires
-look-up-requires c κs = (c .before .before .before .before .before .before .before .before .before .pre) .built
+look-up-requires c κs = ((c .before .before .before .before .before .before .before .before .before .args) .store .floor, (c .before .before .before .before .before .before .before .before .before .pre) .built)
 
 apply-entry-requires : tie.Need-apply-entry-requires
-apply-entry-requires c κs = (rw ((c .before .before .before .before .before .before .key-of) .ensures, (c .before .before .before .before .before .row-of) .ensures) ((c .before .before .before .before .before .before .before .before .before .before .before .pre) .asks), subst (λ (p : Point). KeyStateAt ((c .before .before .before .before .before .before .before .before .before .before .before .args) .store) ((c .before .before .before .before .before .before .before .before .before .before .before .args) .area .now) ((c .before .before .before .before .before .before .key-of) .result .now) (p .start) (p .stamp) ((c .before .look-up) .result)) ((c .before .before .before .before .before .before .before .point-of) .ensures) ((c .before .look-up) .ensures))
+apply-entry-requires c κs = (rw ((c .before .before .before .before .before .before .key-of) .ensures, (c .before .before .before .before .before .row-of) .ensures) ((c .before .before .before .before .before .before .before .before .before .before .before .pre) .asks), subst (λ (p : Point). KeyStateAt ((c .before .before .before .before .before .before .before .before .before .before .before .args) .store) ((c .before .before .before .before .before .before .before .before .before .before .before .args) .area .now) ((c .before .before .before .before .before .before .key-of) .result .now) (p .start) (p .stamp) ((c .before .look-up) .result)) ((c .before .before .before .before .before .before .before .point-of) .ensures) ((c .before .look-up) .ensures ((c .before .before .before .before .before .before .before .before .before .before .before .args) .store .floor)))
 
 returns : tie.Need-returns
 returns c = ((c .before .before .apply-entry) .ensures .0, rw ((c .before .before .before .before .before .before .before .before .before .key-of) .ensures, (c .before .before .before .before .before .before .before .before .row-of) .ensures) at ((c .before .before .apply-entry) .ensures .1))

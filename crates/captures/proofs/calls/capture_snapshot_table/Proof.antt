@@ -21,7 +21,7 @@ put-image-requires : tie.Need-put-image-requires
 put-image-requires c κs = record { lined = built-lined ((c .before .before .before .before .before .before .before .before .before .before .pre) .built); sizes = (c .before .before .before .before .sizes-of) .ensures; room = (c .before .before .if2) .left }
 
 returns-3 : tie.Need-returns-3
-returns-3 c = record { captured = captured-put ((c .before .before .before .before .before .before .before .before .before .before .before .before .before .args) .store) ((c .before .before .before .before .before .before .before .before .before .before .before .before .before .args) .area .now) ((c .before .before .before .before .before .before .before .before .before .before .before .before .before .args) .table) ((c .before .before .before .before .before .before .before .before .before .before .before .before .before .args) .out .now) ((c .before .before .before .before .before .before .before .before .before .before .before .if1) .left) ((c .before .before .before .before .before .before .before .sizes-of) .ensures) ((c .before .before .before .before .before .if2) .left) ((c .before .before .put-image) .ensures); restores = λ e. written-restores (c .before .before .before .before .before .before .before .before .before .before .before .before .before .pre) ((c .before .before .before .before .before .before .before .sizes-of) .ensures .octets) (c .before .before .before .before .before .before .before .before .before .before .before .before .before .args .table) (record { above = omega (arith, (c .before .before .before .before .before .before .before .before .before .before .before .if1) .left); small = omega arith }) (put-front ((c .before .before .before .before .before .before .before .before .before .before .before .before .before .args) .store) ((c .before .before .before .before .before .before .before .before .before .before .before .before .before .args) .area .now) ((c .before .before .before .before .before .before .before .before .before .before .before .before .before .args) .table) ((c .before .before .before .before .before .before .before .before .before .before .before .before .before .args) .out .now) ((c .before .before .before .before .before .before .before .before .before .before .before .if1) .left) ((c .before .before .before .before .before .before .before .sizes-of) .ensures) ((c .before .before .put-image) .ensures)) }
+returns-3 c = record { captured = captured-put ((c .before .before .before .before .before .before .before .before .before .before .before .before .before .args) .store) ((c .before .before .before .before .before .before .before .before .before .before .before .before .before .args) .area .now) ((c .before .before .before .before .before .before .before .before .before .before .before .before .before .args) .table) ((c .before .before .before .before .before .before .before .before .before .before .before .before .before .args) .out .now) ((c .before .before .before .before .before .before .before .before .before .before .before .if1) .left) ((c .before .before .before .before .before .before .before .sizes-of) .ensures) ((c .before .before .before .before .before .if2) .left) ((c .before .before .put-image) .ensures); restores = λ e. written-restores (c .before .before .before .before .before .before .before .before .before .before .before .before .before .pre) ((c .before .before .before .before .before .before .before .sizes-of) .ensures .octets) (omega arith) (c .before .before .before .before .before .before .before .before .before .before .before .before .before .args .table) (record { above = omega (arith, (c .before .before .before .before .before .before .before .before .before .before .before .if1) .left); small = omega arith }) (put-front ((c .before .before .before .before .before .before .before .before .before .before .before .before .before .args) .store) ((c .before .before .before .before .before .before .before .before .before .before .before .before .before .args) .area .now) ((c .before .before .before .before .before .before .before .before .before .before .before .before .before .args) .table) ((c .before .before .before .before .before .before .before .before .before .before .before .before .before .args) .out .now) ((c .before .before .before .before .before .before .before .before .before .before .before .if1) .left) ((c .before .before .before .before .before .before .before .sizes-of) .ensures) ((c .before .before .put-image) .ensures)) }
 
 pub capture-snapshot-table-spec : {M : Type 1} → statement M
 capture-snapshot-table-spec =

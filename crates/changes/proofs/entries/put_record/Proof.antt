@@ -1,6 +1,6 @@
 -- `changes::entries::put_record` meets its contract.
 -- Assumes nothing.
-use Rattle.changes.proofs.PutRecordLaws.{record-room, slot-asks, record-put}
+use Rattle.changes.proofs.PutRecordLaws.{asks-on, record-room, slot-asks, record-put}
 use borrow.Author.Needs.{needs}
 use native.Mathlib.Omega.{arith}
 use Prim.Native.Nat.{_-_}
@@ -8,13 +8,13 @@ use Rattle.changes.proofs.entries.put_record.Statement.{statement}
 use Rattle.changes.proofs.entries.put_record.Tie as tie
 
 append-record-requires : tie.Need-append-record-requires
-append-record-requires c κs = omega (arith, record-room (c .before .before .before .before .before .pre) ((c .before .pairs-in) .ensures), (c .before .before .before .before .before .pre) .built .area-long)
+append-record-requires c κs = omega (arith, record-room (c .before .before .before .before .before .pre .1) ((c .before .pairs-in) .ensures), (c .before .before .before .before .before .pre .1) .built .area-long)
 
 place-record-requires : tie.Need-place-record-requires
-place-record-requires c κs = slot-asks (c .before .before .before .before .before .before .before .before .pre) ((c .before .before .before .before .pairs-in) .ensures)
+place-record-requires c κs = slot-asks (c .before .before .before .before .before .before .before .before .pre .1) ((c .before .before .before .before .pairs-in) .ensures)
 
 returns : tie.Need-returns
-returns c = record-put (c .before .before .before .before .before .before .before .before .before .pre) ((c .before .before .before .before .before .pairs-in) .ensures) ((c .before .before .before .append-record) .ensures) ((c .place-record) .ensures)
+returns c floor = record-put (asks-on (c .before .before .before .before .before .before .before .before .before .pre .1) floor) ((c .before .before .before .before .before .pairs-in) .ensures) ((c .before .before .before .append-record) .ensures) ((c .place-record) .ensures)
 
 pub put-record-spec : {M : Type 1} → statement M
 put-record-spec =

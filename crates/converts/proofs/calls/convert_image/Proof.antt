@@ -19,11 +19,11 @@ put-converted-requires : tie.Need-put-converted-requires
 put-converted-requires c κs = converts-asks ((c .before .before .before .before .before .before .before .before .before .args) .out .now) ((c .before .before .before .before .before .before .old-image) .ensures) ((c .before .before .before .before .if1) .left) (omega (arith, (c .before .before .before .if2) .left, (c .before .if3) .left))
 
 returns-4 : tie.Need-returns-4
-returns-4 c = converts-put ((c .before .before .before .before .before .before .before .before .before .before .before .before .args) .out .now) ((c .before .before .before .before .before .before .before .before .before .old-image) .ensures) ((c .before .before .before .before .before .before .before .if1) .left) (omega (arith, (c .before .before .before .before .before .before .if2) .left, (c .before .before .before .before .if3) .left)) ((c .before .before .put-converted) .ensures)
+returns-4 c = converts-put ((c .before .before .before .before .before .before .before .before .before .before .before .before .args) .out .now) ((c .before .before .before .before .before .before .before .before .before .old-image) .ensures) ((c .before .before .before .before .before .before .before .if1) .left) (omega (arith, (c .before .before .before .before .before .before .if2) .left, (c .before .before .before .before .if3) .left)) (λ i. omega (arith, (c .before .before .before .before .before .before .before .before .before .before .before .shared-slice-known) .given i)) ((c .before .before .put-converted) .ensures)
 
 pub convert-image-spec : {M : Type 1} → statement M
 convert-image-spec =
     tie.close
     (tie.spec
-    (λ c κs. search needs) (λ c κs. search needs) returns (λ c κs. search needs) returns-2 (λ c. search needs)
-    (λ c κs. search needs) returns-3 put-converted-requires (λ c. search needs) returns-4)
+    (λ c κs. search needs) (λ c κs. search needs) returns (λ c. search needs) (λ c κs. search needs) returns-2
+    (λ c. search needs) (λ c κs. search needs) returns-3 put-converted-requires (λ c. search needs) returns-4)

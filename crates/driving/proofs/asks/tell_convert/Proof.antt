@@ -12,13 +12,13 @@ slice-aggregate-convert-image : tie.Need-slice-aggregate-convert-image
 slice-aggregate-convert-image c = sym (length-take-le _ _ (fits-long _ (c .before .before .before .pre)))
 
 array-share-prefix-lent : tie.Need-array-share-prefix-lent
-array-share-prefix-lent c = convert-front ((c .before .before .before .before .before .before .args) .image .now) ((c .before .before .before .before .before .before .args) .len) refl (c .before .before .before .before .before .before .pre) ((c .before .before .convert-image) .ensures)
+array-share-prefix-lent c = convert-front ((c .before .before .before .before .before .before .args) .image .now) ((c .before .before .before .before .before .before .args) .len) refl (c .before .before .before .before .before .before .pre) ((c .before .before .convert-image) .ensures .wrote)
 
 slice-aggregate-tell : tie.Need-slice-aggregate-tell
-slice-aggregate-tell c = sym (length-take-le _ _ (convert-front ((c .before .before .before .before .before .before .before .args) .image .now) ((c .before .before .before .before .before .before .before .args) .len) refl (c .before .before .before .before .before .before .before .pre) ((c .before .before .before .convert-image) .ensures)))
+slice-aggregate-tell c = sym (length-take-le _ _ (convert-front ((c .before .before .before .before .before .before .before .args) .image .now) ((c .before .before .before .before .before .before .before .args) .len) refl (c .before .before .before .before .before .before .before .pre) ((c .before .before .before .convert-image) .ensures .wrote)))
 
 returns : tie.Need-returns
-returns c = convert-told ((c .before .before .before .before .before .before .before .before .before .before .args) .image .now) ((c .before .before .before .before .before .before .before .before .before .before .args) .len) refl (c .before .before .before .before .before .before .before .before .before .before .pre) ((c .before .before .before .before .before .before .convert-image) .ensures) ((c .before .before .tell) .ensures)
+returns c = convert-told ((c .before .before .before .before .before .before .before .before .before .before .args) .image .now) ((c .before .before .before .before .before .before .before .before .before .before .args) .len) refl (c .before .before .before .before .before .before .before .before .before .before .pre) ((c .before .before .before .before .before .before .convert-image) .ensures .wrote) ((c .before .before .tell) .ensures)
 
 pub tell-convert-spec : {M : Type 1} → statement M
 tell-convert-spec = tie.close (tie.spec (λ c. search needs) slice-aggregate-convert-image (λ c κs. search needs) array-share-prefix-lent slice-aggregate-tell (λ c κs. search needs) (λ c. search needs) returns)

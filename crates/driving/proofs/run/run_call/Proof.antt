@@ -11,7 +11,7 @@ returns : tie.Need-returns
 returns c = run-short ((c .if1) .taken)
 
 returns-2 : tie.Need-returns-2
-returns-2 c = run-formless ((c .before .before .before .before .before .before .args-of) .ensures) ((c .before .before .before .before .if2) .taken) ((c .before .before .before .before .before .before .before .if1) .left) ((c .before .before .tell-change) .ensures .tells (record { answer = No 6; box = _ }) _ (record { answer-is = refl; made = (c .before .before .before .before .before .before .before .before .before .before .pre); shown = refl }))
+returns-2 c = run-formless ((c .before .before .before .before .before .before .args-of) .ensures) ((c .before .before .before .before .if2) .taken) ((c .before .before .before .before .before .before .before .if1) .left) ((c .before .before .tell-change) .ensures .tells (record { answer = No 6; state = _ }) _ (record { answer-is = refl; made = (c .before .before .before .before .before .before .before .before .before .before .pre); shown = refl }))
 
 run-args-requires : tie.Need-run-args-requires
 run-args-requires c κs = record { made = (c .before .before .before .before .before .before .before .before .pre); places = (c .before .before .before .before .args-of) .ensures .places; op-is = refl; length-is = (c .before .before .before .before .before .if1) .left }

@@ -28,10 +28,10 @@ row-of-requires : tie.Need-row-of-requires Inv-loop μ-loop
 row-of-requires c κs = pass-in ((c .before .before .before .loop) .inv) ((c .before .before .loop-test) .taken)
 
 look-up-requires : tie.Need-look-up-requires Inv-loop μ-loop
-look-up-requires c κs = (c .before .before .before .before .before .before .before .before .before .before .pre) .made .built
+look-up-requires c κs = ((c .before .before .before .before .before .before .before .before .before .before .args) .store .floor, (c .before .before .before .before .before .before .before .before .before .before .pre) .made .built)
 
 check-entry-requires : tie.Need-check-entry-requires Inv-loop μ-loop
-check-entry-requires c κs = (rw ((c .before .before .before .before .key-of) .ensures, (c .before .before .before .row-of) .ensures) (check-asks _ ((c .before .before .before .before .before .before .before .before .before .before .before .pre) .made) (pass-in ((c .before .before .before .before .before .before .before .loop) .inv) ((c .before .before .before .before .before .before .loop-test) .taken))), (c .look-up) .ensures)
+check-entry-requires c κs = (rw ((c .before .before .before .before .key-of) .ensures, (c .before .before .before .row-of) .ensures) (check-asks _ ((c .before .before .before .before .before .before .before .before .before .before .before .pre) .made) (pass-in ((c .before .before .before .before .before .before .before .loop) .inv) ((c .before .before .before .before .before .before .loop-test) .taken))), (c .look-up) .ensures ((c .before .before .before .before .before .before .before .before .before .before .before .args) .store .floor))
 
 join-requires : tie.Need-join-requires Inv-loop μ-loop
 join-requires c κs = meeting-small (((c .before .before .before .before .before .before .before .before .before .before .before .before .args) .terms)) _ ((c .before .before .before .before .before .before .before .before .loop) .inv) ((c .before .before .before .before .before .before .before .loop-test) .taken) ((c .before .before .before .before .before .key-of) .ensures) ((c .before .before .before .before .row-of) .ensures) ((c .check-entry) .ensures)

@@ -24,7 +24,21 @@ returns-3 c = step-on _ (c .before .before .before .before .before .before .zero
 
 returns-4 : tie.Need-returns-4
 unfolding prewriteTermsStep zeroStep
-returns-4 c = step-on _ (c .before .before .before .before .before .before .zero-step .ensures) (c .before .before .before .before .before .accepted .ensures) (c .before .before .before .before .if1 .left) (search chain depth 8) ∙ then-assoc _ _ _
+returns-4 c = step-on _ (c .before .before .before .before .before .before .before .before .zero-step .ensures) (c .before .before .before .before .before .before .before .accepted .ensures) (c .before .before .before .before .before .before .if1 .left) (search chain depth 9) ∙ then-assoc _ _ _
+
+returns-5 : tie.Need-returns-5
+unfolding prewriteTermsStep zeroStep
+returns-5 c = step-on _ (c .before .before .before .before .before .before .before .before .zero-step .ensures) (c .before .before .before .before .before .before .before .accepted .ensures) (c .before .before .before .before .before .before .if1 .left) (search chain depth 9) ∙ then-assoc _ _ _
 
 pub terms-step-spec : {M : Type 1} → statement M
-terms-step-spec = tie.close (tie.spec (λ c κs. search needs) (λ c κs. search needs) returns (λ c κs. search needs) returns-2 returns-3 returns-4)
+terms-step-spec =
+    tie.close
+    (tie.spec
+    (λ c κs. search needs)
+    (λ c κs. search needs)
+    returns
+    (λ c κs. search needs)
+    returns-2
+    returns-3
+    returns-4
+    returns-5)

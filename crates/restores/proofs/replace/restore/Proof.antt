@@ -11,10 +11,10 @@ use Rattle.restores.proofs.replace.restore.Statement.{statement}
 use Rattle.restores.proofs.replace.restore.Tie as tie
 
 abbrev Inv-loop : tie.InvT-loop
-Inv-loop area₀ image store₀ rows places answer load n d w end top₀ next₀ k₀ area store top next k = Filling image load w rows places store₀ end k top area store
+Inv-loop area₀ image store₀ rows places answer load n d w floor end top₀ next₀ k₀ area store top next k = Filling image load floor w rows places store₀ end k top area store
 
 abbrev μ-loop : tie.MeasureT-loop
-μ-loop area₀ image store₀ rows places answer load n d w end top₀ next₀ k₀ area store top next k = end - k
+μ-loop area₀ image store₀ rows places answer load n d w floor end top₀ next₀ k₀ area store top next k = end - k
 
 loop-holds : tie.Need-loop-holds Inv-loop μ-loop
 loop-holds c = filling-start ((c .before .before .before .before .before .before .before .verdict) .ensures) ((c .before .before .before .before .accepted) .ensures) ((c .before .before .before .if1) .taken) (c .before .before .before .before .before .before .before .before .before .before .before .pre) ((c .longer) .ensures)

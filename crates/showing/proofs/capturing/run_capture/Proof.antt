@@ -12,13 +12,13 @@ slice-aggregate-capture-snapshot-table : tie.Need-slice-aggregate-capture-snapsh
 slice-aggregate-capture-snapshot-table c = sym (length-take-le _ _ (fits-long _ ((c .before .before .pre) .small)))
 
 array-share-prefix-image : tie.Need-array-share-prefix-image
-array-share-prefix-image c = capture-shown ((c .before .before .before .before .before .args) .table) ((c .before .before .before .before .before .args) .len) _ refl ((c .before .before .before .before .before .pre) .small) ((c .before .before .capture-snapshot-table) .ensures .captured) .told .within
+array-share-prefix-image c = capture-shown _ ((c .before .before .before .before .before .args) .table) ((c .before .before .before .before .before .args) .len) _ refl ((c .before .before .before .before .before .pre) .small) ((c .before .before .capture-snapshot-table) .ensures .captured) .told .within
 
 slice-aggregate-tell : tie.Need-slice-aggregate-tell
-slice-aggregate-tell c = sym (length-take-le _ _ (capture-shown ((c .before .before .before .before .before .before .args) .table) ((c .before .before .before .before .before .before .args) .len) _ refl ((c .before .before .before .before .before .before .pre) .small) ((c .before .before .before .capture-snapshot-table) .ensures .captured) .told .within))
+slice-aggregate-tell c = sym (length-take-le _ _ (capture-shown _ ((c .before .before .before .before .before .before .args) .table) ((c .before .before .before .before .before .before .args) .len) _ refl ((c .before .before .before .before .before .before .pre) .small) ((c .before .before .before .capture-snapshot-table) .ensures .captured) .told .within))
 
 returns : tie.Need-returns
-returns c = showed _ ((c .before .before .before .before .before .before .before .before .before .pre) .made) (capture-shown ((c .before .before .before .before .before .before .before .before .before .args) .table) ((c .before .before .before .before .before .before .before .before .before .args) .len) _ refl ((c .before .before .before .before .before .before .before .before .before .pre) .small) ((c .before .before .before .before .before .before .capture-snapshot-table) .ensures .captured)) (capture-room ((c .before .before .before .before .before .before .before .before .before .args) .table) ((c .before .before .before .before .before .before .before .before .before .args) .len) _ refl ((c .before .before .before .before .before .before .before .before .before .pre) .small) ((c .before .before .before .before .before .before .capture-snapshot-table) .ensures .captured)) ((c .before .before .before .before .before .before .before .before .before .pre) .length-is) ((c .before .before .tell) .ensures)
+returns c = showed _ ((c .before .before .before .before .before .before .before .before .before .pre) .made) (capture-shown _ ((c .before .before .before .before .before .before .before .before .before .args) .table) ((c .before .before .before .before .before .before .before .before .before .args) .len) _ refl ((c .before .before .before .before .before .before .before .before .before .pre) .small) ((c .before .before .before .before .before .before .capture-snapshot-table) .ensures .captured)) (capture-room _ ((c .before .before .before .before .before .before .before .before .before .args) .table) ((c .before .before .before .before .before .before .before .before .before .args) .len) _ refl ((c .before .before .before .before .before .before .before .before .before .pre) .small) ((c .before .before .before .before .before .before .capture-snapshot-table) .ensures .captured)) ((c .before .before .before .before .before .before .before .before .before .pre) .length-is) ((c .before .before .tell) .ensures)
 
 pub run-capture-spec : {M : Type 1} → statement M
 run-capture-spec =

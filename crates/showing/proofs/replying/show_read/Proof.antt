@@ -7,7 +7,7 @@ use Rattle.showing.proofs.replying.show_read.Statement.{statement}
 use Rattle.showing.proofs.replying.show_read.Tie as tie
 
 show-seen-requires : tie.Need-show-seen-requires
-show-seen-requires c κs = row-fits ((c .before .before .before .read) .ensures .seen-as) ((c .before .row-of) .ensures) (read-short _ _ _) ((c .before .before .before .before .before .before .pre) .1)
+show-seen-requires c κs = row-fits ((c .before .before .before .read) .ensures .seen-as) ((c .before .row-of) .ensures) (read-short _ _ _ _) ((c .before .before .before .before .before .before .pre) .1)
 
 returns : tie.Need-returns
 returns c = shown-as (seen-answer ((c .before .before .before .before .before .before .read) .ensures .seen-as)) ((c .before .before .before .before .before .before .read) .ensures .count-is) (seen-payload ((c .before .before .before .before .before .before .read) .ensures .seen-as) ((c .before .before .before .before .row-of) .ensures)) ((c .before .before .show-seen) .ensures)

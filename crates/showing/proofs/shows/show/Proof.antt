@@ -24,7 +24,7 @@ show-marks-requires c κs = ((c .before .before .before .before .before .before 
 
 returns : tie.Need-returns
 unfolding told
-returns c = by-show ((c .before .before .before .before .before .before .before .before .before .args) .call .now) ((c .before .before .before .before .before .before .before .before .before .args) .args) _ ((c .before .before .before .before .before .before .before .before .before .args) .op) ShowOp.Read ((c .before .before .before .before .enum-told) .given .1) (record { told = read-of _ _ ((c .before .before .before .before .before .before .part) .ensures) ((c .before .before .show-read) .ensures); box-is = refl })
+returns c = by-show ((c .before .before .before .before .before .before .before .before .before .args) .call .now) ((c .before .before .before .before .before .before .before .before .before .args) .args) _ ((c .before .before .before .before .before .before .before .before .before .args) .op) ShowOp.Read ((c .before .before .before .before .enum-told) .given .1) (record { told = read-of _ _ _ ((c .before .before .before .before .before .before .part) .ensures) ((c .before .before .show-read) .ensures); state-is = refl })
 
 returns-2 : tie.Need-returns-2
 unfolding told
@@ -40,15 +40,15 @@ returns-4 c = by-show ((c .before .before .before .before .before .before .befor
 
 returns-5 : tie.Need-returns-5
 unfolding told
-returns-5 c = by-show ((c .before .before .before .before .before .before .before .before .before .args) .call .now) ((c .before .before .before .before .before .before .before .before .before .args) .args) _ ((c .before .before .before .before .before .before .before .before .before .args) .op) ShowOp.OneIntent ((c .before .before .before .before .enum-told5) .given .1) (record { told = intent-of _ _ ((c .before .before .before .before .before .before .part) .ensures) ((c .before .before .show-lock) .ensures); box-is = refl })
+returns-5 c = by-show ((c .before .before .before .before .before .before .before .before .before .args) .call .now) ((c .before .before .before .before .before .before .before .before .before .args) .args) _ ((c .before .before .before .before .before .before .before .before .before .args) .op) ShowOp.OneIntent ((c .before .before .before .before .enum-told5) .given .1) (record { told = intent-of _ _ ((c .before .before .before .before .before .before .part) .ensures) ((c .before .before .show-lock) .ensures); state-is = refl })
 
 returns-6 : tie.Need-returns-6
 unfolding told
-returns-6 c = by-show ((c .before .before .before .before .before .before .before .before .before .args) .call .now) ((c .before .before .before .before .before .before .before .before .before .args) .args) _ ((c .before .before .before .before .before .before .before .before .before .args) .op) ShowOp.Statistics ((c .before .before .before .before .enum-told6) .given .1) (record { told = ((c .before .before .show-stats) .ensures); box-is = refl })
+returns-6 c = by-show ((c .before .before .before .before .before .before .before .before .before .args) .call .now) ((c .before .before .before .before .before .before .before .before .before .args) .args) _ ((c .before .before .before .before .before .before .before .before .before .args) .op) ShowOp.Statistics ((c .before .before .before .before .enum-told6) .given .1) (record { told = ((c .before .before .show-stats) .ensures); state-is = refl })
 
 returns-7 : tie.Need-returns-7
 unfolding told
-returns-7 c = by-show ((c .before .before .before .before .before .before .before .before .before .args) .call .now) ((c .before .before .before .before .before .before .before .before .before .args) .args) _ ((c .before .before .before .before .before .before .before .before .before .args) .op) ShowOp.Marks ((c .before .before .before .before .enum-told7) .given .1) (record { told = ((c .before .before .show-marks) .ensures); box-is = refl })
+returns-7 c = by-show ((c .before .before .before .before .before .before .before .before .before .args) .call .now) ((c .before .before .before .before .before .before .before .before .before .args) .args) _ ((c .before .before .before .before .before .before .before .before .before .args) .op) ShowOp.Marks ((c .before .before .before .before .enum-told7) .given .1) (record { told = ((c .before .before .show-marks) .ensures); state-is = refl })
 
 pub show-spec : {M : Type 1} → statement M
 show-spec =

@@ -57,34 +57,38 @@ returns-12 c = at-op 12 (c .with-rest4 .ensures) (c .before .match .keys12)
 
 returns-13 : tie.Need-returns-13
 unfolding opOf
-returns-13 c = at-op 17 (c .with-row .ensures) (c .before .match .keys13)
+returns-13 c = at-op 13 (c .with-numbers .ensures) (c .before .match .keys13)
 
 returns-14 : tie.Need-returns-14
 unfolding opOf
-returns-14 c = at-op 18 (c .with-row2 .ensures) (c .before .match .keys14)
+returns-14 c = at-op 17 (c .with-row .ensures) (c .before .match .keys14)
 
 returns-15 : tie.Need-returns-15
 unfolding opOf
-returns-15 c = at-op 32 (c .with-rest5 .ensures) (c .before .match .keys15)
+returns-15 c = at-op 18 (c .with-row2 .ensures) (c .before .match .keys15)
 
 returns-16 : tie.Need-returns-16
 unfolding opOf
-returns-16 c = at-op 33 (c .with-numbers .ensures) (c .before .match .keys16)
+returns-16 c = at-op 32 (c .with-rest5 .ensures) (c .before .match .keys16)
 
 returns-17 : tie.Need-returns-17
 unfolding opOf
-returns-17 c = at-op 34 (c .with-numbers2 .ensures) (c .before .match .keys17)
+returns-17 c = at-op 33 (c .with-numbers2 .ensures) (c .before .match .keys17)
 
 returns-18 : tie.Need-returns-18
 unfolding opOf
-returns-18 c = at-op 35 (c .with-numbers3 .ensures) (c .before .match .keys18)
+returns-18 c = at-op 34 (c .with-numbers3 .ensures) (c .before .match .keys18)
 
 returns-19 : tie.Need-returns-19
 unfolding opOf
-returns-19 c = at-op 36 (c .with-rest6 .ensures) (c .before .match .keys19)
+returns-19 c = at-op 35 (c .with-numbers4 .ensures) (c .before .match .keys19)
 
 returns-20 : tie.Need-returns-20
-returns-20 c = c .no-shape .ensures ∙ no-op _ (c .before .match .rest)
+unfolding opOf
+returns-20 c = at-op 36 (c .with-rest6 .ensures) (c .before .match .keys20)
+
+returns-21 : tie.Need-returns-21
+returns-21 c = c .no-shape .ensures ∙ no-op _ (c .before .match .rest)
 
 pub shape-of-spec : {M : Type 1} → statement M
-shape-of-spec = tie.close (tie.spec (λ c κs. search needs) (λ c κs. search needs) (λ c κs. search needs) (λ c κs. search needs) (λ c κs. search needs) (λ c κs. search needs) (λ c κs. search needs) (λ c κs. search needs) (λ c κs. search needs) (λ c κs. search needs) (λ c κs. search needs) (λ c κs. search needs) (λ c κs. search needs) (λ c κs. search needs) (λ c κs. search needs) (λ c κs. search needs) (λ c κs. search needs) (λ c κs. search needs) (λ c κs. search needs) (λ c κs. search needs) returns returns-2 returns-3 returns-4 returns-5 returns-6 returns-7 returns-8 returns-9 returns-10 returns-11 returns-12 returns-13 returns-14 returns-15 returns-16 returns-17 returns-18 returns-19 returns-20)
+shape-of-spec = tie.close (tie.spec (λ c κs. search needs) (λ c κs. search needs) (λ c κs. search needs) (λ c κs. search needs) (λ c κs. search needs) (λ c κs. search needs) (λ c κs. search needs) (λ c κs. search needs) (λ c κs. search needs) (λ c κs. search needs) (λ c κs. search needs) (λ c κs. search needs) (λ c κs. search needs) (λ c κs. search needs) (λ c κs. search needs) (λ c κs. search needs) (λ c κs. search needs) (λ c κs. search needs) (λ c κs. search needs) (λ c κs. search needs) (λ c κs. search needs) returns returns-2 returns-3 returns-4 returns-5 returns-6 returns-7 returns-8 returns-9 returns-10 returns-11 returns-12 returns-13 returns-14 returns-15 returns-16 returns-17 returns-18 returns-19 returns-20 returns-21)

@@ -1,0 +1,170 @@
+//! The bends of the floor and of collections.
+
+macro_rules! of_floor {
+    ([$($before:tt)*] $next:ident $($rest:ident)*) => {
+        $next! { [$($before)*
+            // Collect: its refusals (collect.rs, miscollected.rs)
+            CollectLowerTaken "a collection with a lower floor is made, and the floor falls" of 13;
+            CollectLowerIgnored "a collection with a lower floor is accepted and changes nothing" of 13;
+            RefusedLowerSetsFloor "a collection refused for its lower floor sets it" of 13;
+            CollectEqualRefused "a collection with an equal floor is 14" of 13;
+            CollectEqualDoesNothing "a collection with an equal floor drops nothing" of 13;
+            CollectZeroRefused "a collection with floor 0 is 3" of 13;
+            CollectLastRefused "a collection with floor 2^64 - 1 is 3" of 13;
+            CollectEmptyRefused "a collection of a store without records is 3" of 13;
+            CollectFullRefused "a collection of a box that is just full is 11" of 13;
+            CollectHeldFirst "a collection's 7 comes before its 14"
+                never "every lock starts above the floor, so none is at or below a lower one";
+            CollectLocksUnjudged "a collection minds no lock" of 13;
+            CollectLockAtTaken "a collection does not mind a lock that starts at its floor" of 13;
+            CollectLockAboveRefused "a collection minds a lock that starts right above its floor" of 13;
+            CollectAnyLockRefused "a collection minds every lock" of 13;
+            CollectLocksBesideRecords "a collection minds locks of keys with records alone" of 13;
+            CollectFirstLockAlone "a collection minds the store's first lock alone" of 13;
+            CollectNamesLastKey "a collection's 7 names the holder of the last such key" of 13;
+            CollectNamesLowestStart "a collection's 7 names the holder of the lowest start" of 13;
+            CollectNamesHighestStart "a collection's 7 names the holder of the highest start" of 13;
+            RefusedCollectSetsFloor "a collection that a lock refuses sets the floor" of 13;
+            RefusedCollectDrops "a collection that a lock refuses has dropped records of the keys before" of 13;
+            CollectCounts "a collection counts the lines that it dropped" of 13;
+            // Collect: what stays and what goes
+            CollectDropsNothing "a collection drops nothing" of 13;
+            CollectDropsNewestPut "the newest Put goes too" of 13;
+            CollectKeepsDelete "a newest Delete stays" of 13;
+            CollectRollbackIsNewest "a Rollback counts as the newest: a Put under it goes" of 13;
+            CollectKeepsNewestOfAny "the newest stays, of whatever kind" of 13;
+            CollectKeepsPutUnderDelete "the newest Put stays though a Delete is newer" of 13;
+            CollectKeepsOldestPut "the oldest Put stays in the place of the newest" of 13;
+            CollectKeepsPuts "every Put stays" of 13;
+            CollectKeepsRollbacks "Rollbacks stay" of 13;
+            CollectKeepsAboveNewest "Rollbacks above the newest Put stay" of 13;
+            CollectKeepsLowest "a key's lowest record stays" of 13;
+            CollectKeepsStartsAbove "records stay whose start is above that of the Put that is kept" of 13;
+            CollectStrictlyBelow "a record stamped with the floor itself is left" of 13;
+            CollectOneAbove "a record stamped right above the floor is collected" of 13;
+            CollectByStart "records are collected by their starts" of 13;
+            CollectLastKeyLeft "the last key's records are left" of 13;
+            CollectFirstTableAlone "the first table alone is collected" of 13;
+            CollectLockedKeysLeft "the records of a locked key are left" of 13;
+            DroppedRowsStay "the rows of dropped Puts stay" of 13;
+            CollectDropsKeptRows "the row of the Put that is kept goes" of 13;
+            CollectDropsRowsByStart "rows go by their starts, those of records above the floor too" of 13;
+            CollectDropsLocks "the lock of a key goes if records of it do" of 13;
+            CollectDropsLockRows "the row of a lock goes if records of its key do" of 13;
+            CollectFreesNoRoom "what a collection dropped takes room still" of 13;
+            // Collect: the floor that it sets
+            CollectSetsNoFloor "a collection sets no floor" of 13;
+            CollectFloorOneMore "a collection sets the floor one higher" of 13;
+            CollectFloorOneLess "a collection sets the floor one lower" of 13;
+            CollectFloorOf32 "a collection's floor is taken by its last 4 bytes" of 13;
+            CollectFloorIsHighestDropped "a collection sets the floor to the highest stamp at or below it" of 13;
+            HolderShortInCollect "answer 7 of a collection gives zeros for time to live and kind" of 13;
+            // Reads and pages below the floor (floor.rs)
+            ReadFloorUnjudged "a read below the floor is no 14" of 1;
+            ReadAtFloorRefused "a read at the floor is 14" of 1;
+            ReadRightBelowFloorTaken "a read right below the floor is no 14" of 1;
+            ReadFloorFirst "a read's 14 comes before 1" of 1;
+            ReadFloorAfterLock "a read's 7 comes before 14"
+                never "every lock starts above the floor, so none is at or below a moment below it";
+            ReadFloorOfRecordsAlone "a read below the floor is 14 only if its key has records" of 1;
+            ReadFloorAfterHistory "a read below the floor is 14 only if it shows nothing" of 1;
+            ReadFloorCounts "a read's 14 counts the records by the moment" of 1;
+            PageFloorUnjudged "a page below the floor is no 14" of 2;
+            PageAtFloorRefused "a page at the floor is 14" of 2;
+            PageRightBelowFloorTaken "a page right below the floor is no 14" of 2;
+            PageFloorFirst "a page's 14 comes before 3" of 2;
+            PageFloorBeforeBounds "a page's 14 comes before the bounds' 1" of 2;
+            PageFloorBeforeOrder "a page's 14 comes before 4" of 2;
+            PageFloorBeforeResume "a page's 14 comes before the resume key's 1" of 2;
+            PageFloorAfterPastEnd "a page whose resume is at or past end is accepted below the floor" of 2;
+            PageFloorOfKeysAlone "a page below the floor is 14 only if it comes to a key" of 2;
+            PageFloorAfterWalk "a page's 14 comes after 10" of 2;
+            PageFloorAfterBuffer "a page's 14 comes after 12" of 2;
+            PageFloorFills "a page's 14 fills the buffer" of 2;
+            ConflictingFloorJudged "conflicting intents below the floor is 14" of 4;
+            OneIntentFloorJudged "one intent below the floor is 14" of 5;
+            // Changing calls at or below the floor (floor.rs)
+            PrewriteFloorUnjudged "a prewrite at or below the floor is no 14";
+            PrewriteFloorUnjudgedAlone "a single prewrite at or below the floor is no 14" of 6;
+            PrewriteFloorUnjudgedInBatch "a prewrite of a batch at or below the floor is no 14" of 7;
+            PrewriteAtFloorTaken "a prewrite at the floor is no 14";
+            PrewriteAboveFloorRefused "a prewrite right above the floor is 14";
+            PrewriteFloorFirst "a prewrite's 14 comes before 6 and 5" of 7;
+            PrewriteFloorBeforeZero "a prewrite's 14 comes before the start's 3";
+            PrewriteFloorBeforePrimary "a prewrite's 14 comes before the primary's 1";
+            PrewriteFloorBeforeTimeToLive "a prewrite's 14 comes before the time to live's 3";
+            PrewriteFloorAfterContents "a prewrite's 14 comes after each entry's 1 and 2";
+            PrewriteFloorAfterEntry "a prewrite's 14 comes after all steps of each entry";
+            PrewriteFloorSparesReplays "a replay of a prewrite is no 14"
+                never "every lock starts above the floor, so no replay is at or below it";
+            CommitFloorUnjudged "a commit at or below the floor is no 14";
+            CommitFloorUnjudgedAlone "a single commit at or below the floor is no 14" of 8;
+            CommitFloorUnjudgedInBatch "a commit of a batch at or below the floor is no 14" of 9;
+            CommitAtFloorTaken "a commit of a start at the floor is no 14";
+            CommitAboveFloorRefused "a commit of a start right above the floor is 14";
+            CommitFloorFirst "a commit's 14 comes before 6 and 5" of 9;
+            CommitFloorBeforeZero "a commit's 14 comes before 3";
+            CommitFloorAfterKeys "a commit's 14 comes after each key's 1";
+            CommitFloorSparesReplays "a replay of a commit is no 14";
+            CommitFloorByStamp "a commit is 14 by its commit stamp rather than by its start";
+            RollbackFloorUnjudged "a rollback at or below the floor is no 14";
+            RollbackFloorUnjudgedAlone "a single rollback at or below the floor is no 14" of 10;
+            RollbackFloorUnjudgedInBatch "a rollback of a batch at or below the floor is no 14" of 11;
+            RollbackAtFloorTaken "a rollback at the floor is no 14";
+            RollbackAboveFloorRefused "a rollback right above the floor is 14";
+            RollbackFloorFirst "a rollback's 14 comes before 6 and 5" of 11;
+            RollbackFloorBeforeZero "a rollback's 14 comes before 3";
+            RollbackFloorAfterKeys "a rollback's 14 comes after each key's 1";
+            RollbackFloorSparesReplays "a replay of a rollback is no 14";
+            OneStepFloorUnjudged "a one-step batch at or below the floor is no 14" of 12;
+            OneStepAtFloorTaken "a one-step batch at the floor is no 14" of 12;
+            OneStepAboveFloorRefused "a one-step batch right above the floor is 14" of 12;
+            OneStepFloorFirst "a one-step batch's 14 comes before 6" of 12;
+            OneStepFloorBeforeZero "a one-step batch's 14 comes before 3" of 12;
+            OneStepFloorAfterContents "a one-step batch's 14 comes after 1 and 2 of its entries" of 12;
+            OneStepEmptyBelowFloorTaken "an empty one-step batch at or below the floor is accepted" of 12;
+            OneStepFloorSparesReplays "a replay of a one-step batch is no 14" of 12;
+            OneStepFloorByStamp "a one-step batch is 14 by its commit rather than by its start" of 12;
+            // The floor in images, figures and the room
+            ImageLockAtFloorTaken "an image with a lock that starts at its floor is taken" of 32;
+            ImageLockBelowFloorTaken "an image with a lock that starts below its floor is taken" of 32;
+            ImageLockAboveFloorRefused "an image with a lock that starts right above its floor is refused" of 32;
+            ImageFirstLockByFloorAlone "of an image's locks the first by key alone is held against the floor" of 32;
+            ImagePutLocksByFloorAlone "of an image's locks the Puts alone are held against the floor" of 32;
+            ImageLocksByStoresFloor "an image's locks are held against the store's floor" of 32;
+            ImageLockByFloorIs7 "an image with a lock at or below its floor is 7" of 32;
+            ImageLockByFloorIs14 "an image with a lock at or below its floor is 14" of 32;
+            ImageFloorRoomFirst "11 comes before the 13 of a lock at or below the floor" of 32;
+            ImageRecordsByFloorRefused "an image with a record at or below its floor is refused" of 32;
+            ImageUncollectedRefused "an image whose records were not collected up to its floor is refused" of 32;
+            ImageCollected "an image is collected up to its floor when it is restored" of 32;
+            ImageLastFloorRefused "an image with floor 2^64 - 1 is refused" of 32;
+            ImageLowerFloorRefused "an image with a lower floor than the store's is 14" of 32;
+            ImageWithoutFloorTaken "an image without a floor is taken" of 32;
+            ImageFloorOfFourBytes "an image's floor is taken by its last 4 bytes" of 32;
+            RestoredFloorZero "a restored store's floor is 0" of 32;
+            RestoredFloorStays "a restored store keeps the floor that was" of 32;
+            RestoredFloorHigher "a restored store takes the higher of both floors" of 32;
+            RestoredFloorLower "a restored store takes the lower of both floors" of 32;
+            RefusedImageSetsFloor "a refused image sets the floor" of 32;
+            WrittenWithoutFloor "an image is written without its floor" of 35;
+            WrittenFloorZero "an image is written with floor 0" of 35;
+            WrittenFloorFirst "an image is written with its floor before the table number" of 35;
+            WrittenFloorLast "an image is written with its floor at its end" of 35;
+            WrittenFloorReversed "an image is written with its floor's last byte first" of 35;
+            AbsentTableFloorZero "the image of a table of which the store holds nothing has floor 0" of 35;
+            WrittenFloorOfNewest "an image is written with its table's highest stamp at or below the floor" of 35;
+            ConvertWithoutFloor "a converted image has no floor" of 36;
+            ConvertFloorOfStore "a converted image has the store's floor" of 36;
+            ConvertFloorOne "a converted image has floor 1" of 36;
+            ConvertFloorOfMarks "a converted image has its highest stamp for a floor" of 36;
+            ConvertFloorLast "a converted image has its floor at its end" of 36;
+            ConvertFloorRead "an old image is read with a floor" of 36;
+            ConvertFloorTaken "an old image may have a floor of 0" of 36;
+            MarksWithFloor "the floor counts among the marks" of 34;
+            FloorTakesRoom "a floor takes 8 live bytes";
+            RustHasNoFloor "no moment and no start is below the floor, as in mvcc.rs";
+            RustFloorTaken "an image's locks are not held against its floor, as in mvcc.rs" of 32;
+        ] $($rest)* }
+    };
+}

@@ -1,0 +1,2 @@
+-- The definitions of `collects`.
+pub mod Passes
