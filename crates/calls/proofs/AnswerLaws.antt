@@ -18,6 +18,7 @@ use Rattle.rules.specs.declared.answers.Answer.the-variants.{Accepted, No, Held
 use Rattle.rules.specs.Answers.{_▸_, need}
 use Rattle.rules.specs.Box.{Box}
 use Rattle.rules.specs.Calls.{Done, settle, ofBatch, nonEmpty}
+use Rattle.laws.proofs.StepLaws.{then-assoc}
 use Rattle.laws.proofs.SettleLaws.{settle-old, ofBatch-some, ofBatch-none}
 use Rattle.calls.proofs.SettledLaws.{then-refused}
 
@@ -36,6 +37,10 @@ unfolding _▸_
 then-same Accepted v w f = f refl
 then-same (No n) v w f = refl
 then-same (Held o) v w f = refl
+
+-- the terms of a call are its head's steps, and 14 the last
+pub terms-split : {terms : Answer} (head late : Answer) → terms ≡ head ▸ late → (v : Answer) → terms ▸ v ≡ head ▸ late ▸ v
+terms-split head late e v = ap (λ (x : Answer). x ▸ v) e ∙ then-assoc head late v
 
 module _ (a v : Answer) (new old : Box) where
   pub head-out : (a ≡ Accepted → ⊥) → settle (a ▸ v) new old ≡ record { answer = a; box = old }

@@ -94,10 +94,14 @@ module _ {A : Type 0} (c : Changes A) (item : Entry → A) (d : Action) (primary
 -- ---- `apply_all`
 
 -- document 02, CR 7: after all entries each lock still starts above the floor
-all-above : (floor : ℕ) (d : Action) (primary : Key) (s : Bytes) → StartsAbove floor d → (es : List Entry) (b : Box) → LocksAbove floor b → LocksAbove floor (applyAll (applyEntry d primary s) es b)
-unfolding applyAll
-all-above floor d primary s h [] b v = v
-all-above floor d primary s h (e ∷ es) b v = all-above floor d primary s h es (applyEntry d primary s e b) (applied-above floor d primary (mutationOf s e) b h v)
+all-above : (floor : ℕ) (d : Action) (primary : Key) (s : Bytes) (n : ℕ) → (0 < n → StartsAbove floor d) → (es : List Entry) (b : Box) → LocksAbove floor b → LocksAbove floor (applyAll (applyEntry d primary s) (counted n es) b)
+unfolding shown applyAll
+all-above floor d primary s zero h es b v = v
+all-above floor d primary s (suc n) h es b v = go (counted (suc n) es) b v
+  where
+    go : (es : List Entry) (b : Box) → LocksAbove floor b → LocksAbove floor (applyAll (applyEntry d primary s) es b)
+    go [] b v = v
+    go (e ∷ es) b v = go es (applyEntry d primary s e b) (applied-above floor d primary (mutationOf s e) b (h (omega arith)) v)
 
 -- before the entries: the box is the same, and has been packed anew only where there are entries
 pub record Packing (st : Store) (area : Bytes) (n : ℕ) (area′ : Bytes) (cur : Store) : Type 0 where
@@ -158,7 +162,7 @@ module _ {d : Action} {primary : Key} {st : Store} {area s : Bytes} {n : ℕ} {e
       count-fits = a .count-fits;
       listed = a .listed;
       ready = subst (Ready d primary s (counted n es)) (sym (v .shown)) (a .ready);
-      above = subst (λ (f : ℕ). StartsAbove f d) (sym (v .floor-is)) (a .above);
+      above = λ z. subst (λ (f : ℕ). StartsAbove f d) (sym (v .floor-is)) (a .above z);
     }
 
     pub packed-applied : {r : Store} {area₂ : Bytes} → AllApplied d primary cur area₁ s n es r area₂ → AllApplied d primary st area s n es r area₂
@@ -231,6 +235,6 @@ module _ {d : Action} {primary : Key} {st : Store} {area s : Bytes} {n : ℕ} {e
         built = v .left .built;
         shown = is;
         floor-is = v .floor-is;
-        above = above-same (v .floor-is) is (all-above (st .floor) d primary s (a .above) (counted n es) (boxOf st area) (a .made .above));
+        above = above-same (v .floor-is) is (all-above (st .floor) d primary s n (a .above) es (boxOf st area) (a .made .above));
         still = v .still;
       }

@@ -19,15 +19,27 @@ use Rattle.rules.specs.Room.{loadOf, fits, roomFor, Fits}
 use Rattle.laws.specs.Adds.{plus, sumLoads}
 use Rattle.laws.proofs.StepLaws.{and-left, and-right}
 use Rattle.laws.proofs.LoadLaws.{load-eq, load-fields}
-use Rattle.laws.proofs.BatchLaws.{applyAll}
+use Rattle.laws.proofs.BatchLaws.{checkAll, applyAll}
 use Rattle.store.specs.Made.{Tallied}
 use Rattle.calls.specs.Settled.{isAccepted}
 use Rattle.calls.specs.Weights.{LeftAsks, Steps, AllChecked}
 use Rattle.calls.specs.Passes.{leftBy, RoomJudged, refusedBy, Judged}
 use Rattle.calls.specs.declared.weights.Weight.{Weight}
 use Rattle.calls.specs.declared.judged.BatchVerdict.{BatchVerdict}
-use Rattle.calls.proofs.SettledLaws.{is-accepted, then-refused}
+use Rattle.calls.proofs.SettledLaws.{is-accepted, is-refusal, then-refused, step-out}
 use Rattle.calls.proofs.ApplyAllLaws.{Changes, Applying}
+
+-- ---- a refusal
+
+refused-judged : {A : Type 0} {late : Answer} {check : Box → A → Answer} {apply : A → Box → Box} {b : Box} {xs : List A} {t : Answer} → (t ≡ Accepted → ⊥)
+    → t ≡ late ▸ checkAll check b xs ▸ need (roomFor (applyAll apply xs b)) 11 → {v : BatchVerdict} → v ≡ refusedBy t → Judged late check apply b xs v
+refused-judged {late = late} {check} {apply} {b} {xs} n is e =
+    subst (Judged late check apply b xs) (sym e) (record { answer-is = is; stays = λ _ p. absurd (n p); passes = λ z. absurd (false≢true z); moves = λ z _. false≢true z })
+
+-- 14
+pub late-judged : {A : Type 0} {late : Answer} {check : Box → A → Answer} {apply : A → Box → Box} {b : Box} {xs : List A} {t : Answer} → t ≡ late → {u : Bool} → u ≡ isAccepted t → not u ≡ true → {v : BatchVerdict}
+    → v ≡ refusedBy t → Judged late check apply b xs v
+late-judged {t = t} is q x e = refused-judged (is-refusal t q x) (step-out _ is q x) e
 
 -- ---- what an entry adds and frees
 
@@ -61,7 +73,11 @@ module _ {A : Type 0} {c : Steps A} {key : A → Key} {apply : A → Box → Box
 
   -- ---- the whole call
 
-  module _ (xs : List A) {b : Box} {load : Load} (a : ascend key xs ≡ true) (k : Tallied b load) where
+  module _ (xs : List A) {b : Box} {load : Load} (a : ascend key xs ≡ true) (k : Tallied b load) {late : Answer} (on : late ≡ Accepted) where
+    after : (v : Answer) → v ≡ late ▸ v
+    unfolding _▸_
+    after v = ap (λ (x : Answer). x ▸ v) (sym on)
+
     moved : applyAll apply xs b ≡ b → sumLoads (c .adds b) xs .lines ≡ 0
     moved e =
         let p = load-fields (w .load xs b a (k .sorted)) in
@@ -69,13 +85,8 @@ module _ {A : Type 0} {c : Steps A} {key : A → Key} {apply : A → Box → Box
         omega (arith, p .lines, p .locks, q .lines, q .locks, all-locks xs b)
 
     -- an entry is refused
-    pub all-refused : {t : Answer} {s : Weight} → AllChecked c b xs (record { answer = t; weight = s }) → (t ≡ Accepted → ⊥) → {v : BatchVerdict} → v ≡ refusedBy t → Judged (c .check) apply b xs v
-    all-refused {t} r n e = subst (Judged (c .check) apply b xs) (sym e) (record {
-      answer-is = then-refused t _ n ∙ ap (λ (x : Answer). x ▸ need (roomFor (applyAll apply xs b)) 11) (r .answer-is);
-      stays = λ _ p. absurd (n p);
-      passes = λ z. absurd (false≢true z);
-      moves = λ z _. false≢true z;
-    })
+    pub all-refused : {t : Answer} {s : Weight} → AllChecked c b xs (record { answer = t; weight = s }) → (t ≡ Accepted → ⊥) → {v : BatchVerdict} → v ≡ refusedBy t → Judged late (c .check) apply b xs v
+    all-refused {t} r n e = refused-judged n (then-refused t _ n ∙ ap (λ (x : Answer). x ▸ need (roomFor (applyAll apply xs b)) 11) (r .answer-is) ∙ after _) e
 
     -- all pass
     module _ {s : Weight} (r : AllChecked c b xs (record { answer = Accepted; weight = s })) where
@@ -96,10 +107,10 @@ module _ {A : Type 0} {c : Steps A} {key : A → Key} {apply : A → Box → Box
           let v = load-fields (r .freed-is refl) in
           load-eq _ _ (omega arith)
 
-      pub all-judged : {v : BatchVerdict} → RoomJudged s load v → Judged (c .check) apply b xs v
+      pub all-judged : {v : BatchVerdict} → RoomJudged s load v → Judged late (c .check) apply b xs v
       unfolding roomFor _▸_
       all-judged {v} j = record {
-        answer-is = j .answer-is ∙ ap (λ (l : Load). need (fits l) 11) left-is ∙ ap (λ (x : Answer). x ▸ need (fits (loadOf (applyAll apply xs b))) 11) (r .answer-is);
+        answer-is = j .answer-is ∙ ap (λ (l : Load). need (fits l) 11) left-is ∙ ap (λ (x : Answer). x ▸ need (fits (loadOf (applyAll apply xs b))) 11) (r .answer-is) ∙ after _;
         stays = λ e p.
             let low : ltb 0 (s .added .lines) ≡ false = sym (j .moves-is ∙ ap (λ (x : Answer). isAccepted x && ltb 0 (s .added .lines)) p) ∙ e in
             let u = load-fields (r .added-is refl) in

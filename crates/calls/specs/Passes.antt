@@ -43,17 +43,17 @@ pub record RoomJudged (sum : Weight) (load : Load) (r : BatchVerdict) : Type 0 w
   pub answer-is : r .answer ≡ need (fits (leftBy load sum)) 11
   pub moves-is : r .moves ≡ isAccepted (r .answer) && ltb 0 (sum .added .lines)
 
--- an entry is refused with this answer: it is the batch's, and the box stays
+-- a step or an entry is refused with this answer: it is the batch's, and the box stays
 abbrev pub refusedBy : Answer → BatchVerdict
 refusedBy a = record { answer = a; moves = false }
 
--- "then per entry ..; Then 11"
-unfoldable pub allDone : {A : Type 0} → (Box → A → Answer) → (A → Box → Box) → List A → Box → Done
-allDone check apply xs b = settle (checkAll check b xs ▸ need (roomFor (applyAll apply xs b)) 11) (applyAll apply xs b) b
+-- 14, the answer `late`; "then per entry ..; Then 11"
+unfoldable pub allDone : {A : Type 0} → Answer → (Box → A → Answer) → (A → Box → Box) → List A → Box → Done
+allDone late check apply xs b = settle (late ▸ checkAll check b xs ▸ need (roomFor (applyAll apply xs b)) 11) (applyAll apply xs b) b
 
 -- the answer is the definition's, and the call moves exactly where it is accepted and leaves another box
-pub record Judged {A : Type 0} (check : Box → A → Answer) (apply : A → Box → Box) (b : Box) (xs : List A) (r : BatchVerdict) : Type 0 where
-  pub answer-is : r .answer ≡ checkAll check b xs ▸ need (roomFor (applyAll apply xs b)) 11
+pub record Judged {A : Type 0} (late : Answer) (check : Box → A → Answer) (apply : A → Box → Box) (b : Box) (xs : List A) (r : BatchVerdict) : Type 0 where
+  pub answer-is : r .answer ≡ late ▸ checkAll check b xs ▸ need (roomFor (applyAll apply xs b)) 11
   pub stays : r .moves ≡ false → r .answer ≡ Accepted → applyAll apply xs b ≡ b
   pub passes : r .moves ≡ true → r .answer ≡ Accepted
   pub moves : r .moves ≡ true → applyAll apply xs b ≡ b → ⊥
@@ -93,7 +93,7 @@ pub record ApplyAsks (d : Action) (primary : Key) (st : Store) (area s : Bytes) 
   pub count-fits : n ≤ 32
   pub listed : 0 < n → Listed s n es
   pub ready : Ready d primary s (counted n es) (boxOf st area)
-  pub above : StartsAbove (st .floor) d
+  pub above : 0 < n → StartsAbove (st .floor) d
 
 -- the box is the definition's, on the same floor, and each lock starts above it; without entries nothing has changed
 pub record AllApplied (d : Action) (primary : Key) (st : Store) (area s : Bytes) (n : ℕ) (es : List Entry) (r : Store) (area′ : Bytes) : Type 0 where

@@ -2,7 +2,6 @@
 ghost use mathlib.Core.Path.{_≡_};
 ghost use Rattle.calls.specs.Weights.{LeftAsks};
 ghost use Rattle.calls.specs.Passes.{RoomJudged, refusedBy};
-use crate::weights::Checked;
 use crate::weights::Weight;
 use crate::weights::left_load;
 use rules::Answer;
@@ -14,11 +13,10 @@ pub struct BatchVerdict {
     pub moves: bool,
 }
 
-// An entry is refused, and so is the batch.
-pub fn refused(seen: Checked) -> BatchVerdict
-    ensures { λ r. ⌜ r ≡ refusedBy (seen .answer) ⌝ }
+// A step or an entry is refused, and so is the batch.
+pub fn refused(answer: Answer) -> BatchVerdict
+    ensures { λ r. ⌜ r ≡ refusedBy answer ⌝ }
 {
-    let answer = seen.answer;
     BatchVerdict {
         answer: answer,
         moves: false,

@@ -3,7 +3,7 @@ ghost use mathlib.Core.Path.{_≡_};
 ghost use mathlib.Core.Bool.{not};
 ghost use mathlib.Core.Option.{some};
 ghost use Prim.Native.Nat.{_+_, _≤_};
-ghost use lib.Dec.{eqb};
+ghost use lib.Dec.{eqb, ltb};
 ghost use lib.ListN.{length};
 ghost use Rattle.forms.specs.Bytes.{Bytes, bytesAt};
 ghost use Rattle.forms.specs.Readers.{when};
@@ -50,6 +50,17 @@ pub fn zero_step(txn: u64, start: u64) -> Answer
     }
     if start == 0 {
         return Answer::No(3);
+    }
+    Answer::Accepted
+}
+
+// "for a start at or below F in any changing call": 14. A prewrite, commit or rollback asks it in its checking pass, which hands no store back:
+// where its head had read the floor, the compiler would keep the floor apart from the rest of the store, and copy the table once more.
+pub fn floor_step(floor: u64, start: u64) -> Answer
+    ensures { λ r. ⌜ r ≡ need (ltb floor start) 14 ⌝ }
+{
+    if start <= floor {
+        return Answer::No(14);
     }
     Answer::Accepted
 }

@@ -1,7 +1,8 @@
-// The test that a commit and a one-step batch make of their terms.
+// The steps that a commit and a one-step batch make on their terms.
 ghost use mathlib.Core.Path.{_≡_};
 ghost use Rattle.rules.specs.Commit.{commitTermsStep};
 use crate::steps::accepted;
+use crate::steps::floor_step;
 use crate::steps::zero_step;
 use rules::Answer;
 use rules::CommitTerms;
@@ -17,8 +18,5 @@ pub fn commit_terms_step(floor: u64, terms: CommitTerms) -> Answer
     if terms.commit <= terms.start {
         return Answer::No(3);
     }
-    if terms.start <= floor {
-        return Answer::No(14);
-    }
-    Answer::Accepted
+    floor_step(floor, terms.start)
 }

@@ -1,9 +1,7 @@
 // What entries would add to a store and free in it, and what the check of an entry, or of all entries, says.
 ghost use mathlib.Core.Path.{_≡_};
 ghost use Rattle.laws.specs.Adds.{plus, minus};
-ghost use Rattle.calls.specs.Settled.{isAccepted};
 ghost use Rattle.calls.specs.Weights.{noWeight, Sums, LeftAsks, Refused};
-use crate::steps::accepted;
 use changes::less;
 use changes::more;
 use rules::Answer;
@@ -45,13 +43,6 @@ pub fn refusal(answer: Answer) -> Checked
         answer: answer,
         weight: none,
     }
-}
-
-pub fn passed(seen: Checked) -> bool
-    ensures { λ r. ⌜ r ≡ isAccepted (seen .answer) ⌝ }
-{
-    let answer = seen.answer;
-    accepted(answer)
 }
 
 pub fn plus_weight(a: Weight, b: Weight) -> Weight

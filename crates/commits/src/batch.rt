@@ -17,7 +17,7 @@ use rules::CommitTerms;
 use store::AREA;
 use store::Store;
 
-// The steps of a batch that is in form and not empty, its head passed: "per key: ..", and the applying pass. There is no 11. Where nothing
+// The steps of a batch that is in form and not empty, its head passed: 14; "per key: ..", and the applying pass. There is no 11. Where nothing
 // changes no key is applied.
 fn commit_all(
     store: Store,
@@ -27,8 +27,8 @@ fn commit_all(
     n: usize,
     list: [Entry; 32],
 ) -> Changed
-    requires { ⌜ (AllAsks store (now area) (now batch) n list) × (commitTermsStep (store .floor) terms ≡ Accepted) ⌝ }
-    ensures { λ r. ⌜ Settled store (now (area .entry)) (allDone terms (shown (keyAt (now (batch .entry))) n list) (boxOf store (now (area .entry)))) r (now (area .exit)) ⌝ }
+    requires { ⌜ (AllAsks store (now area) (now batch) n list) × (commitTermsStep 0 terms ≡ Accepted) ⌝ }
+    ensures { λ r. ⌜ Settled store (now (area .entry)) (allDone (store .floor) terms (shown (keyAt (now (batch .entry))) n list) (boxOf store (now (area .entry)))) r (now (area .exit)) ⌝ }
 {
     let v = check_all(store, area, terms, batch, n, list);
     let answer = v.answer;
@@ -46,7 +46,7 @@ fn commit_all(
     }
 }
 
-// "6, 5; 3"; 14; "per key: .."
+// "6, 5; 3"; 14; "per key: ..". Of the terms' steps the head takes those on the floor 0, where 14 never comes: the checking pass asks the store's floor.
 pub fn commit_intents_batch(
     store: Store,
     area: &mut [u8; AREA],
@@ -65,7 +65,7 @@ pub fn commit_intents_batch(
         start: start,
         commit: commit,
     };
-    let answer = calls::batch_step(entries.ok, n, calls::commit_terms_step(store.floor, terms));
+    let answer = calls::batch_step(entries.ok, n, calls::commit_terms_step(0, terms));
     if !calls::accepted(answer) {
         return Changed {
             store: store,

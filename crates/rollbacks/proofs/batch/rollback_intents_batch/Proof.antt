@@ -11,14 +11,14 @@ use Rattle.rollbacks.proofs.batch.rollback_intents_batch.Tie as tie
 
 returns : tie.Need-returns
 unfolding rollbackBatch
-returns c = let a = (c .before .before .before .before .before .before .args) in batch-refused (by-keys (a .store .floor) (a .txn) (a .start)) (c .before .before .before .before .before .before .pre) (c .before .before .before .before .keys-of .ensures) (rw (c .before .before .before .terms-step .ensures) at (c .before .before .batch-step .ensures)) (is-refusal _ (c .before .accepted .ensures) (c .if1 .taken))
+returns c = let a = (c .before .before .before .before .before .before .args) in batch-refused (by-keys (a .store .floor) (a .txn) (a .start)) (c .before .before .before .before .before .before .pre) (c .before .before .before .before .keys-of .ensures) (rw (c .before .before .before .zero-step .ensures) at (c .before .before .batch-step .ensures)) (is-refusal _ (c .before .accepted .ensures) (c .if1 .taken))
 
 rollback-all-requires : tie.Need-rollback-all-requires
-rollback-all-requires c κs = let a = (c .before .before .before .before .before .before .before .before .args) in let made = (c .before .before .before .before .before .before .before .before .pre) in let d = (c .before .before .before .before .before .before .keys-of .ensures) in let w = by-keys (a .store .floor) (a .txn) (a .start) in let e = rw (c .before .before .before .before .before .terms-step .ensures) at (c .before .before .before .before .batch-step .ensures) in let p = is-accepted _ (c .before .before .before .accepted .ensures) (c .before .before .if1 .left) in (record { made = made; form = keys-in-form d (batch-good w made d e p) }, batch-head w made d e p)
+rollback-all-requires c κs = let a = (c .before .before .before .before .before .before .before .before .args) in let made = (c .before .before .before .before .before .before .before .before .pre) in let d = (c .before .before .before .before .before .before .keys-of .ensures) in let w = by-keys (a .store .floor) (a .txn) (a .start) in let e = rw (c .before .before .before .before .before .zero-step .ensures) at (c .before .before .before .before .batch-step .ensures) in let p = is-accepted _ (c .before .before .before .accepted .ensures) (c .before .before .if1 .left) in (record { made = made; form = keys-in-form d (batch-good w made d e p) }, batch-head w made d e p)
 
 returns-2 : tie.Need-returns-2
 unfolding rollbackBatch
-returns-2 c = let a = (c .before .before .before .before .before .before .before .before .before .args) in batch-done (by-keys (a .store .floor) (a .txn) (a .start)) (c .before .before .before .before .before .before .before .before .before .pre) (c .before .before .before .before .before .before .before .keys-of .ensures) (rw (c .before .before .before .before .before .before .terms-step .ensures) at (c .before .before .before .before .before .batch-step .ensures)) (is-accepted _ (c .before .before .before .before .accepted .ensures) (c .before .before .before .if1 .left)) (c .rollback-all .ensures)
+returns-2 c = let a = (c .before .before .before .before .before .before .before .before .before .args) in batch-done (by-keys (a .store .floor) (a .txn) (a .start)) (c .before .before .before .before .before .before .before .before .before .pre) (c .before .before .before .before .before .before .before .keys-of .ensures) (rw (c .before .before .before .before .before .before .zero-step .ensures) at (c .before .before .before .before .before .batch-step .ensures)) (is-accepted _ (c .before .before .before .before .accepted .ensures) (c .before .before .before .if1 .left)) (c .rollback-all .ensures)
 
 pub rollback-intents-batch-spec : {M : Type 1} → statement M
 rollback-intents-batch-spec =
