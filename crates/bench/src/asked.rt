@@ -32,6 +32,19 @@ fn no_call(at: usize, end: usize) -> Asked
     }
 }
 
+// A number of 8 bytes, and a length of 2; 0 where the bytes are too few.
+fn number_of(s: &[u8], at: usize) -> u64 {
+    let n = forms::number_at(s, at, Width::Eight);
+    n.value
+}
+
+fn length_of(s: &[u8], at: usize) -> usize
+    ensures { λ r. ⌜ r < 65536 ⌝ }
+{
+    let n = forms::number_at(s, at, Width::Two);
+    n.value as usize
+}
+
 pub fn asked_at(s: &[u8], at: usize) -> Asked
     requires { ⌜ at < length (now s) ⌝ }
     ensures { λ r. ⌜ AskedAt at (length (now (s .entry))) r ⌝ }
@@ -40,23 +53,17 @@ pub fn asked_at(s: &[u8], at: usize) -> Asked
     if end - at < 30 {
         return no_call(at, end);
     }
-    let one = forms::number_at(s, at, Width::Eight);
-    let two = forms::number_at(s, at + 8, Width::Eight);
-    let three = forms::number_at(s, at + 16, Width::Eight);
-    let plen = forms::number_at(s, at + 24, Width::Two);
-    let klen = forms::number_at(s, at + 26, Width::Two);
-    let rlen = forms::number_at(s, at + 28, Width::Two);
     let primary = at + 30;
-    let key = primary + plen.value as usize;
-    let row = key + klen.value as usize;
-    let next = row + rlen.value as usize;
+    let key = primary + length_of(s, at + 24);
+    let row = key + length_of(s, at + 26);
+    let next = row + length_of(s, at + 28);
     if end < next {
         return no_call(at, end);
     }
     Asked {
-        one: one.value,
-        two: two.value,
-        three: three.value,
+        one: number_of(s, at),
+        two: number_of(s, at + 8),
+        three: number_of(s, at + 16),
         primary: primary,
         key: key,
         row: row,

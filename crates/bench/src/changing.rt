@@ -84,8 +84,7 @@ pub fn step_once(store: Store, area: &mut [u8; AREA], batch: &[u8], txn: u64, st
     let commit = wrapping_add_u64(start, 1);
     let done = mvcc::commit_batch(store, area, txn, start, commit, batch);
     let answer = done.answer;
-    let after = done.store;
-    let load = after.load;
+    let load = done.store.load;
     wrapping_add_u64(of_load(answer, load), done.count as u64)
 }
 

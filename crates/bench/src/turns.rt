@@ -38,10 +38,11 @@ fn show_call(
 {
     let k = a.key;
     let r = a.row;
+    let key = &s[k..r];
     let moment = wrapping_add_u64(a.one, turn % 2);
     match way {
-        1 => read_once(store, area, &s[k..r], moment),
-        2 => page_once(store, area, out, &s[k..r], moment, a.two),
+        1 => read_once(store, area, key, moment),
+        2 => page_once(store, area, out, key, moment, a.two),
         3 => stats_once(store, area),
         11 => image_once(store, area, out, a.one),
         12 => collect_once(store, area, a.one),
@@ -64,11 +65,12 @@ fn change_call(
     let k = a.key;
     let r = a.row;
     let e = a.next;
+    let key = &s[k..r];
     match way {
         5 => prewrite_once(store, area, s, a),
-        6 => commit_once(store, area, &s[k..r], a.one, a.two),
+        6 => commit_once(store, area, key, a.one, a.two),
         7 => pair_once(store, area, s, a),
-        8 => rollback_once(store, area, &s[k..r], a.one, a.two),
+        8 => rollback_once(store, area, key, a.one, a.two),
         9 => step_once(store, area, &s[r..e], a.one, a.two),
         10 => restore_once(store, area, image),
         _ => a.one,

@@ -32,7 +32,6 @@ pub fn of_load(answer: Answer, load: Load) -> u64 {
 
 pub fn of_changed(done: Changed) -> u64 {
     let answer = done.answer;
-    let store = done.store;
-    let load = store.load;
+    let load = done.store.load;
     of_load(answer, load)
 }

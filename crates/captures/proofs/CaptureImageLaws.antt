@@ -28,10 +28,10 @@ use Rattle.store.specs.declared.table.Slot.{Slot}
 use Rattle.store.specs.declared.table.Store.{Store}
 use Rattle.store.specs.View.{lineOf, boxOf}
 use Rattle.rules.specs.declared.written.Wrote.{Wrote}
-use Rattle.captures.specs.declared.slots.Section.the-variants.{Locks, Writes}
-use Rattle.captures.specs.declared.sizes.Sizes.{Sizes}
-use Rattle.captures.specs.Lines.{inSection, belongs, entryBytes, linesIn, rowsIn, linesBytes, entriesIn}
-use Rattle.captures.specs.Sizes.{SizesAre}
+use Rattle.picks.specs.declared.slots.Section.the-variants.{Locks, Writes}
+use Rattle.picks.specs.declared.sizes.Sizes.{Sizes}
+use Rattle.picks.specs.Lines.{inSection, belongs, entryBytes, linesIn, rowsIn, linesBytes, entriesIn}
+use Rattle.picks.specs.Sizes.{SizesAre}
 use Rattle.captures.specs.Asks.{LinesAsk, ImageAsks}
 
 -- ---- the lines of a section are its entries

@@ -1,9 +1,6 @@
 -- The laws that the proofs of this crate's functions stand on. Assumes nothing.
-pub mod CaptureLineLaws
 pub mod CaptureEntryLaws
-pub mod PickLaws
 pub mod GoingLaws
-pub mod SizeLaws
 pub mod CaptureSectionLaws
 pub mod OrderLaws
 pub mod CaptureRowLaws

@@ -32,8 +32,8 @@ use Rattle.store.specs.Views.{RowThere}
 use Rattle.store.proofs.BuiltLaws.{slot-in, row-there}
 use Rattle.store.proofs.KeySoundLaws.{row-form}
 use Rattle.forms.proofs.WriterLaws.{bytes-long}
-use Rattle.captures.specs.Lines.{ShortLine, SlotIn, Lined}
-use Rattle.captures.proofs.CaptureLineLaws.{form-long}
+use Rattle.picks.specs.Lines.{ShortLine, SlotIn, Lined}
+use Rattle.picks.proofs.CaptureLineLaws.{form-long}
 
 -- ---- what holds at each place holds of each, and the other way round
 

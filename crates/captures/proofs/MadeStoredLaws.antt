@@ -30,7 +30,7 @@ use Rattle.store.specs.declared.table.Store.{Store}
 use Rattle.store.specs.View.{eightAt, placeOf, lineIn, lineOf, ifPut, defaultIn, addIf, stored, boxOf}
 use Rattle.store.specs.Made.{Made}
 use Rattle.store.proofs.TidyLaws.{built-tidy}
-use Rattle.captures.specs.Lines.{rowAt}
+use Rattle.picks.specs.Lines.{rowAt}
 
 -- ---- bytes, and the numbers that they say
 

@@ -8,10 +8,10 @@ use Rattle.forms.specs.Bytes.{Bytes}
 use Rattle.rules.specs.Written.{allBytes}
 use Rattle.store.specs.declared.table.Slot.{Slot}
 use Rattle.store.specs.View.{placeOf}
-use Rattle.captures.specs.declared.sizes.Sizes.{Sizes}
-use Rattle.captures.specs.declared.slots.Section.the-variants.{Locks, Writes}
-use Rattle.captures.specs.Lines.{entryBytes, SlotIn, Lined, linesIn}
-use Rattle.captures.specs.Sizes.{SizesAre}
+use Rattle.picks.specs.declared.sizes.Sizes.{Sizes}
+use Rattle.picks.specs.declared.slots.Section.the-variants.{Locks, Writes}
+use Rattle.picks.specs.Lines.{entryBytes, SlotIn, Lined, linesIn}
+use Rattle.picks.specs.Sizes.{SizesAre}
 
 pub record KeyAsks (area : Bytes) (s : Slot) (at : ℕ) (out : Bytes) : Type 0 where
   pub within : placeOf s + s .len ≤ length area
@@ -21,11 +21,6 @@ pub record KeyAsks (area : Bytes) (s : Slot) (at : ℕ) (out : Bytes) : Type 0 w
 pub record EntryAsks (area : Bytes) (s : Slot) (bytes : Bytes) (at : ℕ) (out : Bytes) : Type 0 where
   pub slot : SlotIn area s
   pub room : at + length bytes ≤ length out
-
--- two keys that lie in the area
-pub record BothIn (area : Bytes) (a b : Slot) : Type 0 where
-  pub one : placeOf a + a .len ≤ length area
-  pub other : placeOf b + b .len ≤ length area
 
 -- the bytes of a section's entries
 pub record SectionAsks (lines : List Slot) (n : ℕ) (area bytes out : Bytes) : Type 0 where

@@ -1,6 +1,3 @@
--- What the writer of an image takes from lines and slots, and what its functions ask and promise. Assumes nothing.
-pub mod Lines
-pub mod Sizes
-pub mod Chains
+-- What the functions that write an image ask and promise. Assumes nothing.
 pub mod Asks
 pub mod Promise

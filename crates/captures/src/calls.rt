@@ -4,7 +4,7 @@ ghost use Rattle.store.specs.View.{boxOf};
 ghost use Rattle.store.specs.Made.{Made};
 ghost use Rattle.captures.specs.Promise.{ImageWritten};
 use crate::sections::put_image;
-use crate::sizes::sizes_of;
+use picks::sizes_of;
 use rules::Answer;
 use rules::Wrote;
 use rules::refusal;

@@ -3,7 +3,5 @@
 pub mod calls;
 pub mod entries;
 pub mod sections;
-pub mod sizes;
-pub mod slots;
 
 pub use calls::capture_snapshot_table;

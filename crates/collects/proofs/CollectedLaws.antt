@@ -24,6 +24,7 @@ use Rattle.rules.specs.Call.{Changing, perform}
 use Rattle.rules.specs.Collect.{lineAboveStep, locksAboveStep, collected, collectSteps, collect}
 use Rattle.laws.specs.Adds.{minus}
 use Rattle.laws.proofs.StepLaws.{answered, own-true}
+use Rattle.laws.proofs.SettleLaws.{settleState-answer, settleState-leaves}
 use Rattle.laws.proofs.Sorted.{fewer-good}
 use Rattle.laws.proofs.FewerLaws.{FewerBox, fewer-each}
 use Rattle.laws.proofs.LoadLaws.{load-eq, load-fields}
@@ -81,18 +82,13 @@ module _ {f : ℕ} {area : Bytes} {old : Store} (b : Built old area) {h : ℕ} {
 
 -- ---- refused
 
-refused-state : (a : Answer) (new old : State) → (a ≡ Accepted → ⊥) → settleState a new old ≡ record { answer = a; state = old }
-unfolding settleState
-refused-state Accepted new old n = absurd (n refl)
-refused-state (No m) new old n = refl
-refused-state (Held o) new old n = refl
-
 module _ {st : Store} {area : Bytes} (m : Made st area) (f : ℕ) where
   refused : {a : Answer} → collectSteps f (stateShown st area) ≡ a → (a ≡ Accepted → ⊥) → Replaced st area (collect f (stateShown st area)) (record { store = st; answer = a }) area
   unfolding collect
   refused {a} e n =
-      let q : collect f (stateShown st area) ≡ record { answer = a; state = stateShown st area } = ap (λ (a : Answer). settleState a (record { box = collected f (boxOf st area); floor = f }) (stateShown st area)) e ∙ refused-state a _ _ n in
-      record { answer-is = answered (sym (ap (λ (x : Ended). x .answer) q)); made = m; shown = sym (ap (λ (x : Ended). x .state) q); refused = λ _. untouched }
+      let new : State = record { box = collected f (boxOf st area); floor = f } in
+      let q : settleState (collectSteps f (stateShown st area)) new (stateShown st area) .answer ≡ a = settleState-answer _ new (stateShown st area) ∙ e in
+      record { answer-is = answered (sym q); made = m; shown = sym (settleState-leaves _ new (stateShown st area) (λ p. n (sym q ∙ p))); refused = λ _. untouched }
 
   -- "14, below the floor, .. for a collection with a lower floor, tested first"
   pub collect-low : f < st .floor → Replaced st area (collect f (stateShown st area)) (record { store = st; answer = No 14 }) area

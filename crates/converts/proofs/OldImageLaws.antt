@@ -31,10 +31,10 @@ use Rattle.orders.specs.Marks.{beforeAt}
 use Rattle.orders.specs.Sorts.{sorted, Sorted}
 use Rattle.orders.specs.declared.marks.By.the-variants.{Rows, Lines}
 use Rattle.orders.proofs.FindLaws.{row-past, row-told}
-use Rattle.verdicts.specs.Puts.{rawPair}
-use Rattle.verdicts.proofs.SortedLaws.{and-cross, sorted-once}
-use Rattle.verdicts.proofs.SortedPlaceLaws.{likes-rows, rows-in-order, rows-once, lines-once}
-use Rattle.verdicts.proofs.EntryPairLaws.{any-sorted, good-same, row-found}
+use Rattle.pairs.specs.Puts.{rawPair}
+use Rattle.pairs.proofs.SortedLaws.{and-cross, sorted-once}
+use Rattle.pairs.proofs.SortedPlaceLaws.{likes-rows, rows-in-order, rows-once, lines-once}
+use Rattle.pairs.proofs.EntryPairLaws.{any-sorted, good-same, row-found}
 use Rattle.converts.specs.Judged.{writeAt, entryHas, writesHave, InOrder, OldJudged}
 
 -- ---- `has_default`

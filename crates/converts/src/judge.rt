@@ -4,7 +4,7 @@ ghost use Rattle.rules.specs.Image.{oldImage};
 ghost use Rattle.images.specs.declared.checks.Form.the-variants.{Old};
 ghost use Rattle.images.specs.Good.{formOf};
 ghost use Rattle.images.specs.Sections.{isGood};
-ghost use Rattle.verdicts.specs.Verdicts.{AlikeAsk, JudgeAsk};
+ghost use Rattle.pairs.specs.Asks.{AlikeAsk, JudgeAsk};
 ghost use Rattle.converts.specs.Judged.{OldJudged};
 use crate::puts::puts_have;
 use images::Form;

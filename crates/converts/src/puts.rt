@@ -6,7 +6,7 @@ use images::ImageEntry;
 use images::Section;
 use images::entry_at;
 use orders::row_place;
-use verdicts::puts::points_to;
+use pairs::points_to;
 
 fn has_default(s: &[u8], ds: &[u32], e: ImageEntry) -> bool
     requires { ⌜ PlaceAsks (now s) (now ds) e ⌝ }

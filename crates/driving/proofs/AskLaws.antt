@@ -18,7 +18,7 @@ use Rattle.traces.specs.Payloads.{bonePayload}
 use Rattle.traces.specs.Answers.{answerBytes}
 use Rattle.showing.specs.Told.{lent, paging, Writes}
 use Rattle.showing.specs.Ran.{ShownTold}
-use Rattle.showing.proofs.PagingLaws.{converted-long, image-shown}
+use Rattle.showing.proofs.PagingLaws.{long-in, converted-long, image-shown}
 use Rattle.showing.proofs.ShowLaws.{told-as}
 use Rattle.driving.specs.Asks.{dueBytes, askedBytes, writtenBytes}
 
@@ -39,7 +39,7 @@ by-ask o op r k {out} {out′} {n} e w = subst (λ (x : AskOp). Writes (askedByt
 -- the converter: the lent buffer is the front of a longer one
 module _ (i : Bytes) (n : ℕ) {buffer : Bytes} {done : Wrote} {page : Bytes} (lent-is : buffer ≡ lent 262144) (small : n < 262145) (v : WroteAs (convertImage i (take n buffer)) done page) where
   converted : ShownTold (paging (convertImage i (lent n)) freshState) freshState (record { answer = done .answer; count = done .count; len = n }) (page ++ drop n buffer)
-  converted = image-shown (convertImage i) (converted-long i) n freshState lent-is small v
+  converted = image-shown (convertImage i) (converted-long i) n 262144 freshState lent-is (long-in n small) v
 
   pub convert-front : n ≤ length (page ++ drop n buffer)
   convert-front = converted .told .within

@@ -34,10 +34,10 @@ use Rattle.store.proofs.MemberLaws.{row-found}
 use Rattle.store.proofs.KeySoundLaws.{good-in}
 use Rattle.store.proofs.StoredLaws.{pair-sym, once-insert, stored-order}
 use Rattle.orders.specs.Sorts.{sorted}
-use Rattle.verdicts.proofs.SortedLaws.{sorted-good, none-good}
-use Rattle.verdicts.proofs.SortedPlaceLaws.{rows-sorted, lines-sorted}
-use Rattle.verdicts.proofs.EntryPairLaws as pairs
-use Rattle.verdicts.proofs.EntryPairLaws.{any-sorted, good-same, lineHas, points, lines-have}
+use Rattle.pairs.proofs.SortedLaws.{sorted-good, none-good}
+use Rattle.pairs.proofs.SortedPlaceLaws.{rows-sorted, lines-sorted}
+use Rattle.pairs.proofs.EntryPairLaws as pairs
+use Rattle.pairs.proofs.EntryPairLaws.{any-sorted, good-same, lineHas, points, lines-have}
 use Rattle.restores.specs.Rows.{orNone, rowFor}
 use Rattle.restores.specs.Fills.{Laid, defaultFor, laid, rowBytes, tailBytes, sizeOf}
 

@@ -38,7 +38,7 @@ use Rattle.calls.proofs.SettledLaws.{is-accepted, is-refusal, untouched}
 use Rattle.images.specs.Sections.{rowAt, lineAt, Placed}
 use Rattle.verdicts.specs.declared.outcome.ImageVerdict.{ImageVerdict}
 use Rattle.verdicts.specs.Verdicts.{Decided}
-use Rattle.verdicts.proofs.EntryPairLaws.{lineHas}
+use Rattle.pairs.proofs.EntryPairLaws.{lineHas}
 use Rattle.orders.specs.Finds.{rowsAt}
 use Rattle.restores.specs.Fills.{Laid, laidIn, laid, sizeOf, ComesIf, AsksIf}
 use Rattle.restores.proofs.CarriedLaws.{image-good, image-has, image-stored, image-kept, sizes-need}

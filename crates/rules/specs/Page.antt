@@ -183,7 +183,8 @@ withKey k nothing = nothing
 withKey k (shown r) = shown (record { key = k; row = r })
 withKey k (refused v) = refused v
 
--- "Each key is read first"; the floor was asked for the whole page, and no key is below it then
+-- "Each key is read first". The page asks the floor once for all keys (`rowPageSteps`), so each is read as on the floor 0: at or above the floor
+-- the two are the same (`read-above` of FloorLaws).
 unfoldable pub readKey : ℕ → Box → Key → Reply KeyRow
 readKey moment b k = withKey k (read 0 k moment b)
 

@@ -1,10 +1,11 @@
 // The hall's image: it is written, and a second box is filled from it, which then answers as the first.
 ghost use Rattle.store.specs.Made.{Made};
+use crate::curators::fills;
 use mvcc::AREA;
 use mvcc::Store;
 use visits::asks_figures;
 use visits::asks_key;
-use visits::fills;
+use visits::count;
 use visits::tell;
 
 // A box of its own, with an area of its own.
@@ -18,7 +19,7 @@ fn second_box(image: &[u8], key: &[u8]) {
 
 fn say_image(table: u32, len: usize) {
     tell(b"the image of table ", table as u64, b": ");
-    tell(b"", len as u64, b" bytes\n");
+    count(len as u64, b" bytes\n");
 }
 
 pub fn copies_hall(store: Store, area: &[u8; AREA], table: u32, key: &[u8])

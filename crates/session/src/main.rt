@@ -3,10 +3,14 @@
 // fills the box and is collected. Each line says who asks for what, and then what the box answered. The store and its area live here; every
 // step hands on a made store, whatever was answered.
 mod copying;
+mod curators;
 mod season;
 
 ghost use Rattle.store.specs.Made.{Made};
 use copying::copies_hall;
+use curators::commits;
+use curators::prewrites;
+use curators::withdraws;
 use mvcc::AREA;
 use mvcc::Store;
 use season::passes_season;
@@ -14,10 +18,7 @@ use visits::asks_bones;
 use visits::asks_figures;
 use visits::asks_key;
 use visits::asks_page;
-use visits::commits;
-use visits::prewrites;
 use visits::say_effort;
-use visits::withdraws;
 
 // Two labels come. Keys, rows and batches are document 01's: a key is table 1 and a name; the jaw's row has one integer, its layer, the rib's
 // has none, and each has one text. Of the jaw's nine bones those with the numbers 0, 2, 3 and 8 are shown (02, CR 4); the rib's row has none.

@@ -1,14 +1,15 @@
 // A season in the hall: the labels of two bones are written anew, over and over, until the box is full. What is older than a moment of the season is
 // collected; then the next edition has room, that moment shows what it showed, and those before it are gone.
 ghost use Rattle.store.specs.Made.{Made};
+use crate::curators::answered;
 use mvcc::AREA;
-use mvcc::Answer;
 use mvcc::Changed;
 use mvcc::Store;
 use std::num::wrapping_add_u64;
-use visits::answered;
+use visits::accepted;
 use visits::asks_figures;
 use visits::asks_key;
+use visits::count;
 use visits::say;
 use visits::say_answer;
 use visits::tell;
@@ -36,14 +37,6 @@ fn edition(store: Store, area: &mut [u8; AREA], start: u64, digit: u8) -> Change
     }
 }
 
-fn accepted(answer: Answer) -> bool {
-    match answer {
-        Answer::Accepted => true,
-        Answer::No(_) => false,
-        Answer::Held(_) => false,
-    }
-}
-
 // The digit after this one, and 0 after 9.
 fn next_digit(digit: u8) -> u8 {
     if digit < 57 {
@@ -65,7 +58,7 @@ fn editions(store: Store, area: &mut [u8; AREA]) -> Store
         let answer = done.answer;
         kept = done.store;
         if !accepted(answer) {
-            tell(b"", number, b" editions, then ");
+            count(number, b" editions, then ");
             say_answer(answer);
             return kept;
         }

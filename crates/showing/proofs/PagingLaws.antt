@@ -38,9 +38,23 @@ front n m x h =
     ∙ ap (take n) (sym (replicate-append-replicate n (m - n) x))
     ∙ take-at (replicate n x) (replicate (m - n) x) n (length-replicate {A = ℕ} n x)
 
--- a buffer for the longest payload holds it
+-- A buffer holds what is no longer than it. Its length is a variable here: of a number antt would write out the buffer.
+fits : {buffer : Bytes} (n most : ℕ) → buffer ≡ lent most → n ≤ most → n ≤ length buffer
+fits n most e h = omega (arith, ap length e, length-replicate {A = ℕ} most 238)
+
+short-in : (n : ℕ) → n < 65536 → n ≤ 65535
+short-in n h = omega arith
+
+pub long-in : (n : ℕ) → n < 262145 → n ≤ 262144
+long-in n h = omega arith
+
+-- a buffer for the longest payload but the image
 pub fits-lent : {buffer : Bytes} (n : ℕ) → buffer ≡ lent 65535 → n < 65536 → n ≤ length buffer
-fits-lent n e h = omega (arith, ap length e, length-replicate {A = ℕ} 65535 238)
+fits-lent n e h = fits n 65535 e (short-in n h)
+
+-- and for the image
+pub fits-long : (n : ℕ) → n < 262145 → n ≤ length (lent 262144)
+fits-long n h = fits {buffer = lent 262144} n 262144 refl (long-in n h)
 
 -- ---- its length
 
@@ -100,15 +114,15 @@ front-shown w state n buffer {out = out} v e =
     }
 
 -- an image, in a buffer of the call's length
-module _ (w : Bytes → Written) (same-long : (buffer : Bytes) → length (w buffer .buffer) ≡ length buffer) (n : ℕ) (state : State) {buffer : Bytes} {done : Wrote} {out : Bytes} (lent-is : buffer ≡ lent 262144) (small : n < 262145) (v : WroteAs (w (take n buffer)) done out) where
+module _ (w : Bytes → Written) (same-long : (buffer : Bytes) → length (w buffer .buffer) ≡ length buffer) (n most : ℕ) (state : State) {buffer : Bytes} {done : Wrote} {out : Bytes} (lent-is : buffer ≡ lent most) (small : n ≤ most) (v : WroteAs (w (take n buffer)) done out) where
   pub image-shown : ShownTold (paging (w (lent n)) state) state (record { answer = done .answer; count = done .count; len = n }) (out ++ drop n buffer)
   image-shown =
-      let e : take n buffer ≡ lent n = ap (take n) lent-is ∙ front n 262144 238 (omega arith) in
+      let e : take n buffer ≡ lent n = ap (take n) lent-is ∙ front n most 238 small in
       front-shown (w (lent n)) state n buffer (subst (λ (x : Bytes). WroteAs (w x) done out) e v) (same-long (lent n) ∙ length-replicate {A = ℕ} n 238)
 
-  pub image-room : length (out ++ drop n buffer) ≤ 262144
+  pub image-room : length (out ++ drop n buffer) ≤ most
   image-room =
-      let l : length buffer ≡ 262144 = ap length lent-is ∙ length-replicate {A = ℕ} 262144 238 in
+      let l : length buffer ≡ most = ap length lent-is ∙ length-replicate {A = ℕ} most 238 in
       let k : length out ≡ n = ap length (v .out-is) ∙ same-long (take n buffer) ∙ length-take-le n buffer (omega arith) in
       omega (arith, length-append out (drop n buffer), length-drop n buffer)
 
@@ -116,13 +130,10 @@ module _ (w : Bytes → Written) (same-long : (buffer : Bytes) → length (w buf
 module _ (floor t n : ℕ) (b : Box) {buffer : Bytes} {done : Wrote} {out : Bytes} (lent-is : buffer ≡ lent 262144) (small : n < 262145) (v : WroteAs (captureImage floor t b (take n buffer)) done out) where
   pub capture-shown : ShownTold (told (Call.Capture t) n (record { box = b; floor = floor })) (record { box = b; floor = floor }) (record { answer = done .answer; count = done .count; len = n }) (out ++ drop n buffer)
   unfolding told
-  capture-shown = image-shown (captureImage floor t b) (captured-long floor t b) n (record { box = b; floor = floor }) lent-is small v
+  capture-shown = image-shown (captureImage floor t b) (captured-long floor t b) n 262144 (record { box = b; floor = floor }) lent-is (long-in n small) v
 
   pub capture-room : length (out ++ drop n buffer) ≤ 262144
-  capture-room = image-room (captureImage floor t b) (captured-long floor t b) n (record { box = b; floor = floor }) lent-is small v
-
-pub fits-long : (n : ℕ) → n < 262145 → n ≤ length (lent 262144)
-fits-long n h = omega (arith, length-replicate {A = ℕ} 262144 238)
+  capture-room = image-room (captureImage floor t b) (captured-long floor t b) n 262144 (record { box = b; floor = floor }) lent-is (long-in n small) v
 
 -- ---- a page, shown
 
@@ -142,7 +153,7 @@ module _ (w : Which) (s : Bytes) (a : Args) (state : State) {start end resume bu
       ap (λ (x : Bytes). scanned w (boundsOf (a .from) x (a .to) end (a .resume) resume) (a .first) (a .second) (a .third) state (take (a .buffer) buffer)) start-is
       ∙ ap (λ (x : Bytes). scanned w (boundsOf (a .from) (bytesAt s (a .fromat) (a .fromlen)) (a .to) x (a .resume) resume) (a .first) (a .second) (a .third) state (take (a .buffer) buffer)) end-is
       ∙ ap (λ (x : Bytes). scanned w (boundsOf (a .from) (bytesAt s (a .fromat) (a .fromlen)) (a .to) (bytesAt s (a .toat) (a .tolen)) (a .resume) x) (a .first) (a .second) (a .third) state (take (a .buffer) buffer)) resume-is
-      ∙ ap (λ (x : Bytes). scanned w (boundsIn s a) (a .first) (a .second) (a .third) state x) (ap (take (a .buffer)) lent-is ∙ front (a .buffer) 65535 238 (omega arith))
+      ∙ ap (λ (x : Bytes). scanned w (boundsIn s a) (a .first) (a .second) (a .third) state x) (ap (take (a .buffer)) lent-is ∙ front (a .buffer) 65535 238 (short-in (a .buffer) small))
 
   -- what is told is the front of the longer buffer
   pub page-shown : ShownTold (paging asked state) state (record { answer = done .answer; count = done .count; len = a .buffer }) (page′ ++ drop (a .buffer) buffer)

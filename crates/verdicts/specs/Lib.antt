@@ -1,3 +1,2 @@
 -- The definitions of `verdicts`, in the order in which they build on each other.
-pub mod Puts
 pub mod Verdicts

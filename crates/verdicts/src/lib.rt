@@ -1,9 +1,6 @@
-// What restore decides from the image's bytes alone: its entries held against each other, and the answer.
+// What restore decides from the image's bytes alone: the answer, and the places of an accepted image in order.
 pub mod decide;
-pub mod judge;
-pub mod locks;
 pub mod outcome;
-pub mod puts;
 
 pub use decide::verdict;
 pub use outcome::ImageVerdict;

@@ -1,14 +1,10 @@
-// What a curator, a visitor or the support desk asks of the box, and the words for what was answered. The program `session` stands on this; it is
-// apart from it for the check's time.
-pub mod curators;
+// What a visitor or the support desk asks of the box, and the words for what was answered. The program `session` stands on this; it is apart from it
+// for the check's time.
 pub mod telling;
 pub mod visitors;
 
-pub use curators::answered;
-pub use curators::commits;
-pub use curators::fills;
-pub use curators::prewrites;
-pub use curators::withdraws;
+pub use telling::accepted;
+pub use telling::count;
 pub use telling::say;
 pub use telling::say_answer;
 pub use telling::tell;

@@ -10,82 +10,96 @@ pub fn say(words: &[u8]) {
     io::write_all(STDOUT_FILENO, words);
 }
 
-// A number with the words before and after it.
-pub fn tell(before: &[u8], number: u64, after: &[u8]) {
-    say(before);
+// A number and the words after it.
+pub fn count(number: u64, after: &[u8]) {
     io::print_decimal(STDOUT_FILENO, number);
     say(after);
 }
 
-// "What a call answers": the paper's words for a number, of what the caller gave.
+// A number with the words before and after it.
+pub fn tell(before: &[u8], number: u64, after: &[u8]) {
+    say(before);
+    count(number, after);
+}
+
+// "What a call answers": the paper's words for a number. Few in one function, for the check's time. Of what the caller gave:
 fn meaning_given(number: u8) {
     match number {
         1 => say(b"key not in form"),
         2 => say(b"row argument not in form"),
         3 => say(b"a zero, or a commit not above its start"),
         4 => say(b"scan start not below scan end"),
-        5 => say(b"empty batch"),
-        _ => say(b"batch not in form"),
+        _ => meaning_stored(number),
     }
 }
 
-// Of what is stored, and of room.
+// Of a batch, and of what is stored:
 fn meaning_stored(number: u8) {
     match number {
+        5 => say(b"empty batch"),
+        6 => say(b"batch not in form"),
         7 => say(b"key locked"),
         8 => say(b"history forbids it"),
         9 => say(b"stored state contradicts the call or itself"),
+        _ => meaning_short(number),
+    }
+}
+
+// Of room, and of what came later:
+fn meaning_short(number: u8) {
+    match number {
         10 => say(b"byte limit below the first entry"),
         11 => say(b"no room"),
         12 => say(b"lent buffer shorter than the page"),
         13 => say(b"image refused"),
-        _ => say(b"below the floor"),
-    }
-}
-
-fn meaning(number: u8) {
-    if 14 < number {
-        say(b"no number of the paper");
-    } else if 6 < number {
-        meaning_stored(number);
-    } else {
-        meaning_given(number);
+        14 => say(b"below the floor"),
+        _ => say(b"no number of the paper"),
     }
 }
 
 // The number of a refusal and what it means.
 fn say_refusal(number: u8) {
     tell(b"refused, ", number as u64, b": ");
-    meaning(number);
+    meaning_given(number);
 }
 
 // What a lock is for, by its kind: "1 Put, 2 Delete".
 fn say_kind(kind: u8) {
     match kind {
-        1 => say(b" for a new label"),
-        2 => say(b" for a removal"),
-        _ => say(b" for no kind of the paper"),
+        1 => say(b"a new label"),
+        2 => say(b"a removal"),
+        _ => say(b"no kind of the paper"),
     }
 }
 
 // Who holds the key, since when and for what, and how long the lock is to stand.
 fn say_holder(holder: Holder) {
     tell(b" by curator ", holder.txn, b" since ");
-    tell(b"", holder.start, b"");
+    count(holder.start, b" for ");
     say_kind(holder.kind);
-    tell(b", time to live ", holder.ttl, b"");
+    tell(b", time to live ", holder.ttl, b"\n");
 }
 
 pub fn say_answer(answer: Answer) {
     match answer {
-        Answer::Accepted => say(b"accepted"),
-        Answer::No(n) => say_refusal(n),
+        Answer::Accepted => say(b"accepted\n"),
+        Answer::No(n) => {
+            say_refusal(n);
+            say(b"\n");
+        }
         Answer::Held(holder) => {
             say_refusal(7);
             say_holder(holder);
         }
     }
-    say(b"\n");
+}
+
+pub fn accepted(answer: Answer) -> bool {
+    match answer {
+        Answer::Accepted => true,
+        Answer::No(_) => false,
+        Answer::Held(_) => false,
+    }
 }
 
 // A key is its table's number in 4 bytes, and then a name.

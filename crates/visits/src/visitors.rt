@@ -1,5 +1,9 @@
 // What a visitor asks of the box, and the support desk, and what is shown. Nothing here changes the store.
+ghost use Prim.Native.Nat.{_≤_};
+ghost use lib.ListN.{length};
 ghost use Rattle.store.specs.Made.{Made};
+use crate::telling::accepted;
+use crate::telling::count;
 use crate::telling::say;
 use crate::telling::say_answer;
 use crate::telling::say_label;
@@ -11,6 +15,7 @@ use mvcc::Answer;
 use mvcc::Reading;
 use mvcc::RowSeen;
 use mvcc::Store;
+use mvcc::Wrote;
 
 // A read's answer; a row that is shown is taken from the store's own bytes.
 fn say_seen(area: &[u8], seen: RowSeen) {
@@ -39,11 +44,11 @@ pub fn asks_key(store: Store, area: &[u8; AREA], key: &[u8], moment: u64) -> Rea
 }
 
 // "The support desk wants to see which keys are slow."
-pub fn say_effort(key: &[u8], moment: u64, count: usize) {
+pub fn say_effort(key: &[u8], moment: u64, records: usize) {
     say(b"the support desk asks how many records a read of the ");
     say_name(key);
     tell(b" at moment ", moment, b" looks at: ");
-    tell(b"", count as u64, b"\n");
+    count(records as u64, b"\n");
 }
 
 // One row of a page, "key length byte, key, row length byte, row", and the place after it.
@@ -75,10 +80,10 @@ fn say_more(page: &[u8], at: usize) {
 
 // "2-byte count; rows .."
 fn say_page(page: &[u8]) {
-    let count = forms::number_at(page, 0, Width::Two);
-    tell(b"", count.value, b" rows\n");
+    let rows = forms::number_at(page, 0, Width::Two);
+    count(rows.value, b" rows\n");
     let mut at: usize = 2;
-    let mut left = count.value;
+    let mut left = rows.value;
     while 0 < left {
         at = say_row(page, at);
         left -= 1;
@@ -87,21 +92,20 @@ fn say_page(page: &[u8]) {
 }
 
 fn say_paged(answer: Answer, page: &[u8]) {
-    match answer {
-        Answer::Accepted => say_page(page),
-        Answer::No(_) => say_answer(answer),
-        Answer::Held(_) => say_answer(answer),
+    if accepted(answer) {
+        say_page(page);
+    } else {
+        say_answer(answer);
     }
 }
 
 // A page of the whole hall, of at most 8 rows and 1,000 bytes.
-pub fn asks_page(store: Store, area: &[u8; AREA], moment: u64)
+fn page_of(store: Store, area: &[u8; AREA], moment: u64, out: &mut [u8]) -> Wrote
     requires { ⌜ Made store (now area) ⌝ }
+    ensures { λ r. ⌜ r .count ≤ length (now (out .entry)) ⌝ }
 {
-    tell(b"a visitor asks for a page at moment ", moment, b": ");
     let none = b"";
-    let mut out = [0u8; 2048];
-    let paged = mvcc::scan_page(
+    mvcc::scan_page(
         store,
         area,
         moment,
@@ -113,8 +117,16 @@ pub fn asks_page(store: Store, area: &[u8; AREA], moment: u64)
         none,
         false,
         none,
-        &mut out,
-    );
+        out,
+    )
+}
+
+pub fn asks_page(store: Store, area: &[u8; AREA], moment: u64)
+    requires { ⌜ Made store (now area) ⌝ }
+{
+    tell(b"a visitor asks for a page at moment ", moment, b": ");
+    let mut out = [0u8; 2048];
+    let paged = page_of(store, area, moment, &mut out);
     let answer = paged.answer;
     let n = paged.count;
     say_paged(answer, &out[..n]);
@@ -133,10 +145,10 @@ fn say_bone(row: &[u8], n: u64) {
     tell(b"a visitor asks whether bone ", n, b" of it is shown: ");
     let asked = mvcc::bone_shown(row, n);
     let answer = asked.answer;
-    match answer {
-        Answer::Accepted => say_whether(asked.shown),
-        Answer::No(_) => say_answer(answer),
-        Answer::Held(_) => say_answer(answer),
+    if accepted(answer) {
+        say_whether(asked.shown);
+    } else {
+        say_answer(answer);
     }
 }
 
@@ -145,10 +157,10 @@ fn say_bones(row: &[u8]) {
     say(b"a visitor asks how many bones of it are shown: ");
     let asked = mvcc::bones_shown(row);
     let answer = asked.answer;
-    match answer {
-        Answer::Accepted => tell(b"", asked.shown as u64, b"\n"),
-        Answer::No(_) => say_answer(answer),
-        Answer::Held(_) => say_answer(answer),
+    if accepted(answer) {
+        count(asked.shown as u64, b"\n");
+    } else {
+        say_answer(answer);
     }
 }
 
@@ -165,9 +177,9 @@ pub fn asks_bones(area: &[u8; AREA], reading: Reading) {
 }
 
 fn say_figures(records: u64, locks: u64, rows: u64) {
-    tell(b"", records, b" records, ");
-    tell(b"", locks, b" locks, ");
-    tell(b"", rows, b" rows\n");
+    count(records, b" records, ");
+    count(locks, b" locks, ");
+    count(rows, b" rows\n");
 }
 
 // What the box holds, from its statistics.

@@ -3,13 +3,13 @@ use borrow.Author.Needs.{needs}
 use Prim.Native.Nat.{ℕ}
 use mathlib.Core.Path.{sym}
 use native.Mathlib.Omega.{arith}
-use lib.ListN.{length-replicate}
+use lib.ListN.{replicate, length-replicate}
 use lib.Seq.{length-take-le}
 use Rattle.bench.proofs.measure.Statement.{statement}
 use Rattle.bench.proofs.measure.Tie as tie
 
 restore-requires : tie.Need-restore-requires
-restore-requires c κs = (c .before .before .fresh) .ensures _ (length-replicate {A = ℕ} 131072 0) .made
+restore-requires c κs = (c .before .before .fresh) .ensures (replicate 131072 0) (length-replicate {A = ℕ} 131072 0) .made
 
 many-turns-requires : tie.Need-many-turns-requires
 many-turns-requires c κs = record { made = (c .before .before .before .before .before .restore) .ensures .made; length-is = length-replicate {A = ℕ} 131072 0 }

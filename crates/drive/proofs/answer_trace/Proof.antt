@@ -1,7 +1,7 @@
 -- `drive::answer_trace` meets its contract.
 -- Assumes nothing.
 use borrow.Author.Needs.{needs}
-use lib.ListN.{length-replicate}
+use lib.ListN.{replicate, length-replicate}
 use Prim.Native.Nat.{ℕ, _-_}
 use Rattle.drive.proofs.answer_trace.Statement.{statement}
 use Rattle.drive.proofs.answer_trace.Tie as tie
@@ -28,7 +28,7 @@ fresh-requires : tie.Need-fresh-requires
 fresh-requires c κs = search needs
 
 answer-calls-requires : tie.Need-answer-calls-requires
-answer-calls-requires c κs = (c .before .before .fresh) .ensures _ (length-replicate {A = ℕ} 131072 0) .made
+answer-calls-requires c κs = (c .before .before .fresh) .ensures (replicate 131072 0) (length-replicate {A = ℕ} 131072 0) .made
 
 same-length-2 : tie.Need-same-length-2
 same-length-2 c = search needs

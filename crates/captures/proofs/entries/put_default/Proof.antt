@@ -1,6 +1,6 @@
 -- `captures::entries::put_default` meets its contract: the default, with what was cut out of the area for its key and its row.
 -- Assumes nothing.
-use Rattle.captures.proofs.CaptureLineLaws.{row-in, start-in, row-short}
+use Rattle.picks.proofs.CaptureLineLaws.{row-in, start-in, row-short}
 use Rattle.captures.proofs.CaptureEntryLaws.{default-asks, default-laid}
 use borrow.Author.Needs.{needs}
 use native.Mathlib.Omega.{arith}

@@ -1,6 +1,6 @@
 -- `captures::entries::put_line` meets its contract: the key's piece, and the lock or the record.
 -- Assumes nothing.
-use Rattle.captures.proofs.CaptureLineLaws.{key-in}
+use Rattle.picks.proofs.CaptureLineLaws.{key-in}
 use Rattle.captures.proofs.CaptureEntryLaws.{line-key, told-asks, line-laid}
 use borrow.Author.Needs.{needs}
 use Rattle.captures.proofs.entries.put_line.Statement.{statement}

@@ -1,6 +1,6 @@
 -- `converts::judge::judge_in` meets its contract: each way out is a law of `OldImageLaws`.
 -- Assumes nothing.
-use Rattle.verdicts.proofs.VerdictLaws.{judge-asks}
+use Rattle.pairs.proofs.AskLaws.{judge-asks}
 use Rattle.converts.proofs.OldImageLaws.{judged-none, judged}
 use lib.Seq.{length-take-le}
 use native.Mathlib.Omega.{arith}

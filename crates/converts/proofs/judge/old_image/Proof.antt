@@ -1,6 +1,6 @@
 -- `converts::judge::old_image` meets its contract: 65,536 places are enough for every section.
 -- Assumes nothing.
-use Rattle.verdicts.proofs.VerdictLaws.{judge-room}
+use Rattle.pairs.proofs.AskLaws.{judge-room}
 use mathlib.Core.Logic.{inr}
 use native.Mathlib.Omega.{arith}
 use borrow.Author.Needs.{needs}

@@ -1,4 +1,4 @@
--- `converts::puts::puts_have` meets its contract. The loop's invariant: the writes from i on are left (`Each` of verdicts/proofs/EachLaws).
+-- `converts::puts::puts_have` meets its contract. The loop's invariant: the writes from i on are left (`Each` of pairs/proofs/EachLaws).
 -- Assumes nothing.
 use native.Mathlib.Omega.{arith}
 use Prim.Native.Nat.{_-_}
@@ -6,7 +6,7 @@ use mathlib.Core.Path.{refl}
 use lib.ListN.{length}
 use Rattle.rules.specs.Restore.{hasDefault}
 use Rattle.orders.specs.Finds.{rowsAt}
-use Rattle.verdicts.proofs.EachLaws.{Each, each-bad, each-more, each-end}
+use Rattle.pairs.proofs.EachLaws.{Each, each-bad, each-more, each-end}
 use Rattle.converts.specs.Judged.{writeAt}
 use Rattle.converts.proofs.OldImageLaws.{write-lacks, write-has}
 use borrow.Author.Needs.{needs}

@@ -7,16 +7,16 @@ use Rattle.session.proofs.season.editions.Statement.{statement}
 use Rattle.session.proofs.season.editions.Tie as tie
 
 abbrev Inv-loop : tie.InvT-loop
-Inv-loop area₀ kept₀ digit₀ number₀ t8 t9 area kept digit number = Made kept area
+Inv-loop area₀ kept₀ digit₀ number₀ t8 area kept digit number = Made kept area
 
 abbrev μ-loop : tie.MeasureT-loop
-μ-loop area₀ kept₀ digit₀ number₀ t8 t9 area kept digit number = 1024 - number
+μ-loop area₀ kept₀ digit₀ number₀ t8 area kept digit number = 1024 - number
 
 edition-requires : tie.Need-edition-requires Inv-loop μ-loop
 edition-requires c κs = (c .before .before .loop) .inv
 
 returns : tie.Need-returns Inv-loop μ-loop
-returns c = (c .before .before .before .before .before .before .before .edition) .ensures
+returns c = (c .before .before .before .before .before .before .edition) .ensures
 
 loop-again : tie.Need-loop-again Inv-loop μ-loop
 loop-again c = (c .before .before .before .before .edition) .ensures
@@ -35,7 +35,6 @@ editions-spec =
     (λ c. search needs)
     edition-requires
     (λ c κs. search needs)
-    (λ c. search needs)
     (λ c. search needs)
     (λ c κs. search needs)
     (λ c κs. search needs)

@@ -1,5 +1,7 @@
 -- `showing::shows::run_shown` meets its contract: what is shown is told, and the store is as it was (`showed`).
 -- Assumes nothing.
+use Prim.Native.Nat.{ℕ}
+use lib.ListN.{length-replicate}
 use lib.Seq.{length-take-le}
 use Rattle.showing.proofs.ShowLaws.{showed, shown-small}
 use mathlib.Core.Path.{refl, sym}
@@ -20,7 +22,7 @@ pub run-shown-spec : {M : Type 1} → statement M
 run-shown-spec =
     tie.close
     (tie.spec
-    (λ c. search needs)
+    (λ c. sym (length-replicate {A = ℕ} 65535 238))
     show-requires
     (λ c. search needs)
     slice-aggregate-tell

@@ -1,0 +1,2 @@
+-- The definitions of `faults`.
+pub mod Judged

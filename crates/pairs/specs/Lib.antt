@@ -1,0 +1,3 @@
+-- The definitions of `pairs`, in the order in which they build on each other.
+pub mod Puts
+pub mod Asks
