@@ -1,12 +1,12 @@
 -- The lines that stay close up, and the promise of the call by its ways out: 14, the holder of a lock, or the collected box.
 -- Assumes nothing.
-use Prim.Native.Nat.{ℕ, _+_, _≤_, _<_}
+use Prim.Native.Nat.{ℕ, _+_, _-_, _≤_, _<_}
 use native.Mathlib.Omega.{arith}
 use native.Mathlib.Numerals.{add-one}
 use mathlib.Core.Path.{_≡_, refl, sym, ap, ap₂, _∙_, subst}
 use mathlib.Core.Bool.{Bool, true, false, true≢false}
-use mathlib.Core.List.{List, [], map}
-use lib.ListN.{length, getD, take, drop, set, length-map}
+use mathlib.Core.List.{List, [], _++_, map}
+use lib.ListN.{length, getD, take, drop, set, replicate, length-map, take-append-drop}
 use lib.Seq.{getD-take, drop-length}
 use borrow.Author.Tests.{le-leb, lt-leb}
 use Rattle.seqs.specs.Tables.{Table, shown}
@@ -26,7 +26,7 @@ use Rattle.laws.specs.Adds.{minus}
 use Rattle.laws.proofs.StepLaws.{answered, own-true}
 use Rattle.laws.proofs.SettleLaws.{settleState-answer, settleState-leaves}
 use Rattle.laws.proofs.Sorted.{fewer-good}
-use Rattle.laws.proofs.FewerLaws.{FewerBox, fewer-each}
+use Rattle.laws.proofs.FewerLaws.{FewerBox, fewer-same, fewer-each}
 use Rattle.laws.proofs.LoadLaws.{load-eq, load-fields}
 use Rattle.laws.proofs.CollectLaws.{collected-fewer, collected-order}
 use Rattle.ledger.specs.Tidy.{lineAbove, LocksAbove}
@@ -34,12 +34,12 @@ use Rattle.ledger.proofs.Tidiness.{above-call}
 use Rattle.store.specs.declared.table.Slot.{Slot}
 use Rattle.store.specs.declared.table.Store.{Store}
 use Rattle.store.specs.View.{lineOf, rowIn, boxOf, stateShown, noSlot}
-use Rattle.store.specs.Made.{goodLine, goodRow, SlotBelow, Tallied, Built, Made}
+use Rattle.store.specs.Made.{goodLine, goodRow, SlotBelow, Tallied, Built, Made, storeOf}
 use Rattle.store.proofs.StoredLaws.{pair-sym, once-fewer}
 use Rattle.changes.specs.Loads.{Within}
-use Rattle.calls.specs.Settled.{Replaced}
 use Rattle.calls.proofs.SettledLaws.{untouched}
 use Rattle.collects.specs.declared.passing.Passed.{Passed}
+use Rattle.collects.specs.Promise.{CollectedAs}
 use Rattle.collects.proofs.LeftLaws.{leftOf, left-lines, left-fewer, left-rows, boxFrom, loadIn, freedOf, load-left}
 use Rattle.collects.proofs.PackLaws.{Packed, pack-start, pack-read, pack-goes, pack-stays, pack-end}
 use Rattle.collects.proofs.WalkLaws.{Walked, many, from}
@@ -83,15 +83,18 @@ module _ {f : ℕ} {area : Bytes} {old : Store} (b : Built old area) {h : ℕ} {
 -- ---- refused
 
 module _ {st : Store} {area : Bytes} (m : Made st area) (f : ℕ) where
-  refused : {a : Answer} → collectSteps f (stateShown st area) ≡ a → (a ≡ Accepted → ⊥) → Replaced st area (collect f (stateShown st area)) (record { store = st; answer = a }) area
+  refused : {a : Answer} → collectSteps f (stateShown st area) ≡ a → (a ≡ Accepted → ⊥) → CollectedAs f st area (record { store = st; answer = a }) area
   unfolding collect
   refused {a} e n =
       let new : State = record { box = collected f (boxOf st area); floor = f } in
       let q : settleState (collectSteps f (stateShown st area)) new (stateShown st area) .answer ≡ a = settleState-answer _ new (stateShown st area) ∙ e in
-      record { answer-is = answered (sym q); made = m; shown = sym (settleState-leaves _ new (stateShown st area) (λ p. n (sym q ∙ p))); refused = λ _. untouched }
+      record {
+        replaced = record { answer-is = answered (sym q); made = m; shown = sym (settleState-leaves _ new (stateShown st area) (λ p. n (sym q ∙ p))); refused = λ _. untouched };
+        unchanged = λ _. untouched;
+      }
 
   -- "14, below the floor, .. for a collection with a lower floor, tested first"
-  pub collect-low : f < st .floor → Replaced st area (collect f (stateShown st area)) (record { store = st; answer = No 14 }) area
+  pub collect-low : f < st .floor → CollectedAs f st area (record { store = st; answer = No 14 }) area
   unfolding collectSteps need _▸_
   collect-low h = refused (rw (lt-leb (st .floor) f h)) (λ e. true≢false (cc))
 
@@ -110,7 +113,7 @@ module _ {st : Store} {area : Bytes} (m : Made st area) (f : ℕ) where
     steps-are = rw (le-leb (st .floor) f up, all)
 
     -- "answers 7 for the first such key"
-    pub collect-held : p .held < st .load .lines → {a : Answer} → a ≡ lineAboveStep f (lineOf area (getD (st .lines) (p .held) noSlot) .line) → Replaced st area (collect f (stateShown st area)) (record { store = st; answer = a }) area
+    pub collect-held : p .held < st .load .lines → {a : Answer} → a ≡ lineAboveStep f (lineOf area (getD (st .lines) (p .held) noSlot) .line) → CollectedAs f st area (record { store = st; answer = a }) area
     collect-held h {a} e =
         let s : getD slots (p .held) noSlot ≡ getD (st .lines) (p .held) noSlot = getD-take (st .load .lines) (st .lines) (p .held) noSlot h in
         let v = rw s at (w .first (omega (arith, many (m .built) f))) in
@@ -201,10 +204,36 @@ module _ {st : Store} {area : Bytes} (m : Made st area) (f : ℕ) where
           above = subst (LocksAbove f) (sym box-is) left-above;
         }
 
-        pub collect-done : Replaced st area (collect f (stateShown st area)) (record { store = record { lines = r .lines; load = load; top = r .top; floor = f }; answer = Accepted }) area
+        -- nothing has gone: the slots are those of before
+        module _ (q : collect f (stateShown st area) .state ≡ stateShown st area) where
+          same : record { box = collected f (boxOf st area); floor = f } ≡ stateShown st area
+          same = sym (ap (λ (x : Ended). x .state) collect-is) ∙ q
+
+          left-all : left ≡ slots
+          unfolding collected shown
+          left-all = fewer-same (left-fewer line f slots) (sym (length-map left line) ∙ ap length (left-lines line f slots ∙ ap (λ (x : State). x .box .lines) same) ∙ length-map slots line)
+
+          lines-same : r .lines ≡ st .lines
+          lines-same =
+              let n : k ≡ st .load .lines = ends .0 ∙ ap length left-all ∙ many (m .built) f in
+              sym (take-append-drop k (r .lines)) ∙ ap₂ _++_ (ends .1 ∙ left-all) (ends .2 .rest ∙ ap (λ (n : ℕ). replicate (1024 - n) noSlot) n ∙ sym (m .built .lines .rest))
+              ∙ take-append-drop (st .load .lines) (st .lines)
+
+          load-same : load ≡ st .load
+          load-same = new-made .built .kept .load-is ∙ ap loadOf (box-is ∙ ap (λ (x : State). x .box) same) ∙ sym (m .built .kept .load-is)
+
+          store-same : new ≡ st
+          store-same =
+              ap (λ (x : List Slot). storeOf x load (r .top) f) lines-same ∙ ap (λ (x : Load). storeOf (st .lines) x (r .top) f) load-same
+              ∙ ap₂ (λ (t x : ℕ). storeOf (st .lines) (st .load) t x) (v .top-is) (ap (λ (x : State). x .floor) same)
+
+        pub collect-done : CollectedAs f st area (record { store = record { lines = r .lines; load = load; top = r .top; floor = f }; answer = Accepted }) area
         collect-done = record {
-          answer-is = answered (sym (ap (λ (x : Ended). x .answer) collect-is));
-          made = new-made;
-          shown = ap (λ (b : box.Box). record { box = b; floor = f }) box-is ∙ sym (ap (λ (x : Ended). x .state) collect-is);
-          refused = λ n. absurd (n refl);
+          replaced = record {
+            answer-is = answered (sym (ap (λ (x : Ended). x .answer) collect-is));
+            made = new-made;
+            shown = ap (λ (b : box.Box). record { box = b; floor = f }) box-is ∙ sym (ap (λ (x : Ended). x .state) collect-is);
+            refused = λ n. absurd (n refl);
+          };
+          unchanged = λ q. record { store-is = store-same q; area-is = refl };
         }

@@ -1,2 +1,3 @@
 -- The definitions of `collects`.
 pub mod Passes
+pub mod Promise

@@ -1,8 +1,6 @@
 // "Collect up to a floor F": the call.
-ghost use Rattle.rules.specs.Collect.{collect};
-ghost use Rattle.store.specs.View.{stateShown};
 ghost use Rattle.store.specs.Made.{Made};
-ghost use Rattle.calls.specs.Settled.{Replaced};
+ghost use Rattle.collects.specs.Promise.{CollectedAs};
 use crate::passing::line_step;
 use crate::passing::nothing_passed;
 use crate::passing::pass_line;
@@ -20,7 +18,7 @@ use store::table::no_slot;
 // would copy it.
 pub fn collect(mut store: Store, area: &[u8; AREA], floor: u64) -> Changed
     requires { ⌜ Made store (now area) ⌝ }
-    ensures { λ r. ⌜ Replaced store (now (area .entry)) (collect floor (stateShown store (now (area .entry)))) r (now (area .entry)) ⌝ }
+    ensures { λ r. ⌜ CollectedAs floor store (now (area .entry)) r (now (area .entry)) ⌝ }
 {
     if floor < store.floor {
         let answer = Answer::No(14);

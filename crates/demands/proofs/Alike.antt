@@ -18,6 +18,7 @@ use Rattle.rules.specs.Calls.{State, freshState, Done, Ended}
 use Rattle.rules.specs.Page.{Bounds, Limits}
 use Rattle.rules.specs.Prewrite.{PrewriteTerms}
 use Rattle.rules.specs.declared.terms.CommitTerms.{CommitTerms}
+use Rattle.rules.specs.Collect.{collect}
 use Rattle.rules.specs.Call.{Changing, Call}
 use Rattle.rules.specs.Written.{Written, WroteAs}
 use Rattle.laws.proofs.StepLaws.{answered}
@@ -26,7 +27,8 @@ use Rattle.store.specs.declared.table.Slot.{Slot}
 use Rattle.store.specs.View.{boxOf, stateShown, noSlot}
 use Rattle.store.specs.Made.{Made, FreshStore, storeOf}
 use Rattle.calls.specs.declared.changed.Changed.{Changed}
-use Rattle.calls.specs.Settled.{Settled, Replaced}
+use Rattle.calls.specs.Settled.{Untouched, Settled, Replaced}
+use Rattle.collects.specs.Promise.{CollectedAs}
 use Rattle.reads.specs.declared.seen.RowSeen.{RowSeen}
 use Rattle.reads.specs.declared.seen.LockSeen.{LockSeen}
 use Rattle.reads.proofs.PartLaws.{one-reply, one-row, one-lock, one-primary}
@@ -131,7 +133,7 @@ module _ (w : Lent) where
   restore-once s (changed r x) (changed t y) a b = changed-same w (replaced-once a b)
 
   pub collect-once : (f : ℕ) → Once w (calling (Call.Change (Changing.Collect f)))
-  collect-once f (changed r x) (changed t y) a b = changed-same w (replaced-once a b)
+  collect-once f (changed r x) (changed t y) a b = changed-same w (replaced-once (a .replaced) (b .replaced))
 
   pub stats-once : Once w (calling Call.Statistics)
   stats-once (counted s) (counted t) a b = same w (counted s) (counted t) refl refl (ap chains (a ∙ sym b)) refl refl refl
@@ -185,9 +187,16 @@ one-outcome w (calling (Call.Bones r)) = bones-once w r
 pub one-refusal : OneRefusal
 one-refusal w c g q k l n = refusals w c g k n .left ∙ sym (refusals w c q l (λ e. n (one-outcome w c g q k l .answer .case-is ∙ e)) .left)
 
--- "accepted and unchanged": of the seven changing calls nothing is open either, where the box is as it was
+-- "accepted and unchanged": nothing is open either, where a changing call leaves the box as it was, or a collection box and floor
+still : {st r q : Store} {area area₁ area₂ : Bytes} → Untouched st area r area₁ → Untouched st area q area₂ → (r ≡ q) × (area₁ ≡ area₂)
+still u v = (u .store-is ∙ sym (v .store-is), u .area-is ∙ sym (v .area-is))
+
 pub still-once : {st : Store} {area : Bytes} {d : Done} {r q : Changed} {area₁ area₂ : Bytes} → Settled st area d r area₁ → Settled st area d q area₂ → d .box ≡ boxOf st area → (r .store ≡ q .store) × (area₁ ≡ area₂)
-still-once a b e = let u = a .unchanged e in let v = b .unchanged e in (u .store-is ∙ sym (v .store-is), u .area-is ∙ sym (v .area-is))
+still-once a b e = still (a .unchanged e) (b .unchanged e)
+
+pub still-collected : {f : ℕ} {st : Store} {area : Bytes} {r q : Changed} {area₁ area₂ : Bytes} → CollectedAs f st area r area₁ → CollectedAs f st area q area₂ → collect f (stateShown st area) .state ≡ stateShown st area
+    → (r .store ≡ q .store) × (area₁ ≡ area₂)
+still-collected a b e = still (a .unchanged e) (b .unchanged e)
 
 -- and the tallies are never open: the box has them
 pub load-once : {s t : Store} {area area′ : Bytes} → Made s area → Made t area′ → boxOf s area ≡ boxOf t area′ → s .load ≡ t .load

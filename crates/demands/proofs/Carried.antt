@@ -43,7 +43,7 @@ shows-next (Changing.Prewrite h s) w (changed r area) k = settled-shows k
 shows-next (Changing.Commit h s) w (changed r area) k = settled-shows k
 shows-next (Changing.Rollback txn start s) w (changed r area) k = settled-shows k
 shows-next (Changing.OneStep h s) w (stepped r area) k = settled-shows (k .settled)
-shows-next (Changing.Collect f) w (changed r area) k = k .shown
+shows-next (Changing.Collect f) w (changed r area) k = k .replaced .shown
 
 -- ---- a sequence
 

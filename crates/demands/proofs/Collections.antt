@@ -1,7 +1,8 @@
 -- Document 02, CR 7, carried to the store by the calls' promises alone: what a collection leaves to see, and what calls after it answer.
 -- Assumes nothing.
 use Prim.Native.Nat.{ℕ, _≤_}
-use mathlib.Core.Path.{_≡_, refl, sym, ap, _∙_, subst}
+use native.Mathlib.Omega.{arith}
+use mathlib.Core.Path.{_≡_, refl, sym, ap, ap₂, _∙_, subst}
 use mathlib.Core.Bool.{true}
 use mathlib.Core.List.{List, []}
 use lib.Dec.{leb}
@@ -13,7 +14,7 @@ use Rattle.rules.specs.declared.answers.Answer.the-variants.{Accepted}
 use Rattle.rules.specs.declared.written.Wrote.{Wrote}
 use Rattle.rules.specs.Answers.{Reply, answerOf}
 use Rattle.rules.specs.Box.{inOrder}
-use Rattle.rules.specs.Read.{read}
+use Rattle.rules.specs.Read.{Examined, examine, read}
 use Rattle.rules.specs.Intent.{intentAt}
 use Rattle.rules.specs.Page.{Page, KeyRow, KeyLock}
 use Rattle.rules.specs.Prewrite.{prewriteBatch}
@@ -32,9 +33,10 @@ use Rattle.ledger.specs.Collected.{AnswersAsBefore, CallsAsBefore, SameUnless11
 use Rattle.ledger.proofs.CollectReads.{answers-as-before}
 use Rattle.ledger.proofs.CollectCalls.{calls-as-before}
 use Rattle.ledger.proofs.Tidiness.{collected-since}
+use Rattle.store.specs.declared.table.Store.{Store}
 use Rattle.store.proofs.TidyLaws.{built-tidy}
 use Rattle.calls.specs.declared.changed.Changed.{Changed}
-use Rattle.demands.specs.Calls.{aRow, aLock, aChange, calling, gives, Lent, boxIn, floorIn, stateIn, Given, seen, pointed, paged, changed, stepped, rowIn, lockIn, answerIn, shownIn, after, Kept, Same}
+use Rattle.demands.specs.Calls.{aRow, aLock, aChange, calling, gives, Lent, boxIn, floorIn, stateIn, Given, seen, pointed, paged, changed, stepped, rowIn, lockIn, answerIn, countIn, shownIn, after, Kept, Same}
 use Rattle.demands.specs.Demands.{changing, Ran, Shows}
 use Rattle.demands.specs.Collections.{Collects, left, SeenAsBefore, AsBefore, CallAbove, ChangesAsBefore, SecondCollection}
 use Rattle.demands.proofs.Stays.{stays-made}
@@ -47,12 +49,12 @@ module _ {f : ℕ} {w : Lent} {r : Changed} {area : Bytes} (c : Collects f w r a
 
   passes : collectSteps f (stateIn w) ≡ Accepted
   unfolding collect
-  passes = sym (settleState-answer (collectSteps f (stateIn w)) new (stateIn w)) ∙ sym (c .kept .answer-is .case-is) ∙ c .accepted
+  passes = sym (settleState-answer (collectSteps f (stateIn w)) new (stateIn w)) ∙ sym (c .kept .replaced .answer-is .case-is) ∙ c .accepted
 
   -- the store after it shows the box that was collected, on the floor F
   state-left : stateIn (left w r area) ≡ new
   unfolding collect
-  state-left = c .kept .shown ∙ settleState-new new (stateIn w) passes
+  state-left = c .kept .replaced .shown ∙ settleState-new new (stateIn w) passes
 
   low : floorIn w ≤ f
   unfolding collectSteps
@@ -76,11 +78,12 @@ module _ {f : ℕ} {w : Lent} {r : Changed} {area : Bytes} (c : Collects f w r a
   page-left x e p q out out′ a b = page-same w a (subst (λ (y : Written). WroteAs y q out′) (reply-left x e) b)
 
   reads-left : (k : Key) (m : ℕ) → f ≤ m → (g q : Given aRow) → Kept w (calling (Call.Read k m)) g → Kept (left w r area) (calling (Call.Read k m)) q
-      → (answerIn (left w r area) q ≡ answerIn w g) × (shownIn (left w r area) q ≡ shownIn w g)
+      → (answerIn (left w r area) q ≡ answerIn w g) × (shownIn (left w r area) q ≡ shownIn w g) × (countIn q ≤ countIn g)
   unfolding read
   reads-left k m up (seen s x) (seen t y) a b =
       let e = b .0 .seen-as .is ∙ reply-left (λ (st : State). read (st .floor) k m (st .box)) (box-says .reads k m up) ∙ sym (a .0 .seen-as .is) in
-      (ap answerOf e, ap rowIn e)
+      let n = ap (λ (st : State). examine (st .floor) k m (st .box) .count) state-left in
+      (ap answerOf e, ap rowIn e, omega (arith, a .0 .count-is, b .0 .count-is, n, box-says .counts k m up))
 
   points-left : (k : Key) (m : ℕ) → (g q : Given aLock) → Kept w (calling (Call.OneIntent k m)) g → Kept (left w r area) (calling (Call.OneIntent k m)) q
       → (answerIn (left w r area) q ≡ answerIn w g) × (shownIn (left w r area) q ≡ shownIn w g)
@@ -123,10 +126,11 @@ standing w = record { box = boxIn w; floor = floorIn w; log = []; dropped = [] }
 pub second-collection : SecondCollection
 unfolding then perform
 second-collection f w r area c cs v run (changed q x) k =
-    let e : perform (Changing.Collect f) (ledger.stateIn (standing w)) .answer ≡ Accepted = sym (c .kept .answer-is .case-is) ∙ c .accepted in
+    let e : perform (Changing.Collect f) (ledger.stateIn (standing w)) .answer ≡ Accepted = sym (c .kept .replaced .answer-is .case-is) ∙ c .accepted in
     let p = then (Changing.Collect f) (standing w) in
-    let first : Shows p (left w r area) = record { made = stays-made w (changing (Changing.Collect f)) (changed r area) (c .kept) (c .made); shown = c .kept .shown } in
+    let first : Shows p (left w r area) = record { made = stays-made w (changing (Changing.Collect f)) (changed r area) (c .kept) (c .made); shown = c .kept .replaced .shown } in
     let last = ran-shows cs p run first .shown in
     let again : collect (floorIn v) (stateIn v) ≡ record { answer = Accepted; state = stateIn v } =
     subst (λ (st : State). collect (st .floor) st ≡ record { answer = Accepted; state = st }) (sym last) (collected-since f (standing w) cs e) in
-    (k .answer-is .case-is ∙ ap (λ (d : Ended). d .answer) again, k .shown ∙ ap (λ (d : Ended). d .state) again)
+    let u = k .unchanged (ap (λ (d : Ended). d .state) again) in
+    (k .replaced .answer-is .case-is ∙ ap (λ (d : Ended). d .answer) again, ap₂ (λ (s : Store) (a : Bytes). record { store = s; area = a; buffer = v .buffer }) (u .store-is) (u .area-is))

@@ -175,7 +175,7 @@ refusals w (calling (Call.Change (Changing.OneStep h s))) (stepped r area) p n =
       shown = refl;
       part = refl;
     }
-refusals w (calling (Call.Change (Changing.Collect f))) (changed r area) p n = changed-left w r area (p .refused n)
+refusals w (calling (Call.Change (Changing.Collect f))) (changed r area) p n = changed-left w r area (p .replaced .refused n)
 refusals w (calling (Call.Restore s)) (changed r area) p n = changed-left w r area (p .refused n)
 refusals w (calling Call.Statistics) (counted s) p n = absurd (n refl)
 refusals w (calling Call.Marks) (marked m) p n = absurd (n refl)

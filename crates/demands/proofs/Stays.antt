@@ -21,7 +21,7 @@ stays-made w (calling (Call.Change (Changing.Prewrite h s))) (changed r area) p 
 stays-made w (calling (Call.Change (Changing.Commit h s))) (changed r area) p m = p .made
 stays-made w (calling (Call.Change (Changing.Rollback txn start s))) (changed r area) p m = p .made
 stays-made w (calling (Call.Change (Changing.OneStep h s))) (stepped r area) p m = p .settled .made
-stays-made w (calling (Call.Change (Changing.Collect f))) (changed r area) p m = p .made
+stays-made w (calling (Call.Change (Changing.Collect f))) (changed r area) p m = p .replaced .made
 stays-made w (calling (Call.Restore s)) (changed r area) p m = p .made
 stays-made w (calling Call.Statistics) (counted s) p m = m
 stays-made w (calling Call.Marks) (marked s) p m = m

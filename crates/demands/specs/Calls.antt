@@ -25,7 +25,6 @@ use Rattle.rules.specs.Rollback.{rollbackBatch}
 use Rattle.rules.specs.OneStep.{oneStep}
 use Rattle.rules.specs.Restore.{restore}
 use Rattle.rules.specs.Calls.{State}
-use Rattle.rules.specs.Collect.{collect}
 use Rattle.rules.specs.Bones.{Tells, boneShown, bonesShown}
 use Rattle.rules.specs.Figures.{stats, marks}
 use Rattle.store.specs.declared.table.Store.{Store}
@@ -33,6 +32,7 @@ use Rattle.store.specs.View.{boxOf, stateShown}
 use Rattle.store.specs.Made.{Made, FreshStore}
 use Rattle.calls.specs.declared.changed.Changed.{Changed}
 use Rattle.calls.specs.Settled.{Settled, Replaced}
+use Rattle.collects.specs.Promise.{CollectedAs}
 use Rattle.reads.specs.declared.seen.RowSeen.{RowSeen}
 use Rattle.reads.specs.declared.seen.Reading.{Reading}
 use Rattle.reads.specs.declared.seen.LockSeen.{LockSeen}
@@ -256,7 +256,7 @@ Kept w (calling (Call.Change (Changing.Commit h s))) (changed r area) = Settled 
 Kept w (calling (Call.Change (Changing.Rollback txn start s))) (changed r area) = Settled (w .store) (w .area) (rollbackBatch (floorIn w) txn start s (boxIn w)) r area
 Kept w (calling (Call.Change (Changing.OneStep h s))) (stepped r area) = Counts (w .store) (w .area) (oneStep (floorIn w) h s (boxIn w)) r area
 -- the area is lent as `&`, so what the call left of it is the area itself
-Kept w (calling (Call.Change (Changing.Collect f))) (changed r area) = Replaced (w .store) (w .area) (collect f (stateIn w)) r area
+Kept w (calling (Call.Change (Changing.Collect f))) (changed r area) = CollectedAs f (w .store) (w .area) r area
 Kept w (calling (Call.Restore s)) (changed r area) = Replaced (w .store) (w .area) (restore s (stateIn w)) r area
 Kept w (calling Call.Statistics) (counted s) = s ≡ stats (boxIn w)
 Kept w (calling Call.Marks) (marked m) = m ≡ marks (boxIn w)

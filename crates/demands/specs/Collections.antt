@@ -12,7 +12,7 @@ use Rattle.rules.specs.Page.{Bounds, Limits}
 use Rattle.rules.specs.Call.{Changing, Call}
 use Rattle.ledger.specs.Collected.{SameUnless11}
 use Rattle.calls.specs.declared.changed.Changed.{Changed}
-use Rattle.demands.specs.Calls.{aRow, aLock, aChange, calling, gives, Lent, floorIn, stateIn, Given, paged, changed, answerIn, shownIn, after, Kept, MadeIn, Same}
+use Rattle.demands.specs.Calls.{aRow, aLock, aChange, calling, gives, Lent, floorIn, Given, paged, changed, answerIn, countIn, shownIn, after, Kept, MadeIn, Same}
 use Rattle.demands.specs.Demands.{changing, Ran}
 
 -- a collection up to F was made on a store, and accepted
@@ -28,7 +28,7 @@ left w r area = after w (changed r area)
 -- "Reads and pages at moments at or above F answer as before; the record counts of CR 6 may fall."
 pub record SeenAsBefore (f : ℕ) (w w′ : Lent) : Type 0 where
   pub reads : (k : Key) (m : ℕ) → f ≤ m → (g q : Given aRow) → Kept w (calling (Call.Read k m)) g → Kept w′ (calling (Call.Read k m)) q
-      → (answerIn w′ q ≡ answerIn w g) × (shownIn w′ q ≡ shownIn w g)
+      → (answerIn w′ q ≡ answerIn w g) × (shownIn w′ q ≡ shownIn w g) × (countIn q ≤ countIn g)
   pub pages : (a : Bounds) (m : ℕ) (l : Limits) → f ≤ m → (p q : Wrote) (out out′ : Bytes) → Kept w (calling (Call.Page a m l)) (paged p out) → Kept w′ (calling (Call.Page a m l)) (paged q out′)
       → Same w (paged p out) (paged q out′)
   -- locks stay, so they are seen as before at every moment
@@ -62,7 +62,8 @@ ChangesAsBefore =
     → Kept (left w r area) (changing c) q
     → SameUnless11 (answerIn w g) (answerIn (left w r area) q)
 
--- a second collection at the same floor is accepted and changes nothing, whatever changing calls came between, as long as no image did
+-- a second collection at the same floor is accepted and hands back the very same store, whatever changing calls came between, as long as no image
+-- did
 abbrev pub SecondCollection : Type 0
 SecondCollection =
     (f : ℕ) (w : Lent) (r : Changed) (area : Bytes)
@@ -71,4 +72,4 @@ SecondCollection =
     → Ran cs (left w r area) v
     → (q : Given aChange)
     → Kept v (changing (Changing.Collect (floorIn v))) q
-    → (answerIn v q ≡ Accepted) × (stateIn (after v q) ≡ stateIn v)
+    → (answerIn v q ≡ Accepted) × (after v q ≡ v)

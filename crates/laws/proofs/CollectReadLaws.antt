@@ -1,5 +1,6 @@
--- "Reads and pages at moments at or above F answer as before": at one key, the walk over the records that stay replies as the walk over all of
--- them, as the newest record by the floor that is not a Rollback decides, or nothing does. Assumes nothing.
+-- "Reads and pages at moments at or above F answer as before; the record counts of CR 6 may fall": at one key, the walk over the records that
+-- stay replies as the walk over all of them and examines no more, as the newest record by the floor that is not a Rollback decides, or nothing
+-- does. Assumes nothing.
 use Prim.Native.Nat.{ℕ, _≤_, _<_}
 use native.Mathlib.Omega.{arith}
 use mathlib.Core.Path.{_≡_, refl, ap, sym, _∙_}
@@ -14,7 +15,7 @@ use Rattle.forms.specs.Row.{Row}
 use Rattle.rules.specs.declared.records.Kind.{Kind}
 use Rattle.rules.specs.declared.records.Kind.the-variants.{Put, Delete, Rollback}
 use Rattle.rules.specs.declared.records.Record.{Record}
-use Rattle.rules.specs.Answers.{Reply, nothing}
+use Rattle.rules.specs.Answers.{Reply}
 use Rattle.rules.specs.Box.{Default, eqKind, rowOf, allAfter, ordered}
 use Rattle.rules.specs.Sound.{soundRecord, allSound}
 use Rattle.rules.specs.Read.{keepIf, atOrBelow, newestFirst, showRow, Examined, oneRecord, walk}
@@ -32,6 +33,11 @@ none-above f w (v ∷ ws) up a =
     let l : w .stamp < v .stamp = ltb-true (w .stamp) (v .stamp) (and-left _ _ a) in
     rw (lt-leb (v .stamp) f (omega arith)) (none-above f w ws up (and-right (stampBefore w v) _ a))
 
+-- the same reply, from no more records than before
+pub record Fell (x y : Examined) : Type 0 where
+  pub reply : x .reply ≡ y .reply
+  pub count : x .count ≤ y .count
+
 module _ (k : Key) (f m : ℕ) (up : f ≤ m) (ds es : List Default) where
   -- a Put that stays has its row
   abbrev RowsStay : List Record → Type 0
@@ -45,22 +51,31 @@ module _ (k : Key) (f m : ℕ) (up : f ≤ m) (ds es : List Default) where
       go true i = inr i
       go false i = i
 
-  -- what the walks so far say: as long as a record to come counts, nothing stays; then both say the same
+  -- what the walks so far say: as long as a record to come counts, none stays; then both say the same
   record Alike (ws older left : List Record) : Type 0 where
-    same : noneCounts f ws ≡ true → walk k es left .reply ≡ walk k ds older .reply
-    nothing-yet : noneCounts f ws ≡ false → walk k es left .reply ≡ nothing
+    same : noneCounts f ws ≡ true → Fell (walk k es left) (walk k ds older)
+    none-yet : noneCounts f ws ≡ false → left ≡ []
 
   -- one more on both, with the same row
-  both : (w : Record) (older left : List Record) → soundRecord w ≡ true → (w .kind ≡ Put → rowOf k (w .start) es ≡ rowOf k (w .start) ds) → walk k es left .reply ≡ walk k ds older .reply
-      → walk k es (w ∷ left) .reply ≡ walk k ds (w ∷ older) .reply
+  both : (w : Record) (older left : List Record) → soundRecord w ≡ true → (w .kind ≡ Put → rowOf k (w .start) es ≡ rowOf k (w .start) ds) → Fell (walk k es left) (walk k ds older)
+      → Fell (walk k es (w ∷ left)) (walk k ds (w ∷ older))
   unfolding walk oneRecord
   both w older left s r e = rw s (go (w .kind) r)
     where
       go : (kind : Kind) → (kind ≡ Put → rowOf k (w .start) es ≡ rowOf k (w .start) ds)
-          → oneRecord true kind (showRow (rowOf k (w .start) es)) (walk k es left) .reply ≡ oneRecord true kind (showRow (rowOf k (w .start) ds)) (walk k ds older) .reply
-      go Put r = ap showRow (r refl)
-      go Delete r = refl
-      go Rollback r = e
+          → Fell (oneRecord true kind (showRow (rowOf k (w .start) es)) (walk k es left)) (oneRecord true kind (showRow (rowOf k (w .start) ds)) (walk k ds older))
+      go Put r = record { reply = ap showRow (r refl); count = omega arith }
+      go Delete r = record { reply = refl; count = omega arith }
+      go Rollback r = record { reply = e .reply; count = omega (arith, e .count) }
+
+  -- one more of which none stays: a Delete that decides, or a Rollback
+  deleted : (w : Record) (older left : List Record) → soundRecord w ≡ true → w .kind ≡ Delete → left ≡ [] → Fell (walk k es left) (walk k ds (w ∷ older))
+  unfolding walk oneRecord
+  deleted w older left s e n = rw (s, e, n) (record { reply = refl; count = omega arith })
+
+  passed : (w : Record) (older left : List Record) → soundRecord w ≡ true → w .kind ≡ Rollback → Fell (walk k es left) (walk k ds older) → Fell (walk k es left) (walk k ds (w ∷ older))
+  unfolding walk oneRecord
+  passed w older left s e v = rw (s, e) (record { reply = v .reply; count = omega (arith, v .count) })
 
   module _ (w : Record) (ws older left : List Record) where
     -- above the floor: it stays
@@ -69,12 +84,12 @@ module _ (k : Key) (f m : ℕ) (up : f ≤ m) (ds es : List Default) where
     unfolding noneCounts keepIf
     above l a s r v t =
         let n : noneCounts f ws ≡ true = none-above f w ws l a in
-        let e : walk k es left .reply ≡ walk k ds older .reply = v .same (rw (lt-leb (w .stamp) f l) n) in
+        let e : Fell (walk k es left) (walk k ds older) = v .same (rw (lt-leb (w .stamp) f l) n) in
         go n e t
       where
-        go : noneCounts f ws ≡ true → walk k es left .reply ≡ walk k ds older .reply → (t : Bool) → Alike ws (keepIf t w older) (keepIf t w left)
-        go n e true = record { same = λ q. both w older left s r e; nothing-yet = λ q. absurd (true≢false (sym n ∙ q)) }
-        go n e false = record { same = λ q. e; nothing-yet = λ q. absurd (true≢false (sym n ∙ q)) }
+        go : noneCounts f ws ≡ true → Fell (walk k es left) (walk k ds older) → (t : Bool) → Alike ws (keepIf t w older) (keepIf t w left)
+        go n e true = record { same = λ q. both w older left s r e; none-yet = λ q. absurd (true≢false (sym n ∙ q)) }
+        go n e false = record { same = λ q. e; none-yet = λ q. absurd (true≢false (sym n ∙ q)) }
 
     -- at or below it: the last that counts stays, if it is a Put
     below : w .stamp ≤ f → soundRecord w ≡ true → (recordStays f ws w ≡ true → w .kind ≡ Put → rowOf k (w .start) es ≡ rowOf k (w .start) ds) → Alike (w ∷ ws) older left
@@ -86,24 +101,27 @@ module _ (k : Key) (f m : ℕ) (up : f ≤ m) (ds es : List Default) where
         low = le-leb (w .stamp) f l
 
         -- what was said before it, by its kind
-        before-same : noneCounts f ws ≡ true → eqKind (w .kind) Rollback ≡ true → walk k es left .reply ≡ walk k ds older .reply
+        before-same : noneCounts f ws ≡ true → eqKind (w .kind) Rollback ≡ true → Fell (walk k es left) (walk k ds older)
         before-same n e = v .same (rw (low, e) n)
 
-        before-nothing : eqKind (w .kind) Rollback ≡ false → walk k es left .reply ≡ nothing
-        before-nothing e = v .nothing-yet (rw (low, e))
+        before-none : eqKind (w .kind) Rollback ≡ false → left ≡ []
+        before-none e = v .none-yet (rw (low, e))
 
-        over-nothing : noneCounts f ws ≡ false → eqKind (w .kind) Rollback ≡ true → walk k es left .reply ≡ nothing
-        over-nothing n e = v .nothing-yet (rw (low, e) n)
+        over-none : noneCounts f ws ≡ false → eqKind (w .kind) Rollback ≡ true → left ≡ []
+        over-none n e = v .none-yet (rw (low, e) n)
 
         go : (kind : Kind) (n : Bool) → w .kind ≡ kind → noneCounts f ws ≡ n → Alike ws (w ∷ older) (keepIf (eqKind kind Put && n) w left)
-        go Put true e n = record { same = λ q. rw (s, e) (ap showRow (r (rw (le-ltb f (w .stamp) l, e, n)) e)); nothing-yet = λ q. absurd (true≢false (sym n ∙ q)) }
-        go Put false e n = record { same = λ q. absurd (true≢false (sym q ∙ n)); nothing-yet = λ q. before-nothing (rw e) }
-        go Delete n e p = record { same = λ q. rw (s, e) (before-nothing (rw e)); nothing-yet = λ q. before-nothing (rw e) }
-        go Rollback n e p = record { same = λ q. rw (s, e) (before-same q (rw e)); nothing-yet = λ q. over-nothing q (rw e) }
+        go Put true e n = record {
+          same = λ q. rw (s, e) (record { reply = ap showRow (r (rw (le-ltb f (w .stamp) l, e, n)) e); count = omega arith });
+          none-yet = λ q. absurd (true≢false (sym n ∙ q));
+        }
+        go Put false e n = record { same = λ q. absurd (true≢false (sym q ∙ n)); none-yet = λ q. before-none (rw e) }
+        go Delete n e p = record { same = λ q. deleted w older left s e (before-none (rw e)); none-yet = λ q. before-none (rw e) }
+        go Rollback n e p = record { same = λ q. passed w older left s e (before-same q (rw e)); none-yet = λ q. over-none q (rw e) }
 
   -- what is left to walk over says the same on both
   abbrev Goes : List Record → Type 0
-  Goes ws = (older left : List Record) → Alike ws older left → walk k es (reverseAux (atOrBelow m (keptRecords f ws)) left) .reply ≡ walk k ds (reverseAux (atOrBelow m ws) older) .reply
+  Goes ws = (older left : List Record) → Alike ws older left → Fell (walk k es (reverseAux (atOrBelow m (keptRecords f ws)) left)) (walk k ds (reverseAux (atOrBelow m ws) older))
 
   module _ (w : Record) (ws : List Record) (first : allAfter stampBefore w ws ≡ true) (here : soundRecord w ≡ true) (r : RowsStay (w ∷ ws)) (rest : Goes ws) where
     own : recordStays f ws w ≡ true → w .kind ≡ Put → rowOf k (w .start) es ≡ rowOf k (w .start) ds
@@ -126,7 +144,7 @@ module _ (k : Key) (f m : ℕ) (up : f ≤ m) (ds es : List Default) where
     goes-on older left v = go (ltb f (w .stamp)) refl
       where
         go : (t : Bool) → ltb f (w .stamp) ≡ t
-            → walk k es (reverseAux (atOrBelow m (keepIf (recordStays f ws w) w (keptRecords f ws))) left) .reply ≡ walk k ds (reverseAux (keepIf (leb (w .stamp) m) w (atOrBelow m ws)) older) .reply
+            → Fell (walk k es (reverseAux (atOrBelow m (keepIf (recordStays f ws w) w (keptRecords f ws))) left)) (walk k ds (reverseAux (keepIf (leb (w .stamp) m) w (atOrBelow m ws)) older))
         go true e =
             let l : f < w .stamp = ltb-true f (w .stamp) e in
             let q : recordStays f ws w ≡ true = rw e in
@@ -145,6 +163,6 @@ module _ (k : Key) (f m : ℕ) (up : f ≤ m) (ds es : List Default) where
 
   -- at a moment at or above the floor
   pub walk-kept : (ws : List Record) → ordered stampBefore ws ≡ true → allSound ws ≡ true → RowsStay ws
-      → walk k es (newestFirst m (keptRecords f ws)) .reply ≡ walk k ds (newestFirst m ws) .reply
+      → Fell (walk k es (newestFirst m (keptRecords f ws))) (walk k ds (newestFirst m ws))
   unfolding newestFirst walk
-  walk-kept ws o s r = walks-on ws o s r [] [] (record { same = λ q. refl; nothing-yet = λ q. refl })
+  walk-kept ws o s r = walks-on ws o s r [] [] (record { same = λ q. record { reply = refl; count = omega arith }; none-yet = λ q. refl })

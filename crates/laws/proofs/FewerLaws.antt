@@ -2,10 +2,10 @@
 -- box, and so is what a collection leaves. Assumes nothing.
 use Prim.Native.Nat.{ℕ, _+_, _≤_}
 use native.Mathlib.Omega.{arith}
-use mathlib.Core.Path.{_≡_}
+use mathlib.Core.Path.{_≡_, refl, ap}
 use mathlib.Core.Logic.{inl, inr}
 use mathlib.Core.Bool.{true}
-use mathlib.Core.List.{List}
+use mathlib.Core.List.{List, _∷_}
 use lib.ListN.{length}
 use Rattle.seqs.specs.Tables.{All}
 use Rattle.rules.specs.Box.{Box, KeyLine, Default, inOrder}
@@ -25,6 +25,12 @@ pub fewer-length : {A : Type 0} {ys xs : List A} → Fewer ys xs → length ys �
 fewer-length empty = omega arith
 fewer-length (gone q) = omega (arith, fewer-length q)
 fewer-length (kept q) = omega (arith, fewer-length q)
+
+-- as many as before: the same
+pub fewer-same : {A : Type 0} {ys xs : List A} → Fewer ys xs → length ys ≡ length xs → ys ≡ xs
+fewer-same empty e = refl
+fewer-same (gone q) e = absurd (omega (arith, fewer-length q))
+fewer-same {A} (kept {x = x} q) e = ap (λ (l : List A). x ∷ l) (fewer-same q (omega arith))
 
 pub fewer-each : {A : Type 0} (P : A → Type 0) {ys xs : List A} → Fewer ys xs → All P xs → All P ys
 unfolding All

@@ -1,7 +1,7 @@
 -- "Reads and pages at moments at or above F answer as before" (specs/Collected), of a tidy box in order. Assumes nothing.
 use Prim.Native.Nat.{ℕ, _≤_}
 use native.Mathlib.Omega.{arith}
-use mathlib.Core.Path.{_≡_, refl, sym, ap, ap₂, _∙_}
+use mathlib.Core.Path.{_≡_, refl, sym, ap, ap₂, _∙_, subst}
 use mathlib.Core.Logic.{_⊎_, inl, inr}
 use mathlib.Core.Bool.{Bool, true}
 use mathlib.Core.List.{List, [], _∷_}
@@ -13,22 +13,23 @@ use Rattle.forms.specs.Row.{Row}
 use Rattle.forms.specs.Bytes.{ltBytes}
 use Rattle.forms.proofs.Orders.{ltBytes-irrefl}
 use Rattle.rules.specs.declared.answers.Answer.{Answer}
+use Rattle.rules.specs.declared.answers.Answer.the-variants.{Accepted, No, Held}
 use Rattle.rules.specs.declared.records.Kind.the-variants.{Put}
 use Rattle.rules.specs.declared.records.Record.{Record}
-use Rattle.rules.specs.Answers.{_▸_, need, Reply, nothing, ifPassed}
+use Rattle.rules.specs.Answers.{_▸_, need, Reply, nothing, ifPassed, countIf}
 use Rattle.rules.specs.Box.{Box, Lock, Finished, KeyLine, recordsOf, lockOf, rowOf, inOrder}
 use Rattle.rules.specs.Read.{lockLets, newestFirst, walk, Examined, readSteps, examine, read, atOrBelow}
 use Rattle.rules.specs.Intent.{judgeLock, intentAt}
 use Rattle.rules.specs.Page.{Bounds, Limits, Page, KeyLock, KeyRow, locksOf, locksWithin, keysOf, keysWithin, pageArguments, rowPageSteps, pastEnd, unlessPast, pageWalk, withKey, readKey, rowCost, page, intentArguments, intentWalk, intentPage, conflicting, lockCost, conflictPage}
 use Rattle.rules.specs.Restore.{allGood}
 use Rattle.rules.specs.Collect.{keptLines, collected}
-use Rattle.rules.proofs.FloorLaws.{read-above, page-above}
+use Rattle.rules.proofs.FloorLaws.{examine-above, read-above, page-above}
 use Rattle.laws.proofs.StepLaws.{and-left, and-right}
 use Rattle.laws.proofs.Sorted.{In}
 use Rattle.laws.proofs.BoxOrder.{order-lines}
 use Rattle.laws.proofs.KeyLaws.{records-ordered}
 use Rattle.laws.proofs.CollectLaws.{Thinned, kept-fewer, lock-kept, locks-kept, keptRecords, records-kept}
-use Rattle.laws.proofs.CollectReadLaws.{walk-kept}
+use Rattle.laws.proofs.CollectReadLaws.{Fell, walk-kept}
 use Rattle.laws.proofs.CollectPageLaws.{walk-thinned, fewer-thinned, keys-fewer, key-of, keys-ordered, key-or-none, within-thinned}
 use Rattle.ledger.specs.Ledger.{linesAt, rowsAt}
 use Rattle.ledger.specs.Tidy.{goodLine, Tidy}
@@ -47,6 +48,13 @@ good-in : {A : Type 0} (p : A → Bool) (xs : List A) (x : A) → allGood p xs �
 unfolding allGood
 good-in p (y ∷ ys) x a (inl e) = ap p e ∙ and-left _ _ a
 good-in p (y ∷ ys) x a (inr m) = good-in p ys x (and-right (p y) _ a) m
+
+-- a count is no more where the steps are the same
+count-monotone : (a : Answer) {n p : ℕ} → n ≤ p → countIf a n ≤ countIf a p
+unfolding countIf
+count-monotone Accepted h = h
+count-monotone (No m) h = omega arith
+count-monotone (Held o) h = omega arith
 
 -- a key in form without a record and without a lock shows nothing
 nothing-at : (k : Key) (m : ℕ) (b : Box) → keyForm k ≡ true → recordsOf k (b .lines) ≡ [] → lockOf k (b .lines) ≡ none → read 0 k m b ≡ nothing
@@ -75,15 +83,19 @@ module _ (f : ℕ) (b : Box) (v : Tidy b) (o : inOrder b ≡ true) where
   unfolding readSteps collected
   steps-same k m = ap (λ (l : Option Lock). need (keyForm k) 1 ▸ need (leb 0 m) 14 ▸ lockLets m l) (lock-kept f k (b .lines))
 
-  walk-same : (k : Key) (m : ℕ) → f ≤ m → walk k (collected f b .defaults) (newestFirst m (recordsOf k (collected f b .lines))) .reply ≡ walk k (b .defaults) (newestFirst m (recordsOf k (b .lines))) .reply
+  walk-same : (k : Key) (m : ℕ) → f ≤ m → Fell (walk k (collected f b .defaults) (newestFirst m (recordsOf k (collected f b .lines)))) (walk k (b .defaults) (newestFirst m (recordsOf k (b .lines))))
   unfolding collected
   walk-same k m up =
-      ap (λ (ws : List Record). walk k (collected f b .defaults) (newestFirst m ws) .reply) (records-kept f k (b .lines))
-      ∙ walk-kept k f m up (b .defaults) (collected f b .defaults) (recordsOf k (b .lines)) (records-ordered k (b .lines) (order-lines b o)) (records-sound b v k) (rows-stay k)
+      subst (λ (ws : List Record). Fell (walk k (collected f b .defaults) (newestFirst m ws)) (walk k (b .defaults) (newestFirst m (recordsOf k (b .lines))))) (sym (records-kept f k (b .lines)))
+      (walk-kept k f m up (b .defaults) (collected f b .defaults) (recordsOf k (b .lines)) (records-ordered k (b .lines) (order-lines b o)) (records-sound b v k) (rows-stay k))
 
   read-same : (k : Key) (m : ℕ) → f ≤ m → read 0 k m (collected f b) ≡ read 0 k m b
   unfolding read examine
-  read-same k m up = ap₂ (λ (a : Answer) (r : Reply Row). ifPassed a r) (steps-same k m) (walk-same k m up)
+  read-same k m up = ap₂ (λ (a : Answer) (r : Reply Row). ifPassed a r) (steps-same k m) (walk-same k m up .reply)
+
+  count-fell : (k : Key) (m : ℕ) → f ≤ m → examine 0 k m (collected f b) .count ≤ examine 0 k m b .count
+  unfolding examine
+  count-fell k m up = rw (steps-same k m) (count-monotone (readSteps 0 k m b) (walk-same k m up .count))
 
   -- ---- the page
 
@@ -117,6 +129,7 @@ module _ (f : ℕ) (b : Box) (v : Tidy b) (o : inOrder b ≡ true) where
   unfolding page intentPage conflictPage intentAt collected
   answers-as-before floor low = record {
     reads = λ k m up. read-above f k m (collected f b) up ∙ read-same k m up ∙ sym (read-above floor k m b (omega (arith, low, up)));
+    counts = λ k m up. rw (examine-above f k m (collected f b) up, examine-above floor k m b (omega (arith, low, up))) (count-fell k m up);
     pages = λ a m l up.
         ap₂ (λ (t : Answer) (p : Reply (Page KeyRow)). ifPassed t (unlessPast (pastEnd (a .resume) (a .to)) p))
         (page-above f m (l .rows) (l .bytes) a up ∙ sym (page-above floor m (l .rows) (l .bytes) a (omega (arith, low, up)))) (walks-same a m l up);

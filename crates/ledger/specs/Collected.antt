@@ -18,7 +18,7 @@ use Rattle.rules.specs.declared.records.Record.{Record}
 use Rattle.rules.specs.Box.{Box, recordsOf, lockOf}
 use Rattle.rules.specs.Shown.{Newest}
 use Rattle.rules.specs.Restore.{pointedTo}
-use Rattle.rules.specs.Read.{those, read}
+use Rattle.rules.specs.Read.{those, examine, read}
 use Rattle.rules.specs.Intent.{intentAt}
 use Rattle.rules.specs.Page.{Bounds, Limits, page, intentPage, conflictPage}
 use Rattle.rules.specs.Prewrite.{PrewriteTerms, prewriteEntries, prewriteBatch}
@@ -42,6 +42,8 @@ pub record CollectSays (f : ℕ) (b : Box) : Type 0 where
 -- "Reads and pages at moments at or above F answer as before": on the floor F after the collection, on the store's before it
 pub record AnswersAsBefore (f floor : ℕ) (b : Box) : Type 0 where
   pub reads : (k : Key) (m : ℕ) → f ≤ m → read f k m (collected f b) ≡ read floor k m b
+  -- "the record counts of CR 6 may fall", and never rise
+  pub counts : (k : Key) (m : ℕ) → f ≤ m → examine f k m (collected f b) .count ≤ examine floor k m b .count
   pub pages : (a : Bounds) (m : ℕ) (l : Limits) → f ≤ m → page f a m l (collected f b) ≡ page floor a m l b
   pub intents : (a : Bounds) (limit : ℕ) → intentPage a limit (collected f b) ≡ intentPage a limit b
   pub conflicts : (a : Bounds) (m : ℕ) (l : Limits) → conflictPage a m l (collected f b) ≡ conflictPage a m l b

@@ -34,7 +34,7 @@ returns-6 c = by-change _ ChangeOp.RollbackBatch _ _ _ _ _ _ _ _ _ ((c .before .
 
 returns-7 : tie.Need-returns-7
 unfolding perform
-returns-7 c = by-change _ ChangeOp.Collect _ _ _ _ _ _ _ _ _ ((c .before .before .enum-told7) .given .1) (replaced ((c .collect) .ensures))
+returns-7 c = by-change _ ChangeOp.Collect _ _ _ _ _ _ _ _ _ ((c .before .before .enum-told7) .given .1) (replaced ((c .collect) .ensures .replaced))
 
 returns-8 : tie.Need-returns-8
 returns-8 c = by-change _ ChangeOp.Restore _ _ _ _ _ _ _ _ _ ((c .before .before .enum-told8) .given .1) (replaced ((c .restore) .ensures))
