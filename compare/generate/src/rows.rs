@@ -1,8 +1,11 @@
 //! Rows in form, of document 01's own form, and of neither: with bones at every count where a mask's bytes or its spare bits
 //! change, and with each fault of the third section.
 
+use paper::form::mutation_batch;
+use paper::restore::Image;
 use paper::row::{bones_of, old_row_in_form};
-use paper::store::Bytes;
+use paper::store::{Bytes, Kind};
+use paper::trace::Call;
 
 use crate::random::Random;
 
@@ -181,4 +184,22 @@ pub fn old_row_out_of_form(random: &mut Random) -> Bytes {
             return drawn;
         }
     }
+}
+
+/// The rows that a call takes.
+pub fn rows_of(call: &Call) -> Vec<Bytes> {
+    match call {
+        Call::Prewrite { kind: Kind::Put, row, .. } | Call::Bone { row, .. } | Call::Bones { row } => vec![row.clone()],
+        Call::PrewriteBatch { batch, .. } | Call::OneStep { batch, .. } => {
+            let entries = mutation_batch(batch).unwrap_or_default();
+            entries.into_iter().filter(|entry| entry.kind == Kind::Put).map(|entry| entry.row).collect()
+        }
+        Call::Restore { image } => rows_in(Image::read(image)),
+        Call::Convert { image, .. } => rows_in(Image::read_old(image)),
+        _ => Vec::new(),
+    }
+}
+
+fn rows_in(image: Option<Image>) -> Vec<Bytes> {
+    image.map_or(Vec::new(), |image| image.defaults.into_iter().map(|(_, _, row)| row).collect())
 }

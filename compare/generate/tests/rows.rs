@@ -4,14 +4,12 @@
 use std::collections::{BTreeMap, BTreeSet};
 
 use generate::random::Random;
-use generate::rows::{self, COUNTS};
+use generate::rows::{self, COUNTS, rows_of};
 use generate::{Ops, bones, old, trace};
 use paper::convert::{FLOOR, has_longest_row, old_image};
-use paper::form::mutation_batch;
-use paper::restore::Image;
 use paper::row::{bones_of, old_row_in_form, row_in_form};
 use paper::run::{run_call, run_trace};
-use paper::store::{Bytes, Kind, Store};
+use paper::store::Store;
 use paper::trace::{Call, read_trace, write_trace};
 
 #[test]
@@ -37,24 +35,6 @@ fn rows_are_of_their_form() {
         assert!(rows::row_of(length).len() == length && row_in_form(&rows::row_of(length)));
         assert!(rows::old_row_of(length - 1).len() == length - 1 && old_row_in_form(&rows::old_row_of(length - 1)));
     }
-}
-
-/// The rows that a call takes.
-fn rows_of(call: &Call) -> Vec<Bytes> {
-    match call {
-        Call::Prewrite { kind: Kind::Put, row, .. } | Call::Bone { row, .. } | Call::Bones { row } => vec![row.clone()],
-        Call::PrewriteBatch { batch, .. } | Call::OneStep { batch, .. } => {
-            let entries = mutation_batch(batch).unwrap_or_default();
-            entries.into_iter().filter(|entry| entry.kind == Kind::Put).map(|entry| entry.row).collect()
-        }
-        Call::Restore { image } => rows_in(Image::read(image)),
-        Call::Convert { image, .. } => rows_in(Image::read_old(image)),
-        _ => Vec::new(),
-    }
-}
-
-fn rows_in(image: Option<Image>) -> Vec<Bytes> {
-    image.map_or(Vec::new(), |image| image.defaults.into_iter().map(|(_, _, row)| row).collect())
 }
 
 #[test]

@@ -3,12 +3,9 @@
 
 use std::collections::BTreeMap;
 
-use generate::rows::COUNTS;
+use generate::rows::{COUNTS, rows_of};
 use paper::answer::Answer;
-use paper::form::mutation_batch;
-use paper::restore::Image;
 use paper::row::{bones_of, old_row_in_form, row_in_form};
-use paper::store::{Bytes, Kind};
 use paper::trace::Call;
 
 #[derive(Default)]
@@ -75,22 +72,4 @@ impl Rows {
             println!("bones asked: {}; by the bones of the row: {}", asked.join(", "), counts.join(", "));
         }
     }
-}
-
-/// The rows that a call takes.
-fn rows_of(call: &Call) -> Vec<Bytes> {
-    match call {
-        Call::Prewrite { kind: Kind::Put, row, .. } | Call::Bone { row, .. } | Call::Bones { row } => vec![row.clone()],
-        Call::PrewriteBatch { batch, .. } | Call::OneStep { batch, .. } => {
-            let entries = mutation_batch(batch).unwrap_or_default();
-            entries.into_iter().filter(|entry| entry.kind == Kind::Put).map(|entry| entry.row).collect()
-        }
-        Call::Restore { image } => rows_in(Image::read(image)),
-        Call::Convert { image, .. } => rows_in(Image::read_old(image)),
-        _ => Vec::new(),
-    }
-}
-
-fn rows_in(image: Option<Image>) -> Vec<Bytes> {
-    image.map_or(Vec::new(), |image| image.defaults.into_iter().map(|(_, _, row)| row).collect())
 }

@@ -1,6 +1,6 @@
 // The turns: each makes every call of the input once, each call on the same box. All calls of an input are of one kind, a number: 1 read,
-// 2 page, 3 statistics, 11 image, 12 collection; and, each on a copy of the area, 5 prewrite, 6 commit, 7 prewrite and commit, 8 rollback, 9 one-step
-// batch, 10 restore.
+// 2 page, 3 statistics, 11 image, 12 collection; and, each on a copy of the area, 5 prewrite, 6 commit, 7 prewrite and commit, 8 rollback, 9
+// one-step batch, 10 restore.
 // 0 makes no call, and 4 only the copy: what such a turn takes is to be subtracted.
 ghost use mathlib.Core.Path.{_≡_};
 ghost use lib.ListN.{length};
@@ -23,8 +23,8 @@ use mvcc::AREA;
 use mvcc::Store;
 use std::num::wrapping_add_u64;
 
-// A call that leaves the area as it was: one that shows something, or a collection. A page or an image is written over the front of `out`. The moment is
-// the call's and one above it, turn about: no record of the boxes stands between the two.
+// A call that leaves the area as it was: one that shows something, or a collection. A page or an image is written over the front of `out`. The
+// moment is the call's and one above it, turn about: no record of the boxes stands between the two.
 fn show_call(
     store: Store,
     area: &[u8; AREA],
@@ -78,7 +78,8 @@ fn change_call(
 }
 
 // A call that changes the store is made on a copy of the area, so that all start from the same box. Only the bytes below the store's top are
-// copied: a store depends on none above it. This stands by itself, so that no copy of the table which it makes falls on a call that shows something.
+// copied: a store depends on none above it. This stands by itself, so that no copy of the table which it makes falls on a call that shows
+// something.
 fn change_on_copy(
     store: Store,
     area: &[u8; AREA],

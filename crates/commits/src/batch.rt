@@ -46,7 +46,8 @@ fn commit_all(
     }
 }
 
-// "6, 5; 3"; 14; "per key: ..". Of the terms' steps the head takes those on the floor 0, where 14 never comes: the checking pass asks the store's floor.
+// "6, 5; 3"; 14; "per key: ..". Of the terms' steps the head takes those on the floor 0, where 14 never comes: the checking pass asks the store's
+// floor.
 pub fn commit_intents_batch(
     store: Store,
     area: &mut [u8; AREA],

@@ -25,8 +25,9 @@ pub record Shows (p : Past) (w : Lent) : Type 0 where
   pub shown : stateIn w ≡ ledger.stateIn p
 
 -- Demand 3, of the store: its sentence of the box that the store shows, of its floor and of what the calls named; and the store's own tally of
--- lines is the number of different pairs less those whose line a collection dropped. Where `p` is `after cs empty`, the calls were made on a fresh store. Document 02, CR 3: "The third demand then also
--- holds from a restored store, with the image's pairs and rows counted as named before the first call", where `p` is `after cs (restored i)`.
+-- lines is the number of different pairs less those whose line a collection dropped. Where `p` is `after cs empty`, the calls were made on a
+-- fresh store. Document 02, CR 3: "The third demand then also holds from a restored store, with the image's pairs and rows counted as named
+-- before the first call", where `p` is `after cs (restored i)`.
 pub record Demand3 (p : Past) (w : Lent) : Type 0 where
   pub demand : ledger.Demand3 (record { box = boxIn w; floor = floorIn w; log = p .log; dropped = p .dropped })
   pub tally : w .store .load .lines + differentPairs (p .dropped) ≡ differentPairs (p .log)

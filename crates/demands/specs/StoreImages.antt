@@ -1,6 +1,7 @@
 -- Document 02, CR 1, of the store: "Restoring what was written gives that table's part of the store, and two stores holding only that table have
--- equal bytes exactly when they hold the same entries." CR 7: "CR 1's equal bytes now need equal floors too". Said of calls that kept their promises, each on a store that our code made, as a call
--- asks; nothing else is known of the code, and nothing else is asked for. proofs/StoreImages.antt has the theorems.
+-- equal bytes exactly when they hold the same entries." CR 7: "CR 1's equal bytes now need equal floors too". Said of calls that kept their
+-- promises, each on a store that our code made, as a call asks; nothing else is known of the code, and nothing else is asked for.
+-- proofs/StoreImages.antt has the theorems.
 -- Assumes nothing.
 use Prim.Native.Nat.{ℕ}
 use mathlib.Core.Path.{_≡_}

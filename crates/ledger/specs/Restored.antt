@@ -1,5 +1,6 @@
 -- Document 02, CR 3: "The third demand then also holds from a restored store, with the image's pairs and rows counted as named before the first
--- call." CR 7: "a restored store taking the image's" floor, which is the first floor. So it is `Demand3 (after cs (restored i))`. The calls are demand 3's: an accepted restore among them would begin a new log.
+-- call." CR 7: "a restored store taking the image's" floor, which is the first floor. So it is `Demand3 (after cs (restored i))`. The calls are
+-- demand 3's: an accepted restore among them would begin a new log.
 -- proofs/Restored.antt has the theorem.
 -- Assumes nothing.
 use mathlib.Core.List.{List, []}

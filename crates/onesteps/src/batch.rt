@@ -61,7 +61,8 @@ fn step_all(
     }
 }
 
-// "One-step batch: 6; 3"; "after the last 3, .. and before any entry is judged" 14; "each entry in turn 1, 2; empty, accepted with count 0. .. The count is the number of entries."
+// "One-step batch: 6; 3"; "after the last 3, .. and before any entry is judged" 14; "each entry in turn 1, 2; empty, accepted with count 0. ..
+// The count is the number of entries."
 pub fn commit_batch(
     store: Store,
     area: &mut [u8; AREA],

@@ -130,8 +130,8 @@ fn new_entry_step(
     }
 }
 
-// What the check of an entry finds in the store before the call. The contract names the store that `found` was looked up in; the code does not read it, so the
-// table is not copied.
+// What the check of an entry finds in the store before the call. The contract names the store that `found` was looked up in; the code does not
+// read it, so the table is not copied.
 pub fn check_entry(
     store: Store,
     found: KeyState,

@@ -1,5 +1,5 @@
--- The calls of documents 01 and 02, each with its arguments as its steps take them, but for what it is lent: the store, and a page's buffer. Demand 3, the
--- demands on every public call and the traces speak of these.
+-- The calls of documents 01 and 02, each with its arguments as its steps take them, but for what it is lent: the store, and a page's buffer.
+-- Demand 3, the demands on every public call and the traces speak of these.
 -- Assumes nothing.
 use Prim.Native.Nat.{ℕ}
 use Rattle.forms.specs.Bytes.{Bytes}
@@ -14,8 +14,9 @@ use Rattle.rules.specs.Rollback.{rollbackBatch}
 use Rattle.rules.specs.OneStep.{oneStep}
 use Rattle.rules.specs.Collect.{collect}
 
--- the calls of demand 3, "prewrites, commits, rollbacks and one-step batches", and document 02's collections: a batch is its bytes, in form or not. A single form is its batch
--- of one (`oneMutation`, `oneKey`), whose entry is the call's own wherever it is accepted (`prewrite-named` of laws/proofs/Singles, and so on)
+-- the calls of demand 3, "prewrites, commits, rollbacks and one-step batches", and document 02's collections: a batch is its bytes, in form or
+-- not. A single form is its batch of one (`oneMutation`, `oneKey`), whose entry is the call's own wherever it is accepted (`prewrite-named` of
+-- laws/proofs/Singles, and so on)
 pub data Changing : Type 0 where
   Prewrite : PrewriteTerms → (batch : Bytes) → Changing
   Commit : CommitTerms → (batch : Bytes) → Changing

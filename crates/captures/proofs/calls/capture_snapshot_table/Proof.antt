@@ -1,4 +1,5 @@
--- `captures::calls::capture_snapshot_table` meets its contract: each way out is a law of `CaptureImageLaws`; what was written restores as `MadeStoredLaws` says.
+-- `captures::calls::capture_snapshot_table` meets its contract: each way out is a law of `CaptureImageLaws`; what was written restores as
+-- `MadeStoredLaws` says.
 -- Assumes nothing.
 use Rattle.captures.proofs.CaptureImageLaws.{captured-zero, captured-short, put-front, captured-put}
 use Rattle.captures.proofs.MadeLaws.{built-lined}

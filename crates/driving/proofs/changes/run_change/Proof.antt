@@ -1,4 +1,5 @@
--- `driving::changes::run_change` meets its contract: the arguments lie in the call, and the answer is told as every changing call's is (`change-ran`).
+-- `driving::changes::run_change` meets its contract: the arguments lie in the call, and the answer is told as every changing call's is
+-- (`change-ran`).
 -- Assumes nothing.
 use Rattle.driving.proofs.RunCallLaws.{change-ran}
 use borrow.Author.Needs.{needs}

@@ -1,4 +1,5 @@
--- `forms::key::compare` meets its contract. The loop's invariant: the two agree up to `i` (`Agree` of `CompareLaws`). The measure is what is left of the first.
+-- `forms::key::compare` meets its contract. The loop's invariant: the two agree up to `i` (`Agree` of `CompareLaws`). The measure is what is left
+-- of the first.
 -- Assumes nothing.
 use borrow.Author.Needs.{needs}
 use native.Mathlib.Omega.{arith}

@@ -1,5 +1,5 @@
--- `forms::number::number_at` meets its contract, at every width. The loop's invariant: the bytes from `i` on, read after `value`, give the number, and
--- `value` is below the power of 256 that the bytes passed allow (`Reading` of `NumberLaws`). The measure is how many bytes are left.
+-- `forms::number::number_at` meets its contract, at every width. The loop's invariant: the bytes from `i` on, read after `value`, give the
+-- number, and `value` is below the power of 256 that the bytes passed allow (`Reading` of `NumberLaws`). The measure is how many bytes are left.
 -- Assumes nothing.
 use Rattle.forms.proofs.NumberLaws.{width-some, width-small, number-none, Reading, reading-start, reading-fits, reading-more, reading-end}
 use borrow.Author.Needs.{needs}

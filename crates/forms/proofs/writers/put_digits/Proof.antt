@@ -1,5 +1,5 @@
--- `forms::writers::put_digits` meets its contract, at every width. The loop's invariant: the digits of `v` before `i`, then the buffer from there on,
--- are the whole number and what follows it (`Counting` of `WriterLaws`). The measure is `i`.
+-- `forms::writers::put_digits` meets its contract, at every width. The loop's invariant: the digits of `v` before `i`, then the buffer from there
+-- on, are the whole number and what follows it (`Counting` of `WriterLaws`). The measure is `i`.
 -- Assumes nothing.
 use Rattle.forms.proofs.WriterLaws.{Counting, counting-start, counting-more, counting-end}
 use borrow.Author.Needs.{needs}

@@ -1,4 +1,5 @@
--- `forms::writers::put_own` meets its contract. The loop's invariant: the first `j` bytes stand (`Copying` of `WriterLaws`). The measure is how many are left.
+-- `forms::writers::put_own` meets its contract. The loop's invariant: the first `j` bytes stand (`Copying` of `WriterLaws`). The measure is how
+-- many are left.
 -- Assumes nothing.
 use Rattle.forms.proofs.WriterLaws.{Copying, copying-start, copying-more, copying-end}
 use borrow.Author.Needs.{needs}

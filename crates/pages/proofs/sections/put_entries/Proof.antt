@@ -1,4 +1,5 @@
--- `pages::sections::put_entries` meets its contract: the loop's invariant is `Listing` of rules' `WriterLaws`: the first `i` entries stand over the front.
+-- `pages::sections::put_entries` meets its contract: the loop's invariant is `Listing` of rules' `EntryWriterLaws`: the first `i` entries stand
+-- over the front.
 -- Assumes nothing.
 use Rattle.rules.proofs.EntryWriterLaws.{Listing}
 use Rattle.walks.specs.Walked.{same, pageOf}
