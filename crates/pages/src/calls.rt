@@ -10,8 +10,8 @@ use rules::Wrote;
 use rules::refusal;
 use store::AREA;
 use store::Store;
+use turns::Scan;
 use walks::PageQuery;
-use walks::Scan;
 use walks::judge_page;
 
 // Any of the three.

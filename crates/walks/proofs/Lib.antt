@@ -1,6 +1,5 @@
 -- Laws of the judging walk.
 -- Assumes nothing.
-pub mod TurnLaws
 pub mod WalkLaws
 pub mod ListedLineLaws
 pub mod ReadKeyLaws

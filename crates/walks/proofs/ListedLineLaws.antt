@@ -29,14 +29,14 @@ use Rattle.store.specs.declared.table.Line.{Line}
 use Rattle.store.specs.declared.table.Line.the-variants.{Standing, Finished}
 use Rattle.store.specs.View.{placeOf, past, rowLen, keyOf, rowIn, lineIn}
 use Rattle.store.specs.Views.{lockView, viewIn, lockIn}
-use Rattle.walks.specs.Walked.{pageOn, lineBytes, entryBytes, partLen}
-use Rattle.walks.specs.Turns.{costIn, costOf, stopIf, largeIf, add, roomTurn, turnTo, turnDue}
+use Rattle.walks.specs.Walked.{pageOn, lineBytes, entryBytes, partLen, turnTo}
+use Rattle.turns.specs.Turns.{costIn, costOf, stopIf, largeIf, add, roomTurn, turnDue}
 use Rattle.walks.proofs.WalkLaws.{AddFits, TurnGood, Stepped}
 use borrow.Author.Tests.{le-leb}
 use Rattle.rules.specs.Box as box
 use Rattle.rules.specs.Read.{keepIf}
 use Rattle.store.specs.Made.{soundLine}
-use Rattle.walks.specs.Dues.{dueIf, seeLock}
+use Rattle.turns.specs.Dues.{dueIf, seeLock}
 
 -- ---- how long entries are
 

@@ -31,17 +31,17 @@ use Rattle.store.specs.View.{keyOf, rowIn}
 use Rattle.store.specs.Views.{lockIn, recordIn}
 use Rattle.store.proofs.MemberLaws.{lock-shown}
 use Rattle.lookups.proofs.HistoryLaws.{first-more, records-append, orLock, lock-append}
-use Rattle.walks.specs.declared.dues.Listed.{Listed}
-use Rattle.walks.specs.declared.dues.Listed.the-variants.{Nothing, Line}
-use Rattle.walks.specs.declared.dues.Due.{Due}
-use Rattle.walks.specs.Dues.{noDue, listIf, seeRow}
+use Rattle.turns.specs.declared.dues.Listed.{Listed}
+use Rattle.turns.specs.declared.dues.Listed.the-variants.{Nothing, Line}
+use Rattle.turns.specs.declared.dues.Due.{Due}
+use Rattle.turns.specs.Dues.{noDue, listIf, seeRow}
 use Rattle.walks.proofs.ListedLineLaws.{Lists, rowOn, shown-turn, shown-good}
 use Rattle.rules.specs.declared.answers.Answer.{Answer}
 use Rattle.rules.specs.declared.answers.Answer.the-variants.{Accepted, No, Held}
 use Rattle.rules.specs.Box.{Box, KeyLine}
 use Rattle.reads.proofs.ReadLaws.{read-steps}
-use Rattle.walks.specs.Walked.{pageOn}
-use Rattle.walks.specs.Turns.{turnDue, turnTo, costOf}
+use Rattle.walks.specs.Walked.{pageOn, turnTo}
+use Rattle.turns.specs.Turns.{turnDue, costOf}
 use Rattle.walks.proofs.WalkLaws.{TurnGood, Stepped}
 
 -- ---- lines of other keys

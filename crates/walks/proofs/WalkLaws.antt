@@ -24,18 +24,17 @@ use Rattle.rules.proofs.EntryWriterLaws.{bytes-snoc}
 use Rattle.store.specs.declared.table.Slot.{Slot}
 use Rattle.rules.proofs.FloorLaws.{page-above, page-on-0}
 use Rattle.store.specs.View.{noSlot}
-use Rattle.walks.specs.declared.turns.Turn.{Turn}
-use Rattle.walks.specs.declared.turns.Turn.the-variants.{On, Stop, Refuse, Add}
+use Rattle.turns.specs.declared.turns.Turn.{Turn}
+use Rattle.turns.specs.declared.turns.Turn.the-variants.{On, Stop, Refuse, Add}
 use Rattle.walks.specs.declared.walked.Walked.{Walked}
-use Rattle.walks.specs.Walked.{entryBytes, same, SlotIn, WalkedAs, emptyOf, pageOn, limitsOf, pageBy, pageAsked, floorOf, walkBy, walkFrom, WalkAsks}
-use Rattle.walks.specs.Turns.{turnTo, Refusal}
+use Rattle.walks.specs.Walked.{entryBytes, same, SlotIn, WalkedAs, emptyOf, pageOn, limitsOf, pageBy, pageAsked, floorOf, walkBy, walkFrom, WalkAsks, overOf, turnTo, Refusal}
 use borrow.Author.Tests.{ne-eqb, lt-leb}
 use Rattle.rules.specs.declared.answers.Holder.{Holder}
 use Rattle.rules.specs.Box.{Box}
 use Rattle.store.specs.declared.table.Store.{Store}
 use Rattle.walks.specs.declared.walked.PageQuery.{PageQuery}
-use Rattle.walks.specs.declared.walked.Scan.{Scan}
-use Rattle.walks.specs.declared.walked.Scan.the-variants.{Rows, Intents, Conflicts}
+use Rattle.turns.specs.declared.dues.Scan.{Scan}
+use Rattle.turns.specs.declared.dues.Scan.the-variants.{Rows, Intents, Conflicts}
 
 -- ---- a page with these in front
 
@@ -265,3 +264,10 @@ module _ {st : Store} {area : Bytes} {q : PageQuery} (asks : WalkAsks st area q)
         pub judge-walk : {r : Walked} → t ≡ false → WalkedAs area (walkFrom q a b (b .lines) 0 0) r → WalkedAs area (pageAsked (st .floor) q a b) r
         unfolding unlessPast
         judge-walk {r} h w = subst (λ (x : Reply (Page Bytes)). WalkedAs area x r) (past-is h) w
+
+-- ---- `listed`
+
+pub over-small : (scan : Scan) {over : ℕ} (count : ℕ) → over ≡ overOf scan → count ≤ 1024 → over * count ≤ 2048
+over-small Rows count e h = let z = ap (λ (n : ℕ). n * count) e in omega arith
+over-small Intents count e h = let z = ap (λ (n : ℕ). n * count) e in omega arith
+over-small Conflicts count e h = let z = ap (λ (n : ℕ). n * count) e in omega arith

@@ -36,12 +36,12 @@ use Rattle.store.specs.Views.{lockView, recordView, viewIn, viewOf}
 use Rattle.store.proofs.MemberLaws.{fewer-take}
 use Rattle.store.proofs.BuiltLaws.{lines-order, slot-in, row-there}
 use Rattle.store.proofs.KeySoundLaws.{good-in, row-form, row-shown}
-use Rattle.walks.specs.declared.walked.Scan.{Scan}
-use Rattle.walks.specs.declared.walked.Scan.the-variants.{Rows, Intents, Conflicts}
-use Rattle.walks.specs.declared.dues.Due.{Due}
-use Rattle.walks.specs.Walked.{pageOn, walkBy, overOf, limitsOf, walkFrom, WalkAsks, WalkedAs, emptyOf}
-use Rattle.walks.specs.Dues.{noDue, seeRow, dueAfter, Later, byKey, waitsFor}
-use Rattle.walks.specs.Turns.{turnDue}
+use Rattle.turns.specs.declared.dues.Scan.{Scan}
+use Rattle.turns.specs.declared.dues.Scan.the-variants.{Rows, Intents, Conflicts}
+use Rattle.turns.specs.declared.dues.Due.{Due}
+use Rattle.walks.specs.Walked.{pageOn, walkBy, overOf, limitsOf, walkFrom, WalkAsks, WalkedAs, emptyOf, Later}
+use Rattle.turns.specs.Dues.{noDue, seeRow, dueAfter, byKey, waitsFor}
+use Rattle.turns.specs.Turns.{turnDue}
 use Rattle.walks.proofs.WalkLaws.{Stepped, Walking, walking-start, walking-pass, walking-listed, turn-on, turn-stop, turn-refuse, turn-cheap, turn-add}
 use Rattle.walks.proofs.ListedLineLaws.{row-lists}
 use Rattle.walks.proofs.ReadKeyLaws.{none-before, DueRow, due-none, due-end, due-lock, due-record}
@@ -53,8 +53,8 @@ use Rattle.rules.specs.declared.answers.Answer.the-variants.{Accepted}
 use Rattle.store.specs.declared.views.LineView.{LineView}
 use Rattle.walks.specs.declared.walked.PageQuery.{PageQuery}
 use Rattle.walks.specs.declared.walked.Walked.{Walked}
-use Rattle.walks.specs.declared.turns.Turn.{Turn}
-use Rattle.walks.specs.declared.turns.Turn.the-variants.{On, Stop, Refuse, Add}
+use Rattle.turns.specs.declared.turns.Turn.{Turn}
+use Rattle.turns.specs.declared.turns.Turn.the-variants.{On, Stop, Refuse, Add}
 
 -- of a key's lines `pre`; a page of locks keeps nothing from line to line
 abbrev pub DueAt : Scan → Bytes → ℕ → List box.Default → Key → List box.KeyLine → Due → Type 0

@@ -1,18 +1,18 @@
 -- What is asked of a walk, by the definitions, and the page that the lines show which it leaves. Entries are taken as their bytes: so rows and
 -- locks are one matter.
 -- Assumes nothing.
-use Prim.Native.Nat.{ℕ, _+_, _≤_}
+use Prim.Native.Nat.{ℕ, suc, _+_, _≤_, _<_}
 use mathlib.Core.Path.{_≡_}
-use mathlib.Core.Bool.{false}
+use mathlib.Core.Bool.{true, false}
 use mathlib.Core.List.{List, _++_, map}
 use lib.ListN.{length, replicate}
 use Rattle.seqs.specs.Tables as tables
 use Rattle.forms.specs.Bytes.{Bytes, bytesAt}
 use Rattle.rules.specs.declared.answers.Answer.{Answer}
-use Rattle.rules.specs.declared.answers.Answer.the-variants.{Accepted}
+use Rattle.rules.specs.declared.answers.Answer.the-variants.{Accepted, No, Held}
 use Rattle.rules.specs.Answers.{Reply, nothing, shown, refused, ifPassed}
 use Rattle.rules.specs.Box.{Box, KeyLine}
-use Rattle.rules.specs.Page.{Bounds, Limits, Page, readKey, rowCost, lockCost, conflicting, intentWalk, pageWalk, keysWithin, keysOf, locksWithin, locksOf, page, intentPage, conflictPage}
+use Rattle.rules.specs.Page.{Bounds, Limits, Page, emptyPage, onPage, readKey, rowCost, lockCost, conflicting, intentWalk, pageWalk, keysWithin, keysOf, locksWithin, locksOf, page, intentPage, conflictPage}
 use Rattle.rules.specs.Written.{pieceBytes, lockBytes, keyRowBytes, keyLockBytes, pageBytes}
 use Rattle.store.specs.declared.table.Slot.{Slot}
 use Rattle.store.specs.declared.table.Store.{Store}
@@ -24,8 +24,10 @@ use Rattle.store.specs.View.{placeOf, keyOf, past, noSlot}
 use Rattle.store.specs.Made.{Built}
 use Rattle.store.specs.Views.{lockIn, viewOf}
 use Rattle.walks.specs.declared.walked.PageQuery.{PageQuery}
-use Rattle.walks.specs.declared.walked.Scan.{Scan}
-use Rattle.walks.specs.declared.walked.Scan.the-variants.{Rows, Intents, Conflicts}
+use Rattle.turns.specs.declared.dues.Scan.{Scan}
+use Rattle.turns.specs.declared.dues.Scan.the-variants.{Rows, Intents, Conflicts}
+use Rattle.turns.specs.declared.turns.Turn.{Turn}
+use Rattle.turns.specs.declared.turns.Turn.the-variants.{On, Stop, Refuse, Add}
 use Rattle.walks.specs.declared.walked.Walked.{Walked}
 
 -- ---- what is asked
@@ -91,6 +93,26 @@ abbrev pub overOf : Scan → ℕ
 overOf Rows = 2
 overOf Intents = 1
 overOf Conflicts = 1
+
+-- ---- how the walk goes on
+
+-- the next of n places, or the last one
+pub record Later (i n r : ℕ) : Type 0 where
+  pub within : r < n
+  pub next : i + 1 < n → r ≡ i + 1
+
+-- after a line's turn: `left` is what the lines after it say of a page of a count and a sum
+abbrev pub turnTo : Bytes → (ℕ → ℕ → Reply (Page Bytes)) → ℕ → ℕ → Turn → Reply (Page Bytes)
+turnTo area left count sum On = left count sum
+turnTo area left count sum Stop = emptyPage true
+turnTo area left count sum (Refuse v) = refused v
+turnTo area left count sum (Add s cost) = onPage (entryBytes area s) (left (suc count) (sum + cost))
+
+-- an answer that refuses
+abbrev pub Refusal : Answer → Type 0
+Refusal Accepted = ⊥
+Refusal (No n) = Unit {0}
+Refusal (Held h) = Unit {0}
 
 -- ---- what a walk leaves
 

@@ -6,13 +6,13 @@ ghost use Rattle.bounds.specs.Bounds.{boundsOf};
 ghost use Rattle.walks.specs.Walked.{pageAsked, floorOf, WalkAsks, WalkedAs};
 use crate::walk::walk_lines;
 use crate::walked::PageQuery;
-use crate::walked::Scan;
 use crate::walked::Walked;
 use crate::walked::empty;
 use bounds::page_arguments;
 use bounds::past_end;
 use rules::Answer;
 use store::Store;
+use turns::Scan;
 
 // The floor that a page asks for: one of locks asks for none.
 fn floor_of(scan: Scan, floor: u64) -> u64

@@ -4,15 +4,8 @@ ghost use mathlib.Core.Path.{_≡_};
 ghost use Prim.Native.Nat.{_+_, _*_, _<_, _≤_};
 ghost use Rattle.store.specs.View.{boxOf};
 ghost use Rattle.bounds.specs.Bounds.{boundsOf};
-ghost use Rattle.walks.specs.Walked.{walkFrom, WalkAsks, overOf, WalkedAs};
-ghost use Rattle.walks.specs.Dues.{Later};
-use crate::dues::by_key;
-use crate::dues::no_due;
-use crate::dues::see;
-use crate::turns::Turn;
-use crate::turns::turn_of;
+ghost use Rattle.walks.specs.Walked.{walkFrom, WalkAsks, overOf, WalkedAs, Later};
 use crate::walked::PageQuery;
-use crate::walked::Scan;
 use crate::walked::Walked;
 use crate::walked::empty;
 use bounds::slot_inside;
@@ -22,6 +15,12 @@ use rules::Answer;
 use store::Slot;
 use store::Store;
 use store::view_of;
+use turns::Scan;
+use turns::Turn;
+use turns::by_key;
+use turns::no_due;
+use turns::see;
+use turns::turn_of;
 
 // The next of n places, or the last one.
 fn later(i: usize, n: usize) -> usize

@@ -4,13 +4,7 @@ ghost use mathlib.Core.Path.{_≡_};
 ghost use Rattle.walks.specs.Walked.{emptyOf};
 use rules::Answer;
 use store::Slot;
-
-// "Page", "Intent page", "Conflicting intents".
-pub enum Scan {
-    Rows,
-    Intents,
-    Conflicts,
-}
+use turns::Scan;
 
 // The moment, the limit of rows or locks, and that of bytes. An intent page has no moment, and a byte limit that no page reaches.
 pub struct PageQuery {

@@ -1,6 +1,6 @@
 -- `walks::walk::listed` meets its contract.
 -- Assumes nothing.
-use Rattle.walks.proofs.TurnLaws.{over-small}
+use Rattle.walks.proofs.WalkLaws.{over-small}
 use borrow.Author.Needs.{needs}
 use native.Mathlib.Omega.{arith}
 use Rattle.walks.proofs.walk.listed.Statement.{statement}

@@ -1,12 +1,18 @@
 // What the lines of a key so far say to a page.
 ghost use mathlib.Core.Path.{_≡_};
-ghost use Rattle.walks.specs.Dues.{noDue, seeRow, seeLock, dueAfter, byKey};
-use crate::walked::Scan;
+ghost use Rattle.turns.specs.Dues.{noDue, seeRow, seeLock, dueAfter, byKey};
 use lookups::Locked;
 use rules::Answer;
 use rules::Kind;
 use store::LineView;
 use store::Slot;
+
+// "Page", "Intent page", "Conflicting intents".
+pub enum Scan {
+    Rows,
+    Intents,
+    Conflicts,
+}
 
 // The line that the page would list for the key, if any.
 pub enum Listed {
@@ -20,7 +26,7 @@ pub struct Due {
     pub line: Listed,
 }
 
-pub(crate) fn no_due() -> Due
+pub fn no_due() -> Due
     ensures { λ r. ⌜ r ≡ noDue ⌝ }
 {
     Due {
@@ -84,7 +90,7 @@ fn see_lock(every: bool, moment: u64, s: Slot, line: LineView) -> Due
 }
 
 // One line more.
-pub(crate) fn see(due: Due, scan: Scan, moment: u64, s: Slot, line: LineView) -> Due
+pub fn see(due: Due, scan: Scan, moment: u64, s: Slot, line: LineView) -> Due
     ensures { λ r. ⌜ r ≡ dueAfter scan moment due s line ⌝ }
 {
     match scan {
@@ -95,7 +101,7 @@ pub(crate) fn see(due: Due, scan: Scan, moment: u64, s: Slot, line: LineView) ->
 }
 
 // A page of rows judges a key at its last line, one of locks each line by itself.
-pub(crate) fn by_key(scan: Scan) -> bool
+pub fn by_key(scan: Scan) -> bool
     ensures { λ r. ⌜ r ≡ byKey scan ⌝ }
 {
     match scan {

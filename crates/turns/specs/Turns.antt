@@ -1,23 +1,19 @@
--- What one line does to a page, and how the walk goes on from it.
+-- What one line does to a page.
 -- Assumes nothing.
-use Prim.Native.Nat.{ℕ, suc, _+_, _≤_}
+use Prim.Native.Nat.{ℕ, _+_, _≤_}
 use mathlib.Core.Path.{_≡_}
 use mathlib.Core.Bool.{Bool, true, false}
 use lib.Dec.{leb, eqb}
-use Rattle.forms.specs.Bytes.{Bytes}
 use Rattle.rules.specs.declared.answers.Answer.{Answer}
 use Rattle.rules.specs.declared.answers.Answer.the-variants.{Accepted, No, Held}
-use Rattle.rules.specs.Answers.{Reply, refused}
-use Rattle.rules.specs.Page.{Page, emptyPage, onPage}
 use Rattle.store.specs.declared.table.Slot.{Slot}
 use Rattle.store.specs.declared.table.Line.{Line}
 use Rattle.store.specs.declared.table.Line.the-variants.{Standing, Finished}
-use Rattle.walks.specs.declared.dues.Listed.{Listed}
-use Rattle.walks.specs.declared.dues.Listed.the-variants as listed
-use Rattle.walks.specs.declared.dues.Due.{Due}
-use Rattle.walks.specs.declared.turns.Turn.{Turn}
-use Rattle.walks.specs.declared.turns.Turn.the-variants.{On, Stop, Refuse, Add}
-use Rattle.walks.specs.Walked.{entryBytes}
+use Rattle.turns.specs.declared.dues.Listed.{Listed}
+use Rattle.turns.specs.declared.dues.Listed.the-variants as listed
+use Rattle.turns.specs.declared.dues.Due.{Due}
+use Rattle.turns.specs.declared.turns.Turn.{Turn}
+use Rattle.turns.specs.declared.turns.Turn.the-variants.{On, Stop, Refuse, Add}
 
 -- "Cost is key plus row length"; "key plus primary length plus 26"
 abbrev pub costIn : ℕ → Line → ℕ
@@ -64,16 +60,3 @@ turnOf false lets line rows bytes count sum = On
 
 abbrev pub turnDue : Bool → Due → (rows bytes count sum : ℕ) → Turn
 turnDue inside d rows bytes count sum = turnOf inside (d .lets) (d .line) rows bytes count sum
-
--- how the walk goes on: `left` is what the lines after it say of a page of a count and a sum
-abbrev pub turnTo : Bytes → (ℕ → ℕ → Reply (Page Bytes)) → ℕ → ℕ → Turn → Reply (Page Bytes)
-turnTo area left count sum On = left count sum
-turnTo area left count sum Stop = emptyPage true
-turnTo area left count sum (Refuse v) = refused v
-turnTo area left count sum (Add s cost) = onPage (entryBytes area s) (left (suc count) (sum + cost))
-
--- an answer that refuses
-abbrev pub Refusal : Answer → Type 0
-Refusal Accepted = ⊥
-Refusal (No n) = Unit {0}
-Refusal (Held h) = Unit {0}

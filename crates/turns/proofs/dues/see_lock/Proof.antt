@@ -1,9 +1,9 @@
--- `walks::dues::see_lock` meets its contract.
+-- `turns::dues::see_lock` meets its contract.
 -- Assumes nothing.
-use Rattle.walks.proofs.TurnLaws.{lock-every, lock-skips, lock-stays}
+use Rattle.turns.proofs.TurnLaws.{lock-every, lock-skips, lock-stays}
 use borrow.Author.Needs.{needs}
-use Rattle.walks.proofs.dues.see_lock.Statement.{statement}
-use Rattle.walks.proofs.dues.see_lock.Tie as tie
+use Rattle.turns.proofs.dues.see_lock.Statement.{statement}
+use Rattle.turns.proofs.dues.see_lock.Tie as tie
 
 returns : tie.Need-returns
 returns c = lock-skips ((c .before .before .before .before .before .before .before .args) .moment) ((c .before .before .before .before .before .before .before .args) .s) ((c .before .before .before .before .before .before .before .args) .every) ((c .before .before .before .before .before .line) .given .1) ((c .before .before .before .if1) .taken) ((c .before .if2) .taken) ((c .no-due) .ensures)

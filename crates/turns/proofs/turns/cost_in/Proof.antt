@@ -1,9 +1,9 @@
--- `walks::turns::cost_in` meets its contract.
+-- `turns::turns::cost_in` meets its contract.
 -- Assumes nothing.
 use borrow.Author.Needs.{needs}
 use mathlib.Core.Path.{sym}
-use Rattle.walks.proofs.turns.cost_in.Statement.{statement}
-use Rattle.walks.proofs.turns.cost_in.Tie as tie
+use Rattle.turns.proofs.turns.cost_in.Statement.{statement}
+use Rattle.turns.proofs.turns.cost_in.Tie as tie
 
 returns : tie.Need-returns
 returns c = record { is = sym (rw ((c .before .before .line) .given .1)); small = search needs }

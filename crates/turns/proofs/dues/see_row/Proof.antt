@@ -1,9 +1,9 @@
--- `walks::dues::see_row` meets its contract.
+-- `turns::dues::see_row` meets its contract.
 -- Assumes nothing.
-use Rattle.walks.proofs.TurnLaws.{row-late, row-lock, row-kind}
+use Rattle.turns.proofs.TurnLaws.{row-late, row-lock, row-kind}
 use borrow.Author.Needs.{needs}
-use Rattle.walks.proofs.dues.see_row.Statement.{statement}
-use Rattle.walks.proofs.dues.see_row.Tie as tie
+use Rattle.turns.proofs.dues.see_row.Statement.{statement}
+use Rattle.turns.proofs.dues.see_row.Tie as tie
 
 returns : tie.Need-returns
 returns c = row-late ((c .before .before .before .before .before .args) .moment) ((c .before .before .before .before .before .args) .due) ((c .before .before .before .before .before .args) .s) ((c .before .before .before .line2) .given .1) ((c .if1) .taken)

@@ -1,7 +1,6 @@
 -- What the code's functions say of a due and of a turn, one law for each way out.
 -- Assumes nothing.
-use Prim.Native.Nat.{ℕ, _+_, _*_, _≤_, _<_}
-use native.Mathlib.Omega.{arith}
+use Prim.Native.Nat.{ℕ, _+_, _≤_, _<_}
 use mathlib.Core.Path.{_≡_, sym, ap, _∙_}
 use mathlib.Core.List.{[]}
 use mathlib.Core.Bool.{Bool, true, false, not}
@@ -18,14 +17,11 @@ use Rattle.store.specs.declared.views.LineView.{LineView}
 use Rattle.store.specs.declared.views.LineView.the-variants as view
 use Rattle.lookups.specs.declared.lookup.Locked.the-variants.{By}
 use Rattle.lookups.specs.KeyStates.{lockedBy}
-use Rattle.walks.specs.declared.walked.Scan.{Scan}
-use Rattle.walks.specs.declared.walked.Scan.the-variants.{Rows, Intents, Conflicts}
-use Rattle.walks.specs.declared.dues.Due.{Due}
-use Rattle.walks.specs.declared.turns.Turn.{Turn}
-use Rattle.walks.specs.declared.turns.Turn.the-variants.{Stop, Refuse, Add}
-use Rattle.walks.specs.Walked.{overOf}
-use Rattle.walks.specs.Dues.{noDue, listBy, dueIf, seeRow, seeLock}
-use Rattle.walks.specs.Turns.{costOf, CostIn, add, roomTurn}
+use Rattle.turns.specs.declared.dues.Due.{Due}
+use Rattle.turns.specs.declared.turns.Turn.{Turn}
+use Rattle.turns.specs.declared.turns.Turn.the-variants.{Stop, Refuse, Add}
+use Rattle.turns.specs.Dues.{noDue, listBy, dueIf, seeRow, seeLock}
+use Rattle.turns.specs.Turns.{costOf, CostIn, add, roomTurn}
 
 -- ---- `see_row`
 
@@ -71,10 +67,3 @@ module _ (rows bytes count sum : ℕ) (s : Slot) {cost : ℕ} (c : CostIn (s .le
 
     pub room-add : sum + cost ≤ bytes → Add s cost ≡ roomTurn rows bytes count (sum + costOf s) (add s)
     room-add g = ap (Add s) (c .is) ∙ of (add s) (add s) (rw (lt-leb rows count h, le-leb (sum + cost) bytes g))
-
--- ---- `listed`
-
-pub over-small : (scan : Scan) {over : ℕ} (count : ℕ) → over ≡ overOf scan → count ≤ 1024 → over * count ≤ 2048
-over-small Rows count e h = let z = ap (λ (n : ℕ). n * count) e in omega arith
-over-small Intents count e h = let z = ap (λ (n : ℕ). n * count) e in omega arith
-over-small Conflicts count e h = let z = ap (λ (n : ℕ). n * count) e in omega arith

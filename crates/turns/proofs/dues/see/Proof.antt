@@ -1,9 +1,9 @@
--- `walks::dues::see` meets its contract.
+-- `turns::dues::see` meets its contract.
 -- Assumes nothing.
 use borrow.Author.Needs.{needs}
 use mathlib.Core.Path.{sym, _∙_}
-use Rattle.walks.proofs.dues.see.Statement.{statement}
-use Rattle.walks.proofs.dues.see.Tie as tie
+use Rattle.turns.proofs.dues.see.Statement.{statement}
+use Rattle.turns.proofs.dues.see.Tie as tie
 
 returns : tie.Need-returns
 returns c = (c .see-row) .ensures ∙ sym (rw ((c .before .enum-told) .given .1))

@@ -1,9 +1,9 @@
--- `walks::turns::room_turn` meets its contract.
+-- `turns::turns::room_turn` meets its contract.
 -- Assumes nothing.
-use Rattle.walks.proofs.TurnLaws.{room-full, room-first, room-large, room-add}
+use Rattle.turns.proofs.TurnLaws.{room-full, room-first, room-large, room-add}
 use borrow.Author.Needs.{needs}
-use Rattle.walks.proofs.turns.room_turn.Statement.{statement}
-use Rattle.walks.proofs.turns.room_turn.Tie as tie
+use Rattle.turns.proofs.turns.room_turn.Statement.{statement}
+use Rattle.turns.proofs.turns.room_turn.Tie as tie
 
 returns : tie.Need-returns
 returns c = room-full _ ((c .before .before .args) .bytes) _ ((c .before .before .args) .sum) ((c .before .before .args) .s) ((c .before .cost-in) .ensures) ((c .if1) .taken)

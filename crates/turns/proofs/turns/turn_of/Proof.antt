@@ -1,10 +1,10 @@
--- `walks::turns::turn_of` meets its contract.
+-- `turns::turns::turn_of` meets its contract.
 -- Assumes nothing.
 use borrow.Author.Tests.{not-true, not-false}
 use borrow.Author.Needs.{needs}
 use mathlib.Core.Path.{sym, _∙_}
-use Rattle.walks.proofs.turns.turn_of.Statement.{statement}
-use Rattle.walks.proofs.turns.turn_of.Tie as tie
+use Rattle.turns.proofs.turns.turn_of.Statement.{statement}
+use Rattle.turns.proofs.turns.turn_of.Tie as tie
 
 returns : tie.Need-returns
 returns c = sym (rw (not-true ((c .before .args) .inside) ((c .if1) .taken)))

@@ -1,7 +1,7 @@
 // What one line does to a page that has `count` entries of `sum` bytes by the paper's count.
 ghost use mathlib.Core.Path.{_≡_};
 ghost use Prim.Native.Nat.{_+_, _≤_};
-ghost use Rattle.walks.specs.Turns.{costOf, CostIn, roomTurn, add, turnOf};
+ghost use Rattle.turns.specs.Turns.{costOf, CostIn, roomTurn, add, turnOf};
 use crate::dues::Listed;
 use rules::Answer;
 use store::Line;
@@ -45,7 +45,7 @@ fn room_turn(s: Slot, limit: u64, bytes: u64, count: usize, sum: usize) -> Turn
 }
 
 // "its refusal refuses the page even if the page is already full. With no row, go on."
-pub(crate) fn turn_of(
+pub fn turn_of(
     inside: bool,
     lets: Answer,
     line: Listed,

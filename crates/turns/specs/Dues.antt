@@ -1,7 +1,6 @@
 -- What the lines of a key so far say to a page.
 -- Assumes nothing.
-use Prim.Native.Nat.{ℕ, _+_, _<_}
-use mathlib.Core.Path.{_≡_}
+use Prim.Native.Nat.{ℕ}
 use mathlib.Core.Bool.{Bool, true, false, _&&_, _||_, not}
 use mathlib.Core.List.{[]}
 use lib.Dec.{leb, ltb}
@@ -14,11 +13,11 @@ use Rattle.store.specs.declared.table.Slot.{Slot}
 use Rattle.store.specs.declared.views.LineView.{LineView}
 use Rattle.store.specs.declared.views.LineView.the-variants as view
 use Rattle.store.specs.Views.{lockIn}
-use Rattle.walks.specs.declared.walked.Scan.{Scan}
-use Rattle.walks.specs.declared.walked.Scan.the-variants.{Rows, Intents, Conflicts}
-use Rattle.walks.specs.declared.dues.Listed.{Listed}
-use Rattle.walks.specs.declared.dues.Listed.the-variants.{Nothing, Line}
-use Rattle.walks.specs.declared.dues.Due.{Due}
+use Rattle.turns.specs.declared.dues.Scan.{Scan}
+use Rattle.turns.specs.declared.dues.Scan.the-variants.{Rows, Intents, Conflicts}
+use Rattle.turns.specs.declared.dues.Listed.{Listed}
+use Rattle.turns.specs.declared.dues.Listed.the-variants.{Nothing, Line}
+use Rattle.turns.specs.declared.dues.Due.{Due}
 
 abbrev pub noDue : Due
 noDue = record { lets = Accepted; line = Nothing }
@@ -55,11 +54,6 @@ dueAfter Intents moment d s line = seeLock true moment s line
 dueAfter Conflicts moment d s line = seeLock false moment s line
 
 -- ---- the key's last line
-
--- the next of n places, or the last one
-pub record Later (i n r : ℕ) : Type 0 where
-  pub within : r < n
-  pub next : i + 1 < n → r ≡ i + 1
 
 -- a page of rows judges a key at its last line, one of locks each line by itself
 abbrev pub byKey : Scan → Bool

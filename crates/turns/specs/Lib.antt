@@ -1,0 +1,4 @@
+-- The definitions of `turns`.
+-- Assumes nothing.
+pub mod Dues
+pub mod Turns
