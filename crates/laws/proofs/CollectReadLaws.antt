@@ -68,7 +68,7 @@ module _ (k : Key) (f m : ℕ) (up : f ≤ m) (ds es : List Default) where
       go Delete r = record { reply = refl; count = omega arith }
       go Rollback r = record { reply = e .reply; count = omega (arith, e .count) }
 
-  -- one more of which none stays: a Delete that decides, or a Rollback
+  -- one more, which goes: a Delete, which decides, or a Rollback, which is passed over
   deleted : (w : Record) (older left : List Record) → soundRecord w ≡ true → w .kind ≡ Delete → left ≡ [] → Fell (walk k es left) (walk k ds (w ∷ older))
   unfolding walk oneRecord
   deleted w older left s e n = rw (s, e, n) (record { reply = refl; count = omega arith })

@@ -26,7 +26,7 @@ fewer-length empty = omega arith
 fewer-length (gone q) = omega (arith, fewer-length q)
 fewer-length (kept q) = omega (arith, fewer-length q)
 
--- as many as before: the same
+-- where there are as many as before, none has gone
 pub fewer-same : {A : Type 0} {ys xs : List A} → Fewer ys xs → length ys ≡ length xs → ys ≡ xs
 fewer-same empty e = refl
 fewer-same (gone q) e = absurd (omega (arith, fewer-length q))

@@ -5,7 +5,7 @@ use mvcc::AREA;
 use mvcc::Store;
 use visits::asks_figures;
 use visits::asks_key;
-use visits::count;
+use visits::say_number;
 use visits::tell;
 
 // A box of its own, with an area of its own.
@@ -19,7 +19,7 @@ fn second_box(image: &[u8], key: &[u8]) {
 
 fn say_image(table: u32, len: usize) {
     tell(b"the image of table ", table as u64, b": ");
-    count(len as u64, b" bytes\n");
+    say_number(len as u64, b" bytes\n");
 }
 
 pub fn copies_hall(store: Store, area: &[u8; AREA], table: u32, key: &[u8])

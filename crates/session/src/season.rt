@@ -9,9 +9,9 @@ use std::num::wrapping_add_u64;
 use visits::accepted;
 use visits::asks_figures;
 use visits::asks_key;
-use visits::count;
 use visits::say;
 use visits::say_answer;
+use visits::say_number;
 use visits::tell;
 
 // An edition of both labels, in one step, committed at one above its start. The digit ends each label.
@@ -58,7 +58,7 @@ fn editions(store: Store, area: &mut [u8; AREA]) -> Store
         let answer = done.answer;
         kept = done.store;
         if !accepted(answer) {
-            count(number, b" editions, then ");
+            say_number(number, b" editions, then ");
             say_answer(answer);
             return kept;
         }

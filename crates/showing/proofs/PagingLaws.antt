@@ -38,7 +38,7 @@ front n m x h =
     ∙ ap (take n) (sym (replicate-append-replicate n (m - n) x))
     ∙ take-at (replicate n x) (replicate (m - n) x) n (length-replicate {A = ℕ} n x)
 
--- A buffer holds what is no longer than it. Its length is a variable here: of a number antt would write out the buffer.
+-- A buffer holds what is no longer than it. Its length is a variable here: with a number in its place the prover would write the buffer out.
 fits : {buffer : Bytes} (n most : ℕ) → buffer ≡ lent most → n ≤ most → n ≤ length buffer
 fits n most e h = omega (arith, ap length e, length-replicate {A = ℕ} most 238)
 

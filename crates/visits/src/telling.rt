@@ -11,7 +11,7 @@ pub fn say(words: &[u8]) {
 }
 
 // A number and the words after it.
-pub fn count(number: u64, after: &[u8]) {
+pub fn say_number(number: u64, after: &[u8]) {
     io::print_decimal(STDOUT_FILENO, number);
     say(after);
 }
@@ -19,21 +19,22 @@ pub fn count(number: u64, after: &[u8]) {
 // A number with the words before and after it.
 pub fn tell(before: &[u8], number: u64, after: &[u8]) {
     say(before);
-    count(number, after);
+    say_number(number, after);
 }
 
-// "What a call answers": the paper's words for a number. Few in one function, for the check's time. Of what the caller gave:
+// "What a call answers": the paper's words for a number. One match of fourteen arms would be dear to prove, so there are three. This one has the
+// arguments.
 fn meaning_given(number: u8) {
     match number {
         1 => say(b"key not in form"),
         2 => say(b"row argument not in form"),
-        3 => say(b"a zero, or a commit not above its start"),
+        3 => say(b"a zero, a commit not above its start, or a bone past the count"),
         4 => say(b"scan start not below scan end"),
         _ => meaning_stored(number),
     }
 }
 
-// Of a batch, and of what is stored:
+// The batch, and what is stored.
 fn meaning_stored(number: u8) {
     match number {
         5 => say(b"empty batch"),
@@ -45,7 +46,7 @@ fn meaning_stored(number: u8) {
     }
 }
 
-// Of room, and of what came later:
+// Limits, room, buffers and images, and the floor.
 fn meaning_short(number: u8) {
     match number {
         10 => say(b"byte limit below the first entry"),
@@ -75,7 +76,7 @@ fn say_kind(kind: u8) {
 // Who holds the key, since when and for what, and how long the lock is to stand.
 fn say_holder(holder: Holder) {
     tell(b" by curator ", holder.txn, b" since ");
-    count(holder.start, b" for ");
+    say_number(holder.start, b" for ");
     say_kind(holder.kind);
     tell(b", time to live ", holder.ttl, b"\n");
 }

@@ -3,11 +3,11 @@ ghost use Prim.Native.Nat.{_≤_};
 ghost use lib.ListN.{length};
 ghost use Rattle.store.specs.Made.{Made};
 use crate::telling::accepted;
-use crate::telling::count;
 use crate::telling::say;
 use crate::telling::say_answer;
 use crate::telling::say_label;
 use crate::telling::say_name;
+use crate::telling::say_number;
 use crate::telling::tell;
 use forms::Width;
 use mvcc::AREA;
@@ -48,7 +48,7 @@ pub fn say_effort(key: &[u8], moment: u64, records: usize) {
     say(b"the support desk asks how many records a read of the ");
     say_name(key);
     tell(b" at moment ", moment, b" looks at: ");
-    count(records as u64, b"\n");
+    say_number(records as u64, b"\n");
 }
 
 // One row of a page, "key length byte, key, row length byte, row", and the place after it.
@@ -81,7 +81,7 @@ fn say_more(page: &[u8], at: usize) {
 // "2-byte count; rows .."
 fn say_page(page: &[u8]) {
     let rows = forms::number_at(page, 0, Width::Two);
-    count(rows.value, b" rows\n");
+    say_number(rows.value, b" rows\n");
     let mut at: usize = 2;
     let mut left = rows.value;
     while 0 < left {
@@ -158,7 +158,7 @@ fn say_bones(row: &[u8]) {
     let asked = mvcc::bones_shown(row);
     let answer = asked.answer;
     if accepted(answer) {
-        count(asked.shown as u64, b"\n");
+        say_number(asked.shown as u64, b"\n");
     } else {
         say_answer(answer);
     }
@@ -177,9 +177,9 @@ pub fn asks_bones(area: &[u8; AREA], reading: Reading) {
 }
 
 fn say_figures(records: u64, locks: u64, rows: u64) {
-    count(records, b" records, ");
-    count(locks, b" locks, ");
-    count(rows, b" rows\n");
+    say_number(records, b" records, ");
+    say_number(locks, b" locks, ");
+    say_number(rows, b" rows\n");
 }
 
 // What the box holds, from its statistics.

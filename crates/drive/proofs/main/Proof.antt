@@ -1,4 +1,4 @@
--- `drive::main` meets its contract. The lengths of both buffers are laws' words: left to search, antt would write the buffers out.
+-- `drive::main` meets its contract. A law gives the lengths of both buffers: a search would write the buffers out, byte by byte.
 -- Assumes nothing.
 use borrow.Author.Needs.{needs}
 use Prim.Native.Nat.{ℕ}
