@@ -10,7 +10,7 @@ An answer's path goes from its goal's place upward by `.before`; here it becomes
 import json, os, re, sys
 
 WORD = r"[^\s(){}.;,@\"«»]+"
-norm = lambda s: re.sub(r"-+", "-", s.replace("_", "-"))
+norm = lambda s: re.sub(r"-+", "-", s.replace("_", "-")).lower()
 
 
 def decls(text):
@@ -108,6 +108,11 @@ class Function:
                 if tail and tail[0] == "given" and "shared-slice-known" in f or "slice-known" in f:
                     for var, st in ty:
                         if norm(st) == f: return ["type_inv", var] + tail[1:]
+                arm = self.v["arms"][self.order.index(q)]
+                if arm:
+                    for field, old, path in sorted(arm[2], key=lambda x: -len(x[2])):
+                        if norm(old) == f and tail[: len(path)] == path:
+                            return [arm[0]] + ([] if field.endswith("-own") else [field]) + tail[len(path):]
                 ren = {norm(a): b for a, b in p[4]}
                 if tail and norm(tail[0]) in ren: tail = [ren[norm(tail[0])]] + tail[1:]
                 return [step[1]] + tail
@@ -165,7 +170,7 @@ def convert(folder, key, v):
             vars_, changed = l[1], v["changed"][i]
             slots = [("l.initial." if c else "l.") + x for x, c in zip(vars_, changed)] + ["l." + x for x, c in zip(vars_, changed) if c]
             body = "\n".join(d[1:])
-            mm = re.match(rf"((?:unfolding [^\n]*\n)*){re.escape(name)}((?: {WORD})*) =\s*(.*)$", body, re.S)
+            mm = re.match(rf"((?:unfolding [^\n]*\n)*){re.escape(name)}((?: {WORD})*?) =\s*(.*)$", body, re.S)
             if not mm:
                 fn.said.append(f"cannot read {name}"); inv.append("\n".join(d)); continue
             ps = mm[2].split()
@@ -191,11 +196,12 @@ def convert(folder, key, v):
             place = v["asked_at"][k][0]
             ls, rest = [], d[1:]
             for l in rest:
-                mm = re.match(rf"^{re.escape(name)}((?: {WORD})*) =(.*)$", l)
+                mm = re.match(rf"^{re.escape(name)}((?: {WORD})*?) =(.*)$", l)
                 if mm:
                     ps = mm[1].split()
                     var = ps[0] if ps else "c"
-                    l = f"{new} {var} ={mm[2]}"
+                    more = "".join(" " + p for p in ps[1:] if p != "κs")
+                    l = f"{new} {var}{more} ={mm[2]}"
                 ls.append(l)
             b = fn.body("\n".join(ls), "c", place, new)
             if re.fullmatch(rf"{re.escape(new)} \S+ = search rules", b.strip()): continue

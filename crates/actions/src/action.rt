@@ -2,7 +2,7 @@
 ghost use Rattle.std.specs.Prelude.{◌≡◌};
 ghost use Rattle.actions.specs.Actions.{point_of, most_of};
 
-#[derive(Drop)]
+#[derive(Clone, Copy)]
 pub enum Action {
     Prewrite { txn: u64, start: u64, ttl: u64 },
     Commit { txn: u64, start: u64, commit: u64 },
@@ -11,7 +11,7 @@ pub enum Action {
 }
 
 // The start and the stamp that a key is looked up with.
-#[derive(Drop)]
+#[derive(Clone, Copy)]
 pub struct Point {
     pub start: u64,
     pub stamp: u64,

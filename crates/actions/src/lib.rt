@@ -1,5 +1,7 @@
 // One entry of a changing call, applied after its checks have passed, by what stands at its key: write the bytes, and say the change of the
 // table. What is there already stays as it is.
+#![tactic(auto)]
+
 ghost use Rattle.std.specs.Prelude.{◌+◌};
 ghost use Rattle.rules.specs.Prewrite.{apply_prewrite};
 ghost use Rattle.rules.specs.Commit.{apply_commit};

@@ -6,7 +6,7 @@ ghost use Rattle.bench.specs.Asks.{AskedAt};
 use forms::Width;
 
 // The numbers, where each of the others begins, and where the next call begins.
-#[derive(Drop)]
+#[derive(Clone, Copy)]
 pub struct Asked {
     pub one: u64,
     pub two: u64,

@@ -2,6 +2,8 @@
 // the kind of call (src/turns.rt); a 4-byte length and an image of that length; and the calls of one turn (src/asked.rt). The image is restored,
 // so many turns are made, each call on that box, and the sum of what the answers are worth is written, 8 bytes. An input that is shorter than
 // its lengths say gives nothing.
+#![tactic(auto)]
+
 mod asked;
 mod changing;
 mod shows;
@@ -16,7 +18,7 @@ use mvcc::AREA;
 use turns::many_turns;
 
 // What stands before the calls: where the image lies.
-#[derive(Drop)]
+#[derive(Clone, Copy)]
 struct Head {
     turns: u64,
     way: u8,

@@ -6,7 +6,7 @@ ghost use Rattle.rules.specs.Bones.{Tells, bone_shown, bones_shown};
 use forms::bones_in;
 use rules::Answer;
 
-#[derive(Drop)]
+#[derive(Clone, Copy)]
 pub struct BoneShown {
     pub answer: Answer,
     pub shown: bool,
@@ -50,7 +50,7 @@ fn ones_from(s: &[u8], at: usize) -> u32
     sum
 }
 
-#[derive(Drop)]
+#[derive(Clone, Copy)]
 pub struct BonesShown {
     pub answer: Answer,
     pub shown: u8,

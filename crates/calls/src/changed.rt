@@ -3,7 +3,7 @@ use rules::Answer;
 use store::Store;
 
 // The store after a call, and what the call answers.
-#[derive(Drop)]
+#[derive(Clone, Copy)]
 pub struct Changed {
     pub store: Store,
     pub answer: Answer,

@@ -7,7 +7,7 @@ use crate::weights::{Weight, left_load};
 use rules::{Answer, Load};
 
 // The answer, and whether the box becomes another one.
-#[derive(Drop)]
+#[derive(Clone, Copy)]
 pub struct BatchVerdict {
     pub answer: Answer,
     pub moves: bool,

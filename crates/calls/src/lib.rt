@@ -1,6 +1,8 @@
 // What all changing calls share: what they give back, the tests that several of them make of a lock, a row and a kind, the terms of a
 // transaction, the parts of an entry, the weights of entries, and what the checks of all of them come to. specs/Settled.antt has the
 // promises of the changing calls, specs/Passes.antt what a call over a batch does.
+#![tactic(auto)]
+
 pub mod applying;
 pub mod changed;
 pub mod judged;

@@ -7,14 +7,14 @@ use changes::{less, more};
 use rules::{Answer, Load};
 
 // What an entry, or all of them, would add and free.
-#[derive(Drop)]
+#[derive(Clone, Copy)]
 pub struct Weight {
     pub added: Load,
     pub freed: Load,
 }
 
 // The answer, and what would be added and freed.
-#[derive(Drop)]
+#[derive(Clone, Copy)]
 pub struct Checked {
     pub answer: Answer,
     pub weight: Weight,

@@ -3,7 +3,7 @@ use rules::Load;
 use store::Slot;
 
 // The slot that comes, its place, and the load and the top after it.
-#[derive(Drop)]
+#[derive(Clone, Copy)]
 pub struct NewSlot {
     pub to: usize,
     pub slot: Slot,
@@ -12,7 +12,7 @@ pub struct NewSlot {
 }
 
 // Nothing changes; a slot comes where none goes; a slot comes and the one at the number's place goes.
-#[derive(Drop)]
+#[derive(Clone, Copy)]
 pub enum Change {
     Stays,
     Inserts(NewSlot),

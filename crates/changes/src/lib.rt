@@ -1,5 +1,7 @@
 // Changes of a store: a line's bytes go past the top of the area, its slot to its place in the table. Every function assumes a store that is
 // built. `changes`, `actions` and `calls` are one layer, kept apart for the gate's time: a must-fail edit repeats the check of its whole crate.
+#![tactic(auto)]
+
 pub mod change;
 pub mod entries;
 pub mod loads;

@@ -11,7 +11,7 @@ use store::views::eight_at;
 use store::{Line, LineView, RecordSlot, Slot, held_by, place_of, view_of};
 
 // What the walk keeps of the lines that it has passed.
-#[derive(Drop)]
+#[derive(Clone, Copy)]
 pub struct Passed {
     // the key of the first of them that counts: it is stamped at or below F and is not a Rollback. The length is 0 where none counts.
     pub at: usize,

@@ -13,7 +13,7 @@ use images::sections::{Sections, sections_of};
 use orders::{By, order, order_both};
 
 // Whether the image can be converted, and how many defaults it has.
-#[derive(Drop)]
+#[derive(Clone, Copy)]
 pub struct OldImage {
     pub ok: bool,
     pub defaults: usize,

@@ -130,7 +130,7 @@ pub fn prewrite(
     row: &[u8],
 ) -> Changed
     requires { Made store area.old }
-    ensures { KeptOn store area.old (calling (Call.Change (Changing.Prewrite (record { txn = txn; start = start; primary = primary.now; ttl = ttl }) (one_mutation (record { key = key.entry.now; row = when put row.now }))))) (changed result area.new) }
+    ensures { KeptOn store area.old (calling (Call.Change (Changing.Prewrite (record { txn = txn; start = start; primary = primary.now; ttl = ttl }) (one_mutation (record { key = key.now; row = when put row.now }))))) (changed result area.new) }
 {
     mvcc::prewrite(store, area, txn, start, ttl, primary, key, put, row)
 }

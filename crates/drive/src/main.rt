@@ -1,5 +1,7 @@
 // The driver of docs/TRACE.md: `drive < trace > answers`. With the argument `many` the input is any number of traces, each after a 4-byte
 // length, and the answers of all follow one another. Each answer is written as it comes.
+#![tactic(auto)]
+
 ghost use Rattle.std.specs.Prelude.{◌≡◌, length};
 ghost use Rattle.store.specs.Made.{Made};
 

@@ -4,7 +4,7 @@ ghost use Rattle.drive.specs.Next.{NextIn};
 use forms::Width;
 
 // What stands next in a stream: nothing more, a trace that is longer than the buffer, or a trace of so many bytes at the buffer's front.
-#[derive(Drop)]
+#[derive(Clone, Copy)]
 pub enum Next {
     End,
     Over,

@@ -1,6 +1,8 @@
 // Driving the store from outside, one call of docs/TRACE.md at a time: a call's bytes are run on a store, and its answer is written into a
 // lent buffer. `changes` runs the calls that change the store, `asks` those that need none, `run` chooses among these and the calls of `showing`;
 // the program that reads traces and writes answers is thin above this.
+#![tactic(auto)]
+
 pub mod asks;
 pub mod changes;
 pub mod run;

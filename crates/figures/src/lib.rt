@@ -1,4 +1,6 @@
 // "Statistics" and "High-water marks": what a store holds, counted in one walk over its table.
+#![tactic(auto)]
+
 pub mod marks;
 pub mod runs;
 pub mod statistics;

@@ -2,7 +2,7 @@
 -- Put only, a row length byte and row. Key batch: 2-byte count 0 to 32, then length byte and key. Keys strictly ascend. Key and row
 -- contents are judged later."
 -- Assumes nothing.
-use Rattle.std.specs.Prelude.{ℕ, Bool, true, false, ◌&&◌, List, [], ◌∷◌, eqb}
+use Rattle.std.specs.Prelude.{Bool, true, false, ◌&&◌, List, [], ◌∷◌, eqb}
 use Rattle.std.proofs.Math.Option.{Option, none, some}
 use Rattle.forms.specs.Bytes.{Bytes, lt_bytes}
 use Rattle.forms.specs.Readers.{Reader, ◌>>=◌, just, byte, piece, up_to, section, whole, when}

@@ -1,6 +1,6 @@
 -- Document 01, "Numbers are big-endian": the number that bytes say, and the bytes of a number, over every width. And numbers that go by a test.
 -- Assumes nothing.
-use Rattle.std.specs.Prelude.{ℕ, zero, suc, ◌+◌, ◌*◌, ◌/◌, ◌%◌, Bool, true, false, List, [], ◌∷◌, ◌++◌}
+use Rattle.std.specs.Prelude.{ℕ, zero, suc, ◌+◌, ◌*◌, ◌/◌, ◌%◌, Bool, true, false, [], ◌∷◌, ◌++◌}
 use Rattle.forms.specs.Bytes.{Bytes}
 use Rattle.forms.specs.Readers.{Reader, ◌>>=◌, just, stretch}
 use Rattle.forms.specs.declared.number.Width.{Width}

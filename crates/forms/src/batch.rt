@@ -9,7 +9,7 @@ use crate::number::{Width, number_at};
 use crate::part::{Part, no_part, part_at};
 
 // The places of one entry: its key, and a Put's row.
-#[derive(Drop)]
+#[derive(Clone, Copy)]
 pub struct Entry {
     pub at: usize,
     pub len: usize,
@@ -19,7 +19,7 @@ pub struct Entry {
 }
 
 // An entry, and where the next begins; not ok, and zeros, where there is none in form.
-#[derive(Drop)]
+#[derive(Clone, Copy)]
 pub struct Step {
     pub ok: bool,
     pub entry: Entry,
@@ -27,7 +27,7 @@ pub struct Step {
 }
 
 // The entries of a batch; not ok, and none, where it is not in form.
-#[derive(Drop)]
+#[derive(Clone, Copy)]
 pub struct Entries {
     pub ok: bool,
     pub count: usize,

@@ -5,7 +5,7 @@ ghost use Rattle.forms.specs.Key.{key_form};
 
 use crate::number::{Width, number_at};
 
-#[derive(Drop)]
+#[derive(Clone, Copy)]
 pub enum Order {
     Less,
     Equal,

@@ -4,7 +4,7 @@ ghost use Rattle.forms.specs.Numbers.{width_of};
 ghost use Rattle.forms.specs.Places.{NumberAt};
 
 // The widths that the forms use.
-#[derive(Drop)]
+#[derive(Clone, Copy)]
 pub enum Width {
     Two,
     Four,
@@ -22,7 +22,7 @@ pub fn bytes_in(width: Width) -> usize
 }
 
 // What stands at a place; not ok, and 0, where the bytes end before it does.
-#[derive(Drop)]
+#[derive(Clone, Copy)]
 pub struct Number {
     pub ok: bool,
     pub value: u64,

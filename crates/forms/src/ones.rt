@@ -30,7 +30,7 @@ fn put_fitting(out: &mut [u8], at: usize, s: &[u8]) -> usize
 // A mutation batch of one entry, over the front of the buffer; how many bytes it has.
 pub fn one_mutation(out: &mut [u8], key: &[u8], put: bool, row: &[u8]) -> usize
     requires { 515 ≤ length out.old }
-    ensures { Laid 0 (length (one_mutation (record { key = key.entry.now; row = when put row.now }))) (one_mutation (record { key = key.entry.now; row = when put row.now })) out.old result out.new }
+    ensures { Laid 0 (length (one_mutation (record { key = key.now; row = when put row.now }))) (one_mutation (record { key = key.now; row = when put row.now })) out.old result out.new }
 {
     let a = put_digits(out, 0, Width::Two, 1);
     let b = put_fitting(out, a, key);

@@ -3,7 +3,7 @@ ghost use Rattle.std.specs.Prelude.{◌≡◌};
 ghost use Rattle.forms.specs.Places.{PartAt, no_part};
 
 // Where a piece's bytes lie; not ok, and zeros, where the bytes end before it does.
-#[derive(Drop)]
+#[derive(Clone, Copy)]
 pub struct Part {
     pub ok: bool,
     pub at: usize,

@@ -8,14 +8,14 @@ ghost use Rattle.forms.specs.Places.{CountAt, RestAt, rest_of, BonesAt, no_mask,
 use crate::part::part_at;
 
 // Where a section ends; not ok, and 0, where the bytes are not in its form.
-#[derive(Drop)]
+#[derive(Clone, Copy)]
 pub struct Rest {
     pub ok: bool,
     pub at: usize,
 }
 
 // How many a section has; not ok, and 0, where the bytes end before its count or it is above 8.
-#[derive(Drop)]
+#[derive(Clone, Copy)]
 pub struct Count {
     pub ok: bool,
     pub n: usize,
@@ -111,7 +111,7 @@ pub fn old_row_in_form(row: &[u8]) -> bool
 }
 
 // A row's bones: how many, and from where to where their mask lies. Not ok, and zeros, where the bytes are not in form.
-#[derive(Drop)]
+#[derive(Clone, Copy)]
 pub struct Mask {
     pub ok: bool,
     pub count: usize,

@@ -34,7 +34,9 @@ pub fn put_bytes(out: &mut [u8], at: usize, src: &[u8]) -> usize
     requires { at + length src.now ≤ length out.old }
     ensures { Laid at (length src.now) src.now out.old result out.new }
 {
-    at + bytes::copy(src, &mut out[at..])
+    let n = src.len();
+    out[at..at + n].copy_from_slice(src);
+    at + n
 }
 
 // "a length byte and its bytes"

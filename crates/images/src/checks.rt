@@ -14,7 +14,7 @@ use forms::row::{old_row_in_form, row_in_form};
 use rules::records::{Kind, Record, record_sound};
 
 // The form of an image: document 01's, for the converter, with its own rows and without a floor; or the one that stands.
-#[derive(Drop)]
+#[derive(Clone, Copy)]
 pub enum Form {
     Old,
     New,

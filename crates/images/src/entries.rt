@@ -7,7 +7,7 @@ use forms::number::{Width, number_at};
 use forms::part::{Part, part_at};
 
 // The sections of an image, in its order.
-#[derive(Drop)]
+#[derive(Clone, Copy)]
 pub enum Section {
     Default,
     Lock,
@@ -31,7 +31,7 @@ fn piece_at(s: &[u8], at: usize, section: Section) -> Part
 }
 
 // The end of a lock or a write: two numbers, a kind, and where the next entry begins; not ok, and zeros, where there is none in form.
-#[derive(Drop)]
+#[derive(Clone, Copy)]
 pub struct Tail {
     pub ok: bool,
     pub second: u64,
@@ -96,7 +96,7 @@ fn tail_at(s: &[u8], at: usize, section: Section) -> Tail
 
 // An entry: where its key and its piece lie, the number after its key, the two after its piece, its kind, and where the next entry begins;
 // not ok, and zeros, where there is none in form.
-#[derive(Drop)]
+#[derive(Clone, Copy)]
 pub struct ImageEntry {
     pub ok: bool,
     pub at: usize,

@@ -9,7 +9,7 @@ use forms::number::{Width, number_at};
 
 // A section: how many entries it has, where it ends, and the bytes of its keys and pieces; not ok where there is none in form, or one that is
 // not good.
-#[derive(Drop)]
+#[derive(Clone, Copy)]
 pub struct Span {
     pub ok: bool,
     pub count: usize,
@@ -67,7 +67,7 @@ fn section_at(
 }
 
 // What stands before the sections, and where it ends; not ok where there is none.
-#[derive(Drop)]
+#[derive(Clone, Copy)]
 pub struct Head {
     pub ok: bool,
     pub table: u64,
@@ -101,7 +101,7 @@ fn head_at(s: &[u8], form: Form) -> Head
 
 // An image in form whose entries are good, each by itself: its floor, how many defaults, locks and writes it has, where the writes begin, and the
 // bytes of all keys and pieces; not ok for other bytes.
-#[derive(Drop)]
+#[derive(Clone, Copy)]
 pub struct Sections {
     pub ok: bool,
     pub floor: u64,

@@ -93,6 +93,7 @@ key_of (e ∷ es) k m = go (not (is_first e.key (keys_of es))) m (key_of es k)
     go true (inl q) ih = (e, inl refl, q)
     go true (inr m) ih = late (ih m)
     go false m ih = late (ih m)
+key_of [] k m = elim m [ ]
 
 -- they ascend
 pub keys-ordered : (es : List KeyLine) → ordered before es ≡ true → ordered lt_bytes (keys_of es) ≡ true

@@ -70,6 +70,7 @@ pub sound-in : (ws : List Record) (w : Record) → all_sound ws ≡ true → In 
 unfolding all_sound
 sound-in (v ∷ ws) w a (inl e) = ap sound_record e ∙ and_left _ (all_sound ws) a
 sound-in (v ∷ ws) w a (inr m) = sound-in ws w (and_right (sound_record v) _ a) m
+sound-in [] w a x'' = elim x'' [ ]
 
 pub in-sound : (ws : List Record) → ((w : Record) → In w ws → sound_record w ≡ true) → all_sound ws ≡ true
 unfolding all_sound
@@ -80,6 +81,7 @@ pub below_in : (s : ℕ) (ws : List Record) (w : Record) → all_below s ws ≡ 
 unfolding all_below
 below_in s (v ∷ ws) w a (inl e) = ltb-true w.stamp s (ap (λ (u : Record). ltb u.stamp s) e ∙ and_left _ (all_below s ws) a)
 below_in s (v ∷ ws) w a (inr m) = below_in s ws w (and_right (ltb v.stamp s) _ a) m
+below_in s [] w a x'' = elim x'' [ ]
 
 -- below a number, below any greater
 pub below_more : (s c : ℕ) (ws : List Record) → s ≤ c → all_below s ws ≡ true → all_below c ws ≡ true
@@ -139,6 +141,7 @@ stamped-none s (v ∷ ws) w n (inl e) q =
     let p = not_found (eqb s v.stamp) v (stamped_at s ws) n in
     eqb-false s v.stamp p.0 (sym q ∙ ap (λ (z : Record). z.stamp) e)
 stamped-none s (v ∷ ws) w n (inr m) q = stamped-none s ws w (not_found (eqb s v.stamp) v (stamped_at s ws) n).1 m q
+stamped-none s [] w n x3 q = elim x3 [ ]
 
 -- a record that has come is found by its stamp
 pub stamped-new : (w : Record) (ws : List Record) → stamped_at w.stamp ws ≡ none → stamped_at w.stamp (insert_by stamp_before w ws) ≡ some w
@@ -176,6 +179,7 @@ rollback-kind s (v ∷ ws) w h (inl e) q =
     go k false p t = absurd (false≢true p)
 rollback-kind s (v ∷ ws) w h (inr m) q =
     rollback-kind s ws w (then-right (need (not (eqb s v.start && not (eq_kind v.kind Rollback))) 8) _ (then-right (need (sound_record v) 9) _ h)) m q
+rollback-kind s [] w h x3 q = elim x3 [ ]
 
 -- so where no record has this stamp, none has this start
 pub rollback-started : (s : ℕ) (ws : List Record) → rollback_records s ws ≡ Accepted → stamped_at s ws ≡ none → with_start s ws ≡ none

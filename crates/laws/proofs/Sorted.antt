@@ -119,6 +119,7 @@ module _ {A : Type 0} (lt : A → A → Bool) where
   unfolding all_after
   after-in x (y ∷ ys) z a (inl e) = ap (lt x) e ∙ and_left _ _ a
   after-in x (y ∷ ys) z a (inr m) = after-in x ys z (and_right (lt x y) _ a) m
+  after-in x [] z a x3 = elim x3 [ ]
 
   -- x has no equal in the list: where it is not before, it is after
   abbrev pub Clear : A → List A → Type 0

@@ -72,6 +72,7 @@ apart_in (f ∷ fs) e m = go f.key f.line m (apart_in fs e)
     go : (k : Key) (x : Line) → (e ≡ line_at k x) ⊎ In e fs → (In e fs → In e (map lock_line (locks_of fs)) ⊎ In e (map write_line (writes_of fs))) → In e (map lock_line (locks_of (line_at k x ∷ fs))) ⊎ In e (map write_line (writes_of (line_at k x ∷ fs)))
     go k x (inl q) ih = first k x q
     go k x (inr q) ih = late k x (ih q)
+apart_in [] e m = elim m [ ]
 
 pub in-apart : (es : List KeyLine) (e : KeyLine) → In e (map lock_line (locks_of es)) ⊎ In e (map write_line (writes_of es)) → In e es
 unfolding locks_of writes_of

@@ -33,6 +33,7 @@ in-nil z (x ∷ xs) h e = true≢false (cc)
 pub sole : {A : Type 0} (z x : A) (xs : List A) → In z xs → xs ≡ x ∷ [] → z ≡ x
 sole z x (y ∷ ys) (inl p) e = cc
 sole z x (y ∷ ys) (inr m) e = absurd (in-nil z ys m (cc))
+sole {A = A} z x [] x3 e = elim x3 [ ]
 
 -- ---- one of those that are chosen
 
@@ -46,6 +47,7 @@ module _ {A B : Type 0} (p : A → Bool) (f : A → B) where
       go true e (inl s) ih = subst P (sym s) (h x e (and_left _ _ g))
       go true e (inr m) ih = ih m
       go false e m ih = ih m
+  chosen-good q P h [] z g m = elim m [ ]
 
 -- ---- those that are not chosen
 

@@ -48,6 +48,7 @@ good-in : {A : Type 0} (p : A → Bool) (xs : List A) (x : A) → all_good p xs 
 unfolding all_good
 good-in p (y ∷ ys) x a (inl e) = ap p e ∙ and_left _ _ a
 good-in p (y ∷ ys) x a (inr m) = good-in p ys x (and_right (p y) _ a) m
+good-in {A = A} p [] x a x4 = elim x4 [ ]
 
 -- a count is no more where the steps are the same
 count-monotone : (a : Answer) {n p : ℕ} → n ≤ p → count_if a n ≤ count_if a p

@@ -47,6 +47,7 @@ mem-in x (y ∷ ys) i = go (Memᴰ.cases_cons i) (mem-in x ys)
 in_mem : {A : Type 0} (x : A) (xs : List A) → In x xs → Memᴰ x xs
 in_mem x (y ∷ ys) (inl e) = Memᴰ.head e
 in_mem x (y ∷ ys) (inr m) = Memᴰ.tail (in_mem x ys m)
+in_mem {A = A} x [] x'' = elim x'' [ ]
 
 -- ---- a key's records
 
@@ -64,6 +65,7 @@ module _ (f : ℕ) where
   unfolding none_counts
   none_in (w ∷ ws) v n (inl e) = ap (counts_by f) e ∙ not-true _ (and_left _ _ n)
   none_in (w ∷ ws) v n (inr m) = none_in ws v (and_right (not (counts_by f w)) _ n) m
+  none_in [] v n x'' = elim x'' [ ]
 
   in-none : (ws : List Record) → ((v : Record) → In v ws → counts_by f v ≡ true → ⊥) → none_counts f ws ≡ true
   unfolding none_counts
@@ -115,6 +117,7 @@ module _ (f : ℕ) where
       go true q (inl e) ih = (inl e, subst (λ (z : Record). Stays f (u ∷ ws) z) (sym e) (out_first u ws q))
       go true q (inr m) ih = late (ih m)
       go false q m ih = late (ih m)
+  out [] w o m = elim m [ ]
 
   -- the other way round
   into-first : (w : Record) (ws : List Record) → all_after stamp_before w ws ≡ true → Stays f (w ∷ ws) w → record_stays f ws w ≡ true
@@ -143,6 +146,7 @@ module _ (f : ℕ) where
       go : (t : Bool) → In w (kept_records f ws) → In w (keep_if t u (kept_records f ws))
       go true i = inr i
       go false i = i
+  into [] w o x3 s = elim x3 [ ]
 
 -- ---- rows
 

@@ -94,6 +94,7 @@ in-chosen p f (y ∷ ys) x (inl e) h = subst-in e
     subst-in : x ≡ y → In (f x) (cons_if (p y) (f y) (chosen p f ys))
     subst-in e = rw (sym e, h) (inl refl)
 in-chosen p f (y ∷ ys) x (inr m) h = in-cons (p y) (f x) (f y) (chosen p f ys) (in-chosen p f ys x m h)
+in-chosen {A = A} {B = B} p f [] x x4 h = elim x4 [ ]
 
 -- what is chosen is in the list
 chosen-in : {A B : Type 0} (p : A → Bool) (f : A → B) (xs : List A) (z : B) → In z (chosen p f xs) → (x : A) × In x xs × (p x ≡ true) × (z ≡ f x)
@@ -107,6 +108,7 @@ chosen-in p f (y ∷ ys) z m = go (p y) refl m (chosen-in p f ys z)
     go true e (inl q) ih = (y, inl refl, e, q)
     go true e (inr q) ih = late (ih q)
     go false e q ih = late (ih q)
+chosen-in {A = A} {B = B} p f [] z m = elim m [ ]
 
 -- a pair has no second line
 abbrev Single : List KeyLine → Type 0
@@ -152,6 +154,7 @@ module _ {A : Type 0} (like : A → A → Bool) where
   unfolding none_like
   in-none x (z ∷ zs) n y (inl e) = ap (like x) e ∙ not-true _ (and_left _ _ n)
   in-none x (z ∷ zs) n y (inr m) = in-none x zs (and_right (not (like x z)) _ n) y m
+  in-none x [] n y x3 = elim x3 [ ]
 
   none_more : (x y : A) (xs zs : List A) → like x y ≡ false → none_like like x (xs ++ zs) ≡ true → none_like like x (xs ++ y ∷ zs) ≡ true
   unfolding none_like
@@ -243,6 +246,7 @@ module _ (b : Box) (v : Tidy b) where
       or_right : (s t : Bool) → t ≡ true → s || t ≡ true
       or_right true t h = refl
       or_right false t h = h
+  pointed-in d [] e x'' h = elim x'' [ ]
 
   row_line : (d : Default) → In d b.defaults → pointed_to (apart b.lines) d ≡ true
   row_line d m = go (v.pairs d.key d.start)

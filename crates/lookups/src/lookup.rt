@@ -9,14 +9,14 @@ use rules::{Kind, Load};
 use store::{LineView, LockView, RecordView, Slot, slot_order, view_of};
 
 // A record that may be missing.
-#[derive(Drop)]
+#[derive(Clone, Copy)]
 pub enum Found {
     Nothing,
     Is(RecordView),
 }
 
 // What the records of a key say to a start and a stamp.
-#[derive(Drop)]
+#[derive(Clone, Copy)]
 pub struct History {
     // each is stamped below the start
     pub below: bool,
@@ -33,21 +33,21 @@ pub struct History {
 }
 
 // Of these, what a read sees, and how many it examines.
-#[derive(Drop)]
+#[derive(Clone, Copy)]
 pub struct Sight {
     pub visible: Found,
     pub examined: usize,
 }
 
 // The lock of a key, if it has one.
-#[derive(Drop)]
+#[derive(Clone, Copy)]
 pub enum Locked {
     Nobody,
     By(LockView),
 }
 
 // What stands at a key: the place of its first line, the place of a record of the key at the stamp, its lock and its history.
-#[derive(Drop)]
+#[derive(Clone, Copy)]
 pub struct KeyState {
     pub first: usize,
     pub place: usize,

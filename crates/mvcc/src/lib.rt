@@ -4,6 +4,7 @@
 // `capture_snapshot_table` its `capture_snapshot_state` of one table. A store and its area of `AREA` bytes go together: between
 // calls the area is the store's own, and nobody else writes to it. Every call's only premise is that our code made them (`Made`,
 // crates/store/specs/Made.antt). Each call is tied to the demands in crates/demands/src/ties.rt, by its name here.
+#![tactic(auto)]
 
 // A store, fresh or from an image; the image of one of its tables; an old image as one of today.
 pub use captures::capture_snapshot_table;

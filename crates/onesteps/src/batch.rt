@@ -17,7 +17,7 @@ use rules::{Answer, CommitTerms};
 use store::{AREA, Store};
 
 // The store after a one-step batch, what the call answers, and "The count is the number of entries".
-#[derive(Drop)]
+#[derive(Clone, Copy)]
 pub struct Stepped {
     pub store: Store,
     pub answer: Answer,

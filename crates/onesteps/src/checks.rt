@@ -19,14 +19,14 @@ use rules::{Answer, CommitTerms};
 use store::Store;
 
 // Of an entry, or of all of them: each is applied; at no key has the record at commit this start.
-#[derive(Drop)]
+#[derive(Clone, Copy)]
 pub struct Tally {
     pub all: bool,
     pub none: bool,
 }
 
 // What the checks of an entry, or of all entries, come to.
-#[derive(Drop)]
+#[derive(Clone, Copy)]
 pub struct Checks {
     // "1, 2"
     pub argument: Answer,

@@ -2,6 +2,8 @@
 // by what stands there.
 // `orders`, `pairs`, `faults`, `verdicts` and `restores` are one layer, kept apart for the gate's time: a must-fail edit repeats the check of its
 // whole crate.
+#![tactic(auto)]
+
 pub mod finds;
 pub mod marks;
 pub mod sorts;

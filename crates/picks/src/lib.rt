@@ -1,5 +1,7 @@
 // What an image takes of the lines: which are of its table and of which section, how large it becomes, and which row of a key comes next.
 // `picks` and `captures` are one layer, kept apart for the gate's time: a must-fail edit repeats the check of its whole crate.
+#![tactic(auto)]
+
 pub mod chains;
 pub mod sizes;
 pub mod slots;

@@ -7,7 +7,7 @@ use crate::slots::{kind_of, of_table, row_len};
 use rules::Kind;
 use store::{Line, Slot};
 
-#[derive(Drop)]
+#[derive(Clone, Copy)]
 pub struct Sizes {
     pub defaults: usize,
     pub locks: usize,

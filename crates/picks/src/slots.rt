@@ -12,7 +12,7 @@ use store::views::eight_at;
 use store::{Line, Slot, place_of};
 
 // The sections that take lines as they stand.
-#[derive(Drop)]
+#[derive(Clone, Copy)]
 pub enum Section {
     Locks,
     Writes,

@@ -6,7 +6,7 @@ ghost use Rattle.prewrites.specs.Checks.{with_primary};
 use rules::Answer;
 
 // The numbers of a call's head; its primary is beside them.
-#[derive(Drop)]
+#[derive(Clone, Copy)]
 pub struct LockTerms {
     pub txn: u64,
     pub start: u64,

@@ -1,5 +1,7 @@
 // "Prewrite": a checking pass over the store before the call, the room that the whole call would leave, and an applying pass,
 // after a repack where the area wants one. The single form is a batch of one.
+#![tactic(auto)]
+
 pub mod batch;
 pub mod checks;
 pub mod heads;

@@ -20,7 +20,7 @@ fn part(area: &[u8], at: usize, len: usize) -> &[u8]
 }
 
 // Where the row lies that a read showed, and the primary that an intent at a point showed; nothing shown is nothing long.
-#[derive(Drop)]
+#[derive(Clone, Copy)]
 struct Place {
     at: usize,
     len: usize,

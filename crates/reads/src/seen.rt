@@ -2,7 +2,7 @@
 use rules::{Answer, Kind};
 
 // Of a read: nothing is shown, or the row that is the `len` bytes of the area from `at`, or a refusal.
-#[derive(Drop)]
+#[derive(Clone, Copy)]
 pub enum RowSeen {
     Nothing,
     Row { at: usize, len: usize },
@@ -10,14 +10,14 @@ pub enum RowSeen {
 }
 
 // What a read gives: what is seen, and "the number of write records it examined" (document 02, CR 6).
-#[derive(Drop)]
+#[derive(Clone, Copy)]
 pub struct Reading {
     pub seen: RowSeen,
     pub count: usize,
 }
 
 // A lock as it is shown: its primary is the `len` bytes of the area from `at`. Its row is not shown.
-#[derive(Drop)]
+#[derive(Clone, Copy)]
 pub struct ShownLock {
     pub txn: u64,
     pub start: u64,
@@ -28,7 +28,7 @@ pub struct ShownLock {
 }
 
 // Of an intent at a point: nothing is shown, or the lock, or a refusal.
-#[derive(Drop)]
+#[derive(Clone, Copy)]
 pub enum LockSeen {
     Nothing,
     Lock(ShownLock),

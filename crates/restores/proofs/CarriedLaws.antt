@@ -47,6 +47,7 @@ row-in : (d : Default) (ds : List Default) → ordered row_before ds ≡ true �
 unfolding row_of add_row
 row-in d (x ∷ xs) o (inl q) = ap (λ (y : Default). row_of y.key y.start (x ∷ xs)) q ∙ ap (λ (t : Bool). add_row t x.row (row_of x.key x.start xs)) (pair-refl x) ∙ ap (λ (y : Default). some y.row) (sym q)
 row-in d (x ∷ xs) o (inr m) = rw (row_before-apart' x d (after-in row_before x xs d (ordered-first row_before x xs o) m)) (row-in d xs (ordered-rest row_before x xs o) m)
+row-in d [] o x'' = elim x'' [ ]
 
 module _ (ds : List Default) (o : ordered row_before ds ≡ true) where
   abbrev told : KeyLine → Option Default

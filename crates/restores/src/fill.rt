@@ -14,7 +14,7 @@ use store::table::no_slot;
 use store::{Line, LockSlot, RecordSlot, Slot, pairs_in};
 
 // A slot, the first byte past its stretch, and the place of the last default that was found.
-#[derive(Drop)]
+#[derive(Clone, Copy)]
 pub struct Filled {
     pub slot: Slot,
     pub top: usize,

@@ -1,4 +1,6 @@
 // "Restore (replaces the whole store)": the image is judged whole, and then the table is filled with its lines in order.
+#![tactic(auto)]
+
 pub mod fill;
 pub mod replace;
 pub mod rows;

@@ -5,7 +5,7 @@ use images::{ImageEntry, Section, entry_at};
 use orders::row_place;
 
 // Where a row lies in the image, and the place of its default in the list.
-#[derive(Drop)]
+#[derive(Clone, Copy)]
 pub struct RowPlace {
     pub at: usize,
     pub len: usize,

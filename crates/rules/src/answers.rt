@@ -4,7 +4,7 @@ ghost use Rattle.std.specs.Prelude.{◌≡◌};
 ghost use Rattle.rules.specs.Answers.{number, no_holder, holder};
 
 // "Answer 7 carries the holder's transaction and start", and "the lock's time to live and kind" (document 02, CR 9), all as numbers.
-#[derive(Drop)]
+#[derive(Clone, Copy)]
 pub struct Holder {
     pub txn: u64,
     pub start: u64,
@@ -12,7 +12,7 @@ pub struct Holder {
     pub kind: u8,
 }
 
-#[derive(Drop)]
+#[derive(Clone, Copy)]
 pub enum Answer {
     Accepted,
     No(u8),

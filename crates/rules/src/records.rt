@@ -4,7 +4,7 @@ ghost use Rattle.rules.specs.Box.{kind_byte};
 ghost use Rattle.rules.specs.Sound.{sound_record, kind_fits};
 
 // "Kinds: 1 Put, 2 Delete, 3 Rollback"; a standing intent is a Put or a Delete.
-#[derive(Drop)]
+#[derive(Clone, Copy)]
 pub enum Kind {
     Put,
     Delete,
@@ -22,7 +22,7 @@ pub fn kind_byte(kind: Kind) -> u8
 }
 
 // A finished record: its write stamp, and the start, commit and kind that it says.
-#[derive(Drop)]
+#[derive(Clone, Copy)]
 pub struct Record {
     pub stamp: u64,
     pub start: u64,

@@ -3,7 +3,7 @@ ghost use Rattle.std.specs.Prelude.{◌≡◌};
 ghost use Rattle.rules.specs.Room.{fits};
 
 // Lines, locks among them, defaults, live bytes.
-#[derive(Drop)]
+#[derive(Clone, Copy)]
 pub struct Load {
     pub lines: usize,
     pub locks: usize,

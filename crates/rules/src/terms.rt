@@ -1,5 +1,5 @@
 // What a commit and a one-step batch say of their transaction: code and definitions speak of the one type.
-#[derive(Drop)]
+#[derive(Clone, Copy)]
 pub struct CommitTerms {
     pub txn: u64,
     pub start: u64,

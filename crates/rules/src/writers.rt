@@ -42,7 +42,7 @@ pub fn put_record(out: &mut [u8], at: usize, w: Record) -> usize
 // "key length, key, 8-byte start, row length, row"
 pub fn put_default(out: &mut [u8], at: usize, key: &[u8], start: u64, row: &[u8]) -> usize
     requires { PieceAsks key.now (length key.now + length row.now + 10) at out.old × (length row.now ≤ 255) }
-    ensures { Laid at (length key.entry.now + length row.now + 10) (default_bytes (record { key = key.entry.now; start = start; row = row.now })) out.old result out.new }
+    ensures { Laid at (length key.now + length row.now + 10) (default_bytes (record { key = key.now; start = start; row = row.now })) out.old result out.new }
 {
     let a = put_piece(out, at, key);
     let b = put_digits(out, a, Width::Eight, start);

@@ -4,7 +4,7 @@ ghost use Rattle.std.specs.Prelude.{◌≡◌};
 use crate::answers::Answer;
 
 // "A writing call also gives the bytes written; a refusal's counts are 0."
-#[derive(Drop)]
+#[derive(Clone, Copy)]
 pub struct Wrote {
     pub answer: Answer,
     pub count: usize,

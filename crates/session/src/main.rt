@@ -2,6 +2,8 @@
 // commit, the bones that a row shows, a page, a removal that is withdrawn, a second box that is filled from the hall's image, and a season that
 // fills the box and is collected. Each line says who asks for what, and then what the box answered. The store and its area live here; every
 // step hands on a made store, whatever was answered.
+#![tactic(auto)]
+
 mod copying;
 mod curators;
 mod season;

@@ -16,7 +16,7 @@ use store::{AREA, Store};
 use traces::Args;
 
 // A page, an intent page, or conflicting intents.
-#[derive(Drop)]
+#[derive(Clone, Copy)]
 pub enum Which {
     Rows,
     Intents,

@@ -24,6 +24,7 @@ pub good-in : {A : Type 0} (p : A → Bool) (xs : List A) (x : A) → In x xs �
 unfolding all_good
 good-in p (y ∷ ys) x (inl e) g = ap p e ∙ and_left _ _ g
 good-in p (y ∷ ys) x (inr n) g = good-in p ys x n (and_right (p y) _ g)
+good-in {A = A} p [] x x4 g = elim x4 [ ]
 
 pub sound-records : (k : Key) (es : List box.KeyLine) → all_good good_line es ≡ true → all_sound (box.records_of k es) ≡ true
 unfolding all_good all_sound box.records_of box.add_record

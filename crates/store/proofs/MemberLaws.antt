@@ -48,6 +48,7 @@ lock-shown k (e ∷ es) l o (inr m) = go e.key e.line (eq_bytes k e.key) refl (a
     go j (Standing n) true q h ih = absurd (false≢true (sym (before_same (record { key = j; line = Standing n }) (record { key = k; line = Standing l }) (eq_bytes-sym j k ∙ q)) ∙ h))
     go j (Finished w) true q h ih = ih
     go j x false q h ih = ih
+lock-shown k [] l o x'' = elim x'' [ ]
 
 pub row-found : (k : Key) (s : ℕ) (ds : List Default) (r : Row) → row_of k s ds ≡ some r → In (record { key = k; start = s; row = r }) ds
 unfolding row_of add_row

@@ -93,6 +93,7 @@ stored-in d (none ∷ os) (inl e) = absurd (true≢false (cc))
 stored-in d (some x ∷ os) (inl e) = in_insert box.row_before x (stored os) d (inl (cc))
 stored-in d (none ∷ os) (inr m) = stored-in d os m
 stored-in d (some x ∷ os) (inr m) = in_insert box.row_before x (stored os) d (inr (stored-in d os m))
+stored-in d [] x' = elim x' [ ]
 
 -- ---- no two lines of one key and start
 

@@ -2,6 +2,8 @@
 // row. specs/View.antt says which box a store shows; the defaults of that box are the rows that its Put lines carry. `table` has what is kept,
 // `views` reads a line, `holders` tells whose a lock is and makes answer 7, `intents` writes a lock. The lookup is a crate of its own
 // (`lookups`), so that a wrong program of either costs only its own check.
+#![tactic(auto)]
+
 pub mod holders;
 pub mod intents;
 pub mod table;

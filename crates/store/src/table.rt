@@ -10,7 +10,7 @@ use rules::{Kind, Load};
 pub const AREA: usize = 131072;
 
 // A standing intent: how long its primary and its row are.
-#[derive(Drop)]
+#[derive(Clone, Copy)]
 pub struct LockSlot {
     pub plen: u8,
     pub rowlen: u8,
@@ -18,14 +18,14 @@ pub struct LockSlot {
 }
 
 // A finished record: how long its row is.
-#[derive(Drop)]
+#[derive(Clone, Copy)]
 pub struct RecordSlot {
     pub rowlen: u8,
     pub kind: Kind,
 }
 
 // "either a standing intent with its kind or a finished record"
-#[derive(Drop)]
+#[derive(Clone, Copy)]
 pub enum Line {
     Standing(LockSlot),
     Finished(RecordSlot),
@@ -34,7 +34,7 @@ pub enum Line {
 // A place for a line, 8 bytes. Its stretch of the area begins after `at` pairs of bytes, so that 16 bits reach the whole area: its key of
 // `len` bytes, two numbers of 8 (a lock's transaction or a record's stamp, then the start), its row, and for a lock the time to live and
 // the primary.
-#[derive(Drop)]
+#[derive(Clone, Copy)]
 pub struct Slot {
     pub at: u16,
     pub len: u8,
@@ -44,7 +44,7 @@ pub struct Slot {
 
 // "At most 1,024 lines (locks plus records)": the slots below the count stand in order, those past it are empty. `top` is the first byte of
 // the area that no slot needs. "The floor is part of the store, begins at 0 and never falls."
-#[derive(Drop)]
+#[derive(Clone, Copy)]
 pub struct Store {
     pub lines: [Slot; 1024],
     pub load: Load,

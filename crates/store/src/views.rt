@@ -9,7 +9,7 @@ use forms::{Order, Width};
 use rules::Kind;
 
 // A standing intent. Its primary is the `len` bytes of the area from `at`, a Put's row the `rowlen` bytes from `rowat`.
-#[derive(Drop)]
+#[derive(Clone, Copy)]
 pub struct LockView {
     pub txn: u64,
     pub start: u64,
@@ -22,7 +22,7 @@ pub struct LockView {
 }
 
 // A finished record: its commit is its stamp.
-#[derive(Drop)]
+#[derive(Clone, Copy)]
 pub struct RecordView {
     pub stamp: u64,
     pub start: u64,
@@ -31,7 +31,7 @@ pub struct RecordView {
     pub rowlen: usize,
 }
 
-#[derive(Drop)]
+#[derive(Clone, Copy)]
 pub enum LineView {
     Standing(LockView),
     Finished(RecordView),

@@ -8,7 +8,7 @@ use crate::op::{Op, ShowOp, is_long, known_op};
 use crate::shape::{Shape, shape_of};
 
 // Not ok where the bytes are no call in form. An argument that the call has not is 0, or absent, or no bytes; the table is the first number.
-#[derive(Drop)]
+#[derive(Clone, Copy)]
 pub struct Args {
     pub ok: bool,
     pub op: Op,

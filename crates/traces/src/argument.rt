@@ -9,7 +9,7 @@ ghost use Rattle.traces.specs.Places.{Goes, ValueAt, first_width, BufferAt, Text
 
 use forms::{Width, bytes_in, number_at};
 
-#[derive(Drop)]
+#[derive(Clone, Copy)]
 pub struct Value {
     pub ok: bool,
     pub value: u64,
@@ -74,7 +74,7 @@ pub(crate) fn buffer_from(s: &[u8], before: bool, at: usize, long: bool, page: b
 }
 
 // "1 Put, 2 Delete"
-#[derive(Drop)]
+#[derive(Clone, Copy)]
 pub struct Flag {
     pub ok: bool,
     pub put: bool,
@@ -126,7 +126,7 @@ pub(crate) fn kind_from(s: &[u8], before: bool, at: usize, wanted: bool) -> Flag
 }
 
 // Where the bytes of a key, a primary, a row or the rest lie.
-#[derive(Drop)]
+#[derive(Clone, Copy)]
 pub struct Text {
     pub ok: bool,
     pub at: usize,
@@ -197,7 +197,7 @@ pub(crate) fn rest_from(s: &[u8], before: bool, at: usize, wanted: bool) -> Text
     }
 }
 
-#[derive(Drop)]
+#[derive(Clone, Copy)]
 pub struct Bound {
     pub ok: bool,
     pub present: bool,

@@ -7,7 +7,7 @@ use crate::argument::{
 };
 use forms::Width;
 
-#[derive(Drop)]
+#[derive(Clone, Copy)]
 pub struct Numbers {
     pub first: Value,
     pub second: Value,
@@ -29,7 +29,7 @@ pub(crate) fn numbers_from(s: &[u8], long: bool, count: u8) -> Numbers
     }
 }
 
-#[derive(Drop)]
+#[derive(Clone, Copy)]
 pub struct Texts {
     pub kind: Flag,
     pub primary: Text,
@@ -62,7 +62,7 @@ pub(crate) fn texts_from(
     }
 }
 
-#[derive(Drop)]
+#[derive(Clone, Copy)]
 pub struct Bounds {
     pub from: Bound,
     pub to: Bound,

@@ -1,6 +1,8 @@
 // The form of docs/TRACE.md, in which calls are recorded and driven from outside: traces with their arguments, answers with their payloads. Every
 // function takes any bytes, and says what the definition in specs/ says of them. A buffer that is too short stays as it was, and nothing counts as
 // written.
+#![tactic(auto)]
+
 pub mod answer;
 pub mod args;
 pub mod argument;

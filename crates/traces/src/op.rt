@@ -4,7 +4,7 @@ ghost use Rattle.std.specs.Prelude.{◌≡◌};
 ghost use Rattle.traces.specs.Ops.{known_op, is_in, is_long};
 
 // The calls that show something and leave the store as it was, by their names in the table.
-#[derive(Drop)]
+#[derive(Clone, Copy)]
 pub enum ShowOp {
     Read,
     Page,
@@ -16,7 +16,7 @@ pub enum ShowOp {
 }
 
 // The calls that change the store and give no count.
-#[derive(Drop)]
+#[derive(Clone, Copy)]
 pub enum ChangeOp {
     Prewrite,
     PrewriteBatch,
@@ -29,14 +29,14 @@ pub enum ChangeOp {
 }
 
 // The calls that ask about a row, and need no store.
-#[derive(Drop)]
+#[derive(Clone, Copy)]
 pub enum AskOp {
     Bone,
     Bones,
 }
 
 // Every call. Those that write an image show it in a long buffer, and stand apart from those whose payload is short.
-#[derive(Drop)]
+#[derive(Clone, Copy)]
 pub enum Op {
     Shows(ShowOp),
     Changes(ChangeOp),

@@ -8,7 +8,7 @@ ghost use Rattle.traces.specs.Shapes.{shape_by, no_shape, with_key, with_numbers
 use crate::op::{AskOp, ChangeOp, Op, ShowOp};
 
 // Not ok where no call has the op byte.
-#[derive(Drop)]
+#[derive(Clone, Copy)]
 pub struct Shape {
     pub ok: bool,
     pub op: Op,

@@ -8,7 +8,7 @@ use crate::args::args_of;
 use forms::{Width, number_at};
 
 // Where a call's bytes lie; not ok, and zeros, where the bytes end before it does. The next call begins where it ends.
-#[derive(Drop)]
+#[derive(Clone, Copy)]
 pub struct Call {
     pub ok: bool,
     pub at: usize,
@@ -88,7 +88,7 @@ pub fn trace_in_form(trace: &[u8]) -> bool
 }
 
 // A place in a judged trace: where its next call begins, and how many are left.
-#[derive(Drop)]
+#[derive(Clone, Copy)]
 pub struct Cursor {
     pub at: usize,
     pub left: usize,

@@ -7,7 +7,7 @@ use rules::{Answer, Kind};
 use store::{LineView, Slot};
 
 // "Page", "Intent page", "Conflicting intents".
-#[derive(Drop)]
+#[derive(Clone, Copy)]
 pub enum Scan {
     Rows,
     Intents,
@@ -15,14 +15,14 @@ pub enum Scan {
 }
 
 // The line that the page would list for the key, if any.
-#[derive(Drop)]
+#[derive(Clone, Copy)]
 pub enum Listed {
     Nothing,
     Line(Slot),
 }
 
 // Whether the key's lock lets a read pass, and what would be listed.
-#[derive(Drop)]
+#[derive(Clone, Copy)]
 pub struct Due {
     pub lets: Answer,
     pub line: Listed,

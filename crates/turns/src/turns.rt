@@ -7,7 +7,7 @@ use rules::Answer;
 use store::{Line, Slot};
 
 // The walk goes on without the line, stops with more, is refused, or adds it at its cost.
-#[derive(Drop)]
+#[derive(Clone, Copy)]
 pub enum Turn {
     On,
     Stop,

@@ -1,5 +1,7 @@
 // What a visitor or the support desk asks of the box, and the words for what was answered. The program `session` stands on this crate; the two are
 // apart for the check's time.
+#![tactic(auto)]
+
 pub mod telling;
 pub mod visitors;
 

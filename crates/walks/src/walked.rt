@@ -8,7 +8,7 @@ use store::Slot;
 use turns::Scan;
 
 // The moment, the limit of rows or locks, and that of bytes. An intent page has no moment, and a byte limit that no page reaches.
-#[derive(Drop)]
+#[derive(Clone, Copy)]
 pub struct PageQuery {
     pub scan: Scan,
     pub moment: u64,
@@ -18,7 +18,7 @@ pub struct PageQuery {
 
 // "At most 1,024 lines": so many has a page at most. A record stands for its key and row, an intent for its key and lock. Slots from the count
 // on say nothing. `size` is how many bytes the page has.
-#[derive(Drop)]
+#[derive(Clone, Copy)]
 pub struct Walked {
     pub answer: Answer,
     pub more: bool,

@@ -1,0 +1,18 @@
+-- `lookups::lookup::look_up` meets its contract. The first loop's invariant: the place of the key's first line is at least `low` and at most
+-- `high` (`Halving` of `LookUpLaws`). The second's: what was seen is what the lines before `i` say of the key (`Looking`).
+-- Assumes nothing.
+use Rattle.lookups.proofs.LookUpLaws.{Halving, Looking}
+use Prim.Native.Nat.{◌-◌}
+use Rattle.lookups.proofs.lookup.look_up.Given as goal
+
+abbrev pub invariant-loop-low : goal.invariant-loop-low
+invariant-loop-low l = Halving l.area l.key l.lines l.n l.low l.high
+
+abbrev pub decreases-loop-low : goal.decreases-loop-low
+decreases-loop-low l = l.high - l.low
+
+abbrev pub invariant-loop-i : goal.invariant-loop-i
+invariant-loop-i l = Looking l.area l.key l.start l.stamp l.lines l.n l.i l.seen
+
+abbrev pub decreases-loop-i : goal.decreases-loop-i
+decreases-loop-i l = l.n - l.i

@@ -1,0 +1,7 @@
+-- `picks::slots::of_table` meets its contract: a key in form begins with its table number.
+-- Assumes nothing.
+use Rattle.picks.proofs.CaptureLineLaws.{table_is}
+use Rattle.picks.proofs.slots.of_table.Goals as goal
+
+pub returns : goal.returns
+returns c = table_is c.requires _ c.place_of.ensures c.number_at-n.ensures
