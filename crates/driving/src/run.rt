@@ -6,7 +6,7 @@ ghost use Rattle.showing.specs.Told.{told_in};
 ghost use Rattle.showing.specs.Ran.{RunAsks, RanAs, RunCall};
 
 use crate::asks::{run_ask, run_convert};
-use crate::changes::{run_change, run_step, tell_change};
+use crate::changing::{run_change, run_step, tell_change};
 use calls::Changed;
 use rules::Answer;
 use showing::{Ran, run_capture, run_shown};

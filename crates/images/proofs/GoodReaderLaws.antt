@@ -1,12 +1,12 @@
 -- Readers that let only good entries in: what one, many and a section of them read, and that document 01's readers read the same entries.
 -- Assumes nothing.
-use Prim.Native.Nat.{ℕ, zero, suc, ◌+◌}
+use Prim.Native.Nat.{ℕ, zero, suc}
 use native.Mathlib.Omega.{arith}
 use mathlib.Core.Path.{◌≡◌, refl, sym, ◌∙◌, ap}
 use mathlib.Core.Bool.{Bool, true, false, not, ◌&&◌, true≢false, false≢true}
 use mathlib.Core.List.{List, [], ◌∷◌, map}
 use mathlib.Core.Option.{Option, none, some}
-use lib.ListN.{length, drop}
+use lib.ListN.{drop}
 use lib.Dec.{eqb}
 use borrow.Author.Tests.{not-true, not-false}
 use Rattle.forms.specs.Bytes.{Bytes}
@@ -20,11 +20,11 @@ use Rattle.rules.specs.declared.records.Kind.{Kind}
 use Rattle.rules.specs.Page.{KeyLock}
 use Rattle.rules.specs.Image.{KeyRecord, kind_if, kind_from, default_from, lock_from, key_lock_from, write_from}
 use Rattle.rules.specs.Restore.{all_good, good_default_by, good_lock, good_write}
-use Rattle.images.specs.Entries.{Raw, End, or_else, has_piece, has_tail, tail_from, no_end, entry_from, raw_of, EntryAt, no_entry}
+use Rattle.images.specs.Entries.{Raw, End, tail_from, entry_from, raw_of, EntryAt, no_entry}
 use Rattle.images.specs.declared.entries.Section.{Section}
 use Rattle.images.specs.declared.entries.Section.TheVariants.{Default, Lock, Write}
 use Rattle.images.specs.declared.entries.ImageEntry.{ImageEntry}
-use Rattle.images.specs.Good.{known, known_by, kind_by, kind_of, default_of, key_lock_of, key_record_of, fits, pass, good_from, Lies, GoodAt}
+use Rattle.images.specs.Good.{known, known_by, kind_by, default_of, key_lock_of, key_record_of, fits, pass, good_from, Lies, GoodAt}
 
 -- ---- `good_at`
 

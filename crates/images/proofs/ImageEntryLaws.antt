@@ -6,7 +6,7 @@ use mathlib.Core.Path.{◌≡◌, refl, sym, ◌∙◌, ap}
 use mathlib.Core.Bool.{Bool, true, false, not, true≢false, false≢true}
 use mathlib.Core.List.{[]}
 use mathlib.Core.Option.{Option, none, some}
-use lib.ListN.{length, get_or, take, drop, length-drop}
+use lib.ListN.{length, get_or, drop, length-drop}
 use lib.Seq.{length-take-le}
 use lib.Dec.{ltb, leb}
 use borrow.Author.Tests.{ltb-true, ltb-false, leb-true}
@@ -18,7 +18,7 @@ use Rattle.forms.specs.Places.{found, NumberAt, PartAt}
 use Rattle.forms.specs.declared.part.Part.{Part}
 use Rattle.forms.specs.declared.number.Number.{Number}
 use Rattle.forms.proofs.ReaderLaws.{after, byte-none, byte_at, stretch-at, Reads, reads-bad, reads-good, part-reads}
-use Rattle.forms.proofs.NumberLaws.{number-bad, number-good, number-long}
+use Rattle.forms.proofs.NumberLaws.{number-bad, number-good}
 use Rattle.images.specs.Entries.{Raw, End, has_piece, has_tail, or_else, tail_from, no_end, entry_from, raw_or, raw_at, PieceAt, TailAt, end_of, no_tail, raw_of, EntryAt, no_entry}
 use Rattle.images.specs.declared.entries.Section.{Section}
 use Rattle.images.specs.declared.entries.Tail.{Tail}

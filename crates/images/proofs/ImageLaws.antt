@@ -1,16 +1,14 @@
 -- The image by its sections: each way out of `head_at` and of `sections_of`.
 -- Assumes nothing.
-use Prim.Native.Nat.{ℕ, ◌+◌, ◌≤◌}
+use Prim.Native.Nat.{ℕ, ◌+◌}
 use native.Mathlib.Omega.{arith}
 use mathlib.Core.Path.{◌≡◌, refl, sym, ◌∙◌, ap, subst}
 use mathlib.Core.Bool.{Bool, true, false, not, ◌&&◌, true≢false, false≢true}
 use mathlib.Core.List.{List, [], ◌∷◌, map}
 use mathlib.Core.Option.{Option, none, some}
-use lib.ListN.{length, take, drop, length-drop}
+use lib.ListN.{length, take, drop}
 use lib.Dec.{eqb}
 use borrow.Author.Tests.{eq-eqb, ne_eqb, not-true, not-false}
-use Rattle.seqs.specs.Tables.{All}
-use Rattle.seqs.proofs.Alls.{all_none}
 use Rattle.forms.specs.Bytes.{Bytes}
 use Rattle.forms.specs.Row.{Row}
 use Rattle.forms.specs.Readers.{Read, Reader, read_on, ◌>>=◌, just, when, ended, whole, is_some}
@@ -22,7 +20,6 @@ use Rattle.forms.proofs.ReaderLaws.{ended_at}
 use Rattle.forms.proofs.NumberLaws.{number-bad, number-good, number_short, number-long}
 use Rattle.rules.specs.Box as box
 use Rattle.rules.specs.Page.{KeyLock}
-use Rattle.rules.specs.Room.{sum_of}
 use Rattle.rules.specs.Image.{Image, KeyRecord, image, old_image, image_from, old_image_from, sections_from, default_from, key_lock_from, write_from}
 use Rattle.rules.specs.Restore.{all_good, good_default_by, good_lock, good_write, no_second, like_default, like_lock, like_write, has_default, good_image_by}
 use Rattle.images.specs.Entries.{Raw, raw_at}
@@ -32,10 +29,9 @@ use Rattle.images.proofs.ImageEntryLaws.{on_none, on_some}
 use Rattle.images.specs.declared.checks.Form.{Form}
 use Rattle.images.specs.declared.checks.Form.TheVariants.{Old, New}
 use Rattle.images.specs.Good.{default_of, key_lock_of, key_record_of, form_of, good_from, pass}
-use Rattle.images.specs.Sections.{Stands, raw_bytes, SpanAt, image_in, is_good, HeadAt, image_of, Listed, SectionsAt, no_sections}
+use Rattle.images.specs.Sections.{SpanAt, image_in, is_good, HeadAt, image_of, SectionsAt, no_sections}
 use Rattle.images.specs.declared.sections.Span.{Span}
 use Rattle.images.specs.declared.sections.Head.{Head}
-use Rattle.images.specs.declared.sections.Sections.{Sections}
 use Rattle.images.proofs.TestLaws.{and-out, and_last}
 use Rattle.images.proofs.GoodReaderLaws.{map_read, good_defaults, good_locks, good_writes, pass-section}
 

@@ -2,7 +2,7 @@
 -- rest of the chain is. `search chain` closes each way out of such a program, under `unfolding` of the chain's own definition; where a step
 -- is the answer of a call, `search (chain, calls)`; where a reply follows the steps, `search (chain, replies)`. Assumes nothing.
 use Prim.Native.Nat.{ℕ}
-use mathlib.Core.Path.{◌≡◌, refl, sym, ◌∙◌}
+use mathlib.Core.Path.{◌≡◌, sym, ◌∙◌}
 use mathlib.Core.Bool.{Bool, true, false, not}
 use lib.Dec.{eqb}
 use borrow.Author.Tests.{eq-eqb, ne_eqb, lt-ltb, le-ltb, le-leb, lt-leb, not-true, not-false}

@@ -3,31 +3,28 @@
 use Prim.Native.Nat.{ℕ, ◌≤◌, ◌<◌}
 use native.Mathlib.Omega.{arith}
 use mathlib.Core.Path.{◌≡◌, refl, ap, sym, ◌∙◌, subst}
-use mathlib.Core.Logic.{◌⊎◌, inl, inr}
-use mathlib.Core.Bool.{Bool, true, false, ◌&&◌, ◌||◌, not, true≢false, false≢true}
+use mathlib.Core.Bool.{Bool, true, false, ◌&&◌, not, true≢false}
 use mathlib.Core.List.{List, [], ◌∷◌}
-use mathlib.Core.Option.{Option, none, some}
-use lib.Dec.{leb, ltb, eqb}
+use mathlib.Core.Option.{Option}
+use lib.Dec.{ltb, eqb}
 use borrow.Author.Tests.{ltb-false, lt-ltb, ne_eqb}
 use Rattle.forms.specs.Key.{Key}
 use Rattle.forms.specs.Bytes.{eq_bytes}
 use Rattle.forms.proofs.Orders.{eq_bytes-refl, eq_bytes-true}
-use Rattle.rules.specs.declared.answers.Answer.TheVariants.{Accepted}
-use Rattle.rules.specs.declared.records.Kind.TheVariants.{Put, Rollback}
 use Rattle.rules.specs.declared.records.Record.{Record}
 use Rattle.rules.specs.Answers.{◌▸◌, need}
-use Rattle.rules.specs.Box.{Box, Lock, Line, Standing, Finished, KeyLine, Default, start_of, eq_kind, records_of, add_record, lock_of, add_lock, row_of, add_row, at_pair, in_order}
+use Rattle.rules.specs.Box.{Box, Lock, Line, Standing, Finished, KeyLine, Default, records_of, add_record, lock_of, add_lock, row_of, add_row, at_pair, in_order}
 use Rattle.rules.specs.Sound.{sound_record, all_sound}
 use Rattle.rules.specs.Room.{room_for}
 use Rattle.rules.specs.Read.{keep_if, those}
-use Rattle.rules.specs.Page.{KeyLock, locks_of, add_standing}
+use Rattle.rules.specs.Page.{locks_of, add_standing}
 use Rattle.rules.specs.Calls.{all_below, found_if, stamped_at}
 use Rattle.rules.specs.Commit.{with_start}
 use Rattle.rules.specs.Rollback.{rollback_records}
 use Rattle.rules.specs.Capture.{Words}
-use Rattle.rules.specs.Collect.{none_counts, record_stays, stays, kept_lines, dropped_lines, row_stays, collected}
+use Rattle.rules.specs.Collect.{record_stays, stays, kept_lines, dropped_lines, row_stays, collected}
 use Rattle.laws.proofs.StepLaws.{by-test, and_left, and_right, and_both, or-false-left}
-use Rattle.laws.proofs.Sorted.{In, Fewer, empty, gone, kept}
+use Rattle.laws.proofs.Sorted.{Fewer, empty, gone, kept}
 use Rattle.laws.proofs.RecordLaws.{sound-le}
 use Rattle.laws.proofs.FewerLaws.{FewerBox, fewer-order, fewer-words, fewer-room}
 use Rattle.laws.proofs.PlaceLaws.{those-fewer}

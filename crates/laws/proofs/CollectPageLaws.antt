@@ -6,11 +6,11 @@ use mathlib.Core.Path.{◌≡◌, refl, ap, sym, ◌∙◌}
 use mathlib.Core.Logic.{◌⊎◌, inl, inr}
 use mathlib.Core.Bool.{Bool, true, false, not, true≢false}
 use mathlib.Core.List.{List, [], ◌∷◌}
-use mathlib.Core.Option.{Option, none}
+use mathlib.Core.Option.{none}
 use lib.Dec.{leb, eqb}
 use Rattle.forms.specs.Key.{Key}
 use Rattle.forms.specs.Bytes.{eq_bytes, lt_bytes}
-use Rattle.forms.proofs.Orders.{eq_bytes-true, eq_bytes-sym, lt_bytes-irrefl, lt_bytes-trans, lt_bytes-else}
+use Rattle.forms.proofs.Orders.{eq_bytes-true, eq_bytes-sym, lt_bytes-trans, lt_bytes-else}
 use Rattle.rules.specs.Answers.{Reply, nothing, shown, refused}
 use Rattle.rules.specs.Box.{KeyLine, before, all_after, ordered, records_of, add_record, lock_of, add_lock}
 use Rattle.rules.specs.Read.{keep_if}

@@ -5,22 +5,19 @@ use Prim.Native.Nat.{ℕ, ◌≤◌, ◌<◌}
 use native.Mathlib.Omega.{arith}
 use mathlib.Core.Path.{◌≡◌, refl, ap, sym, ◌∙◌}
 use mathlib.Core.Logic.{inl, inr}
-use mathlib.Core.Bool.{Bool, true, false, ◌&&◌, ◌||◌, not, true≢false, false≢true}
-use mathlib.Core.List.{List, [], ◌∷◌, reverse, reverse_aux}
-use mathlib.Core.Option.{Option, none, some}
+use mathlib.Core.Bool.{Bool, true, false, ◌&&◌, true≢false}
+use mathlib.Core.List.{List, [], ◌∷◌, reverse_aux}
 use lib.Dec.{leb, ltb}
-use borrow.Author.Tests.{le-leb, lt-leb, lt-ltb, le-ltb, ltb-true, ltb-false}
+use borrow.Author.Tests.{le-leb, lt-leb, le-ltb, ltb-true, ltb-false}
 use Rattle.forms.specs.Key.{Key}
-use Rattle.forms.specs.Row.{Row}
 use Rattle.rules.specs.declared.records.Kind.{Kind}
 use Rattle.rules.specs.declared.records.Kind.TheVariants.{Put, Delete, Rollback}
 use Rattle.rules.specs.declared.records.Record.{Record}
-use Rattle.rules.specs.Answers.{Reply}
 use Rattle.rules.specs.Box.{Default, eq_kind, row_of, all_after, ordered}
 use Rattle.rules.specs.Sound.{sound_record, all_sound}
 use Rattle.rules.specs.Read.{keep_if, at_or_below, newest_first, show_row, Examined, one_record, walk}
-use Rattle.rules.specs.Collect.{counts_by, none_counts, record_stays}
-use Rattle.laws.proofs.StepLaws.{by-test, and_left, and_right, and_both}
+use Rattle.rules.specs.Collect.{none_counts, record_stays}
+use Rattle.laws.proofs.StepLaws.{and_left, and_right}
 use Rattle.laws.proofs.Sorted.{In, ordered-first, ordered-rest}
 use Rattle.laws.proofs.KeyLaws.{stamp_before}
 use Rattle.laws.proofs.CollectLaws.{kept_records}

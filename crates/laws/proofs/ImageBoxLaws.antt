@@ -9,7 +9,7 @@ use mathlib.Core.Option.{Option, none, some}
 use lib.Dec.{eqb}
 use Rattle.forms.specs.Bytes.{Bytes, eq_bytes}
 use Rattle.rules.specs.declared.room.Load.{Load}
-use Rattle.rules.specs.Box.{Box, KeyLine, Default, before, row_before, insert_by, insert_line, ordered, in_order}
+use Rattle.rules.specs.Box.{KeyLine, Default, before, row_before, insert_by, insert_line, ordered, in_order}
 use Rattle.rules.specs.Room.{load_of, room_for}
 use Rattle.rules.specs.Page.{KeyLock}
 use Rattle.rules.specs.Calls.{State}

@@ -23,7 +23,6 @@ use Rattle.laws.proofs.ImageBoxLaws.{image-lines, image-defaults}
 use Rattle.laws.proofs.PlaceLaws.{those-hold}
 use Rattle.laws.proofs.ImageBackLaws.{image-back}
 use Rattle.laws.proofs.Sorted.{fewer-good}
-use Rattle.laws.proofs.FewerLaws.{FewerBox}
 use Rattle.laws.proofs.TablePartLaws.{part-fewer, part-order, part-again, part-words, part_room, apart_in, in-apart, locks-good, writes-good, lock-words, write-words, locks-few, writes-few}
 use Rattle.ledger.specs.Tidy.{sound_line, good_line, good_row, Tidy, line_above}
 use Rattle.ledger.specs.BoxImages.{Stored, TableNumber, CaptureRestores, EqualBytes, EqualBytesOnly, Canonical}

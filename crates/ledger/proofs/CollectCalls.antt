@@ -7,9 +7,7 @@ use mathlib.Core.Path.{◌≡◌, refl, sym, ap, ap₂, ◌∙◌}
 use mathlib.Core.Bool.{Bool, true, false, not}
 use mathlib.Core.List.{List, [], ◌∷◌}
 use mathlib.Core.Option.{Option, none, some}
-use lib.Dec.{ltb}
 use borrow.Author.Tests.{lt-ltb, ltb-true}
-use Rattle.forms.specs.Bytes.{Bytes}
 use Rattle.forms.specs.Key.{Key}
 use Rattle.forms.specs.Batch.{Mutation, key_inside, ascend, mutations, keys}
 use Rattle.rules.specs.declared.answers.Answer.{Answer}
@@ -21,11 +19,11 @@ use Rattle.rules.specs.Box.{Box, in_order}
 use Rattle.rules.specs.Room.{load_of, room_for}
 use Rattle.rules.specs.Calls.{Done, settle, of_batch, non_empty}
 use Rattle.rules.specs.Prewrite.{PrewriteTerms, prewrite_terms_step, prewrite_entries, prewrite_room, prewrite_steps, prewrite_all, prewrite_batch, apply_prewrites}
-use Rattle.rules.specs.Commit.{commit_terms_step, commit_keys, commit_steps, commit_all, commit_batch, apply_commits}
+use Rattle.rules.specs.Commit.{commit_terms_step, commit_keys, commit_steps, commit_all, commit_batch}
 use Rattle.rules.specs.Rollback.{rollback_terms_step, rollback_keys, rollback_room, rollback_steps, rollback_all, rollback_batch, apply_rollbacks}
 use Rattle.rules.specs.OneStep.{arguments_step, none_other, all_applied, some_applied, step_entries, newest_step, step_new, step_applied, step_arguments, then_applied, step_done, step_all, of_counted, one_step, apply_steps}
 use Rattle.rules.specs.Collect.{collected}
-use Rattle.laws.specs.Adds.{plus, sum_loads, prewrite_adds, rollback_adds, rollback_frees, step_adds, step_frees}
+use Rattle.laws.specs.Adds.{plus, sum_loads, prewrite_adds, rollback_adds, rollback_frees, step_frees}
 use Rattle.laws.proofs.StepLaws.{then-left, then-right, need-true}
 use Rattle.laws.proofs.SettleLaws.{settle-answer}
 use Rattle.laws.proofs.FrameLaws.{mutations-ascend, keys-ascend}

@@ -1,6 +1,6 @@
 -- What a collection leaves of a pair of key and start: its line and its row, or neither. So what it leaves of a tidy box is tidy. The pairs that
 -- lose their line start at or below the floor. Assumes nothing.
-use Prim.Native.Nat.{ℕ, suc, ◌+◌, ◌≤◌, ◌<◌}
+use Prim.Native.Nat.{ℕ, ◌+◌, ◌≤◌, ◌<◌}
 use native.Mathlib.Omega.{arith}
 use mathlib.Core.Path.{◌≡◌, refl, sym, ap, ◌∙◌, subst}
 use mathlib.Core.Logic.{◌⊎◌, inl, inr}
@@ -8,21 +8,18 @@ use mathlib.Core.Bool.{Bool, true, false, ◌&&◌, ◌||◌, not}
 use mathlib.Core.List.{List, [], ◌∷◌}
 use lib.ListN.{length}
 use lib.Dec.{leb, eqb}
-use borrow.Author.Tests.{leb-true, le-leb, ltb-false, eqb-false, ne_eqb}
+use borrow.Author.Tests.{leb-true, le-leb, ltb-false, eqb-false}
 use Rattle.forms.specs.Key.{Key, key_form}
-use Rattle.forms.specs.Row.{Row}
 use Rattle.rules.specs.declared.records.Kind.{Kind}
 use Rattle.rules.specs.declared.records.Kind.TheVariants.{Put, Delete, Rollback}
-use Rattle.rules.specs.declared.records.Record.{Record}
 use Rattle.rules.specs.Box.{Box, Line, Standing, Finished, KeyLine, Default, start_of, kind_in, line_is, at_pair, eq_kind, records_of}
 use Rattle.rules.specs.Sound.{sound_record}
 use Rattle.rules.specs.Read.{keep_if}
-use Rattle.rules.specs.Restore.{all_good, points_to, pointed_to}
+use Rattle.rules.specs.Restore.{all_good, pointed_to}
 use Rattle.rules.specs.Collect.{record_stays, stays, kept_lines, dropped_lines, row_stays, collected}
 use Rattle.laws.proofs.StepLaws.{passed, by-test, and_left, and_right, and_both, and-false, or-false-left, not-true}
 use Rattle.laws.proofs.Sorted.{In, Fewer, empty, gone, kept, fewer-good}
 use Rattle.laws.proofs.RecordLaws.{sound-le}
-use Rattle.laws.proofs.FewerLaws.{FewerBox}
 use Rattle.laws.proofs.CollectLaws.{kept-fewer, dropped-fewer, collected-fewer}
 use Rattle.ledger.specs.Ledger.{cons_if, chosen, lines_at, rows_at}
 use Rattle.ledger.specs.Tidy.{RowsOf, Paired, free, taken, good_line, good_row, sound_line, Sound, Tidy}

@@ -1,7 +1,7 @@
 -- "Reads and pages at moments at or above F answer as before" (specs/Collected), of a tidy box in order. Assumes nothing.
 use Prim.Native.Nat.{ℕ, ◌≤◌}
 use native.Mathlib.Omega.{arith}
-use mathlib.Core.Path.{◌≡◌, refl, sym, ap, ap₂, ◌∙◌, subst}
+use mathlib.Core.Path.{◌≡◌, sym, ap, ap₂, ◌∙◌, subst}
 use mathlib.Core.Logic.{◌⊎◌, inl, inr}
 use mathlib.Core.Bool.{Bool, true}
 use mathlib.Core.List.{List, [], ◌∷◌}
@@ -17,10 +17,10 @@ use Rattle.rules.specs.declared.answers.Answer.TheVariants.{Accepted, No, Held}
 use Rattle.rules.specs.declared.records.Kind.TheVariants.{Put}
 use Rattle.rules.specs.declared.records.Record.{Record}
 use Rattle.rules.specs.Answers.{◌▸◌, need, Reply, nothing, if_passed, count_if}
-use Rattle.rules.specs.Box.{Box, Lock, Finished, KeyLine, records_of, lock_of, row_of, in_order}
-use Rattle.rules.specs.Read.{lock_lets, newest_first, walk, Examined, read_steps, examine, read, at_or_below}
+use Rattle.rules.specs.Box.{Box, Lock, Finished, records_of, lock_of, row_of, in_order}
+use Rattle.rules.specs.Read.{lock_lets, newest_first, walk, read_steps, examine, read, at_or_below}
 use Rattle.rules.specs.Intent.{judge_lock, intent_at}
-use Rattle.rules.specs.Page.{Bounds, Limits, Page, KeyLock, KeyRow, locks_of, locks_within, keys_of, keys_within, page_arguments, row_page_steps, past_end, unless_past, page_walk, with_key, read_key, row_cost, page, intent_arguments, intent_walk, intent_page, conflicting, lock_cost, conflict_page}
+use Rattle.rules.specs.Page.{Bounds, Limits, Page, KeyLock, KeyRow, locks_within, keys_of, keys_within, page_arguments, past_end, unless_past, page_walk, with_key, read_key, row_cost, page, intent_arguments, intent_walk, intent_page, conflicting, lock_cost, conflict_page}
 use Rattle.rules.specs.Restore.{all_good}
 use Rattle.rules.specs.Collect.{kept_lines, collected}
 use Rattle.rules.proofs.FloorLaws.{examine-above, read_above, page-above}

@@ -3,7 +3,7 @@
 use Prim.Native.Nat.{ℕ, ◌≤◌, ◌<◌}
 use native.Mathlib.Omega.{arith}
 use mathlib.Core.Path.{◌≡◌, refl, sym, ap, ◌∙◌, subst}
-use mathlib.Core.Logic.{◌⊎◌, inl, inr, ◌↔◌}
+use mathlib.Core.Logic.{◌⊎◌, inl, inr}
 use mathlib.Core.Bool.{Bool, true, false, ◌&&◌, ◌||◌, not, true≢false, false≢true}
 use mathlib.Core.List.Memᴰ
 use mathlib.Core.List.{List, [], ◌∷◌, Memᴰ}
@@ -19,7 +19,7 @@ use Rattle.rules.specs.Read.{keep_if, those}
 use Rattle.rules.specs.Shown.{Counts, Newest}
 use Rattle.rules.specs.Restore.{pointed_to}
 use Rattle.rules.specs.Collect.{counts_by, none_counts, record_stays, kept_lines, dropped_lines, row_stays, collected}
-use Rattle.laws.proofs.StepLaws.{by-test, and_left, and_right, and_both, not-true}
+use Rattle.laws.proofs.StepLaws.{by-test, and_left, and_right, not-true}
 use Rattle.laws.proofs.Sorted.{In, ordered-first, ordered-rest, after-in}
 use Rattle.laws.proofs.BoxOrder.{order-lines}
 use Rattle.laws.proofs.KeyLaws.{stamp_before, records-ordered}

@@ -1,12 +1,12 @@
 -- A second collection at the same floor changes nothing: what is left stays, every later record is stamped above the floor, and a lock that comes
 -- or goes is no record. Assumes nothing.
-use Prim.Native.Nat.{ℕ, ◌≤◌, ◌<◌}
+use Prim.Native.Nat.{ℕ, ◌<◌}
 use native.Mathlib.Omega.{arith}
-use mathlib.Core.Path.{◌≡◌, refl, sym, ap, ap₂, ◌∙◌}
+use mathlib.Core.Path.{◌≡◌, refl, ap, ap₂, ◌∙◌}
 use mathlib.Core.Bool.{Bool, true, false, ◌&&◌, ◌||◌, not, true≢false}
 use mathlib.Core.List.{List, [], ◌∷◌}
 use mathlib.Core.Option.{Option, none, some}
-use lib.Dec.{leb, ltb}
+use lib.Dec.{ltb}
 use borrow.Author.Tests.{lt-ltb, lt-leb, le-leb}
 use Rattle.forms.specs.Key.{Key}
 use Rattle.forms.specs.Bytes.{eq_bytes}
@@ -20,8 +20,8 @@ use Rattle.rules.specs.Read.{keep_if}
 use Rattle.rules.specs.Calls.{State, settle_state, kind_of}
 use Rattle.rules.specs.Prewrite.{PrewriteTerms, lock_for, lock_line, unless_locked, apply_prewrite}
 use Rattle.rules.specs.Restore.{all_good, pointed_to}
-use Rattle.rules.specs.Collect.{counts_by, none_counts, record_stays, stays, kept_lines, dropped_lines, row_stays, collected, line_above_step, locks_above_step, collect_steps, collect}
-use Rattle.laws.proofs.StepLaws.{by-test, and_left, and_right, and_both, not-true}
+use Rattle.rules.specs.Collect.{counts_by, none_counts, stays, kept_lines, dropped_lines, row_stays, collected, line_above_step, locks_above_step, collect_steps, collect}
+use Rattle.laws.proofs.StepLaws.{by-test, and_left, and_right, and_both}
 use Rattle.laws.proofs.Sorted.{Fewer, empty, gone, kept}
 use Rattle.laws.proofs.KeyLaws.{records-drop_lock}
 use Rattle.laws.proofs.TablePartLaws.{those-all}

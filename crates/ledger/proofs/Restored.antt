@@ -11,7 +11,7 @@ use Rattle.forms.specs.Row.{Row}
 use Rattle.forms.specs.Readers.{is_some}
 use Rattle.rules.specs.declared.records.Kind.{Kind}
 use Rattle.rules.specs.declared.records.Kind.TheVariants.{Put, Delete, Rollback}
-use Rattle.rules.specs.Box.{Box, Line, KeyLine, Default, start_of, kind_in, line_is, at_pair, before, row_before, row_of}
+use Rattle.rules.specs.Box.{Line, KeyLine, Default, start_of, kind_in, line_is, at_pair, before, row_before, row_of}
 use Rattle.rules.specs.Calls.{State}
 use Rattle.rules.specs.Image.{Image, KeyRecord}
 use Rattle.rules.specs.Restore.{kind_has_default, good_default, good_lock, good_write, like_default, image_lines, points_to, pointed_to, like_line, all_good, good_image, healthy_image, floored_image, box_of, state_of, restore}

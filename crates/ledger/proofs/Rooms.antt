@@ -2,7 +2,6 @@
 use mathlib.Core.Path.{◌≡◌}
 use mathlib.Core.Bool.{true}
 use mathlib.Core.List.{List, [], ◌∷◌}
-use Rattle.rules.specs.Box.{Box}
 use Rattle.rules.specs.Calls.{State}
 use Rattle.rules.specs.Collect.{collect}
 use Rattle.laws.proofs.SettleLaws.{settle_state-keeps}

@@ -9,13 +9,12 @@ use lib.Dec.{leb}
 use borrow.Author.Tests.{lt-ltb}
 use Rattle.forms.specs.Key.{Key}
 use Rattle.forms.specs.Batch.{Mutation}
-use Rattle.rules.specs.declared.answers.Answer.{Answer}
-use Rattle.rules.specs.declared.answers.Answer.TheVariants.{Accepted, No, Held}
+use Rattle.rules.specs.declared.answers.Answer.TheVariants.{Accepted}
 use Rattle.rules.specs.declared.records.Kind.TheVariants.{Rollback}
 use Rattle.rules.specs.declared.records.Record.{Record}
 use Rattle.rules.specs.Answers.{need}
 use Rattle.rules.specs.Box.{Box, Lock, Line, Standing, Finished, KeyLine, fresh, before, records_of, lock_of, insert_line, drop_lock}
-use Rattle.rules.specs.Calls.{State, settle_state, kind_of, stamped_at, record_for}
+use Rattle.rules.specs.Calls.{State, kind_of, stamped_at, record_for}
 use Rattle.rules.specs.Prewrite.{PrewriteTerms, lock_for, lock_line, unless_locked, apply_prewrite}
 use Rattle.rules.specs.declared.terms.CommitTerms.{CommitTerms}
 use Rattle.rules.specs.Commit.{with_start, commit_to, apply_commit}
@@ -31,7 +30,6 @@ use Rattle.laws.proofs.BoxOrder.{drop_lock-fewer}
 use Rattle.laws.proofs.CommitLaws.{commit-order}
 use Rattle.laws.proofs.RollbackLaws.{rollback-order}
 use Rattle.laws.proofs.OneStepLaws.{step-order}
-use Rattle.laws.proofs.FewerLaws.{FewerBox}
 use Rattle.laws.proofs.CollectLaws.{collected-fewer, collected-order, lock-kept, records-kept, records-fewer, below-fewer}
 use Rattle.ledger.specs.Ledger.{Named, each_named, Past, state_in, then, after, empty, of_line, Holds}
 use Rattle.ledger.specs.Tidy.{Tidy, Rising, Unrestored, line_above, LocksAbove, Collected}

@@ -1,14 +1,11 @@
 -- The names whose pair no collection dropped: a pair that was dropped is not among them, and of any other they say what the whole log says. How
 -- many different pairs are left where one is struck out. Assumes nothing.
-use Prim.Native.Nat.{ℕ, suc, ◌+◌}
+use Prim.Native.Nat.{ℕ, ◌+◌}
 use native.Mathlib.Omega.{arith}
 use mathlib.Core.Path.{◌≡◌, refl, sym, ap, ap₂, ◌∙◌}
-use mathlib.Core.Bool.{Bool, true, false, ◌&&◌, ◌||◌, not, true≢false}
+use mathlib.Core.Bool.{Bool, true, false, ◌&&◌, ◌||◌, not}
 use mathlib.Core.List.{List, [], ◌∷◌}
-use mathlib.Core.Option.{Option, none, some}
-use lib.Dec.{eqb}
 use Rattle.forms.specs.Key.{Key}
-use Rattle.forms.specs.Bytes.{eq_bytes}
 use Rattle.forms.proofs.Orders.{eq_bytes-sym}
 use Rattle.laws.proofs.StepLaws.{by-test}
 use Rattle.laws.proofs.BoxOrder.{eqb-sym}

@@ -1,12 +1,12 @@
 -- The number of records that a read reports is what document 02, CR 6, says of it. Assumes nothing.
 use Prim.Native.Nat.{ℕ, suc, ◌≤◌, ◌<◌}
 use native.Mathlib.Omega.{arith}
-use mathlib.Core.Path.{◌≡◌, refl, sym, ap, ◌∙◌}
+use mathlib.Core.Path.{◌≡◌, refl, ap, ◌∙◌}
 use mathlib.Core.Bool.{Bool, true, false, ◌&&◌, true≢false, false≢true}
 use mathlib.Core.List.{List, [], ◌∷◌, ◌++◌}
-use mathlib.Core.Option.{Option, none, some}
+use mathlib.Core.Option.{Option, some}
 use lib.ListN.{length, length-reverse}
-use lib.Dec.{leb, ltb}
+use lib.Dec.{leb}
 use borrow.Author.Tests.{le-ltb, lt-leb}
 use Rattle.seqs.proofs.Tests.{and_left, and_right}
 use Rattle.forms.specs.Key.{Key, key_form}
@@ -17,9 +17,9 @@ use Rattle.rules.specs.declared.records.Kind.{Kind}
 use Rattle.rules.specs.declared.records.Kind.TheVariants.{Put, Delete, Rollback}
 use Rattle.rules.specs.declared.records.Record.{Record}
 use Rattle.rules.specs.Answers.{◌▸◌, need, need_own, Reply, count_if}
-use Rattle.rules.specs.Box.{Box, Lock, Default, eq_kind, holder_of, records_of, lock_of, row_of}
+use Rattle.rules.specs.Box.{Box, Lock, Default, eq_kind, holder_of, records_of, lock_of}
 use Rattle.rules.specs.Sound.{sound_record}
-use Rattle.rules.specs.Read.{lock_lets, at_or_below, newest_first, show_row, Examined, one_record, walk, read_steps, examine}
+use Rattle.rules.specs.Read.{lock_lets, at_or_below, newest_first, Examined, one_record, walk, read_steps, examine}
 use Rattle.rules.specs.Examined.{goes_on, all_go_on, by_moment, CountSays}
 
 -- ---- one record

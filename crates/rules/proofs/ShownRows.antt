@@ -5,27 +5,27 @@ use native.Mathlib.Omega.{arith}
 use mathlib.Core.Path.{◌≡◌, refl, sym, ap, ap₂, subst, ◌∙◌}
 use mathlib.Core.Bool.{Bool, true, false, ◌&&◌, true≢false, false≢true}
 use mathlib.Core.List.Memᴰ
-use mathlib.Core.List.{List, [], ◌∷◌, reverse, reverse_aux, Memᴰ}
-use mathlib.Core.Logic.{◌⊎◌, inl, inr, ◌↔◌}
+use mathlib.Core.List.{List, [], ◌∷◌, reverse_aux, Memᴰ}
+use mathlib.Core.Logic.{◌⊎◌, inl, inr}
 use mathlib.Core.Option.{Option, none, some}
-use lib.Dec.{leb, ltb}
-use borrow.Author.Tests.{ltb-true, leb-true, leb-false, lt-ltb, le-leb}
+use lib.Dec.{leb}
+use borrow.Author.Tests.{ltb-true, leb-true, lt-ltb, le-leb}
 use Rattle.seqs.proofs.Tests.{and_left, and_right}
-use Rattle.forms.specs.Bytes.{Bytes, cmp, eq_bytes, is_equal}
-use Rattle.forms.specs.Key.{Key, key_form}
+use Rattle.forms.specs.Bytes.{cmp, eq_bytes}
+use Rattle.forms.specs.Key.{Key}
 use Rattle.forms.specs.Row.{Row, row_form}
 use Rattle.forms.specs.declared.key.Order.{Order}
-use Rattle.forms.specs.declared.key.Order.TheVariants.{Less, Equal, Greater}
+use Rattle.forms.specs.declared.key.Order.TheVariants.{Equal}
 use Rattle.forms.proofs.Orders.{eq_bytes-true, cmp-refl}
 use Rattle.rules.specs.declared.answers.Answer.{Answer}
-use Rattle.rules.specs.declared.answers.Answer.TheVariants.{Accepted, No, Held}
+use Rattle.rules.specs.declared.answers.Answer.TheVariants.{Accepted}
 use Rattle.rules.specs.declared.records.Kind.{Kind}
 use Rattle.rules.specs.declared.records.Kind.TheVariants.{Put, Delete, Rollback}
 use Rattle.rules.specs.declared.records.Record.{Record}
-use Rattle.rules.specs.Answers.{◌▸◌, need, need_own, Reply, nothing, shown, refused, if_passed}
+use Rattle.rules.specs.Answers.{◌▸◌, need, need_own, shown, if_passed}
 use Rattle.rules.specs.Box.{Box, Lock, Line, Standing, Finished, KeyLine, Default, eq_kind, holder_of, records_of, add_record, lock_of, row_of, by_order, line_before, before, all_after, ordered, in_order}
 use Rattle.rules.specs.Sound.{sound_record, all_sound}
-use Rattle.rules.specs.Read.{lock_lets, keep_if, at_or_below, newest_first, show_if, show_row, one_record, walk, Examined, read_steps, examine, read}
+use Rattle.rules.specs.Read.{lock_lets, keep_if, at_or_below, newest_first, show_if, show_row, one_record, walk, read_steps, examine, read}
 use Rattle.rules.specs.Shown.{Asked, Counts, Newest, PutRow, Shows, NewestPut, ShownRows}
 
 -- ---- each of a list, and a list whose stamps fall

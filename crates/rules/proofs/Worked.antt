@@ -8,9 +8,9 @@
 use Prim.Native.Nat.{ℕ, zero, suc, ◌-◌}
 use Prim.Native.String.{String}
 use mathlib.Core.Path.{◌≡◌, refl}
-use mathlib.Core.Bool.{Bool, true, false, ◌&&◌, ◌||◌, not}
-use mathlib.Core.List.{List, [], ◌∷◌, ◌++◌, reverse}
-use mathlib.Core.Option.{Option, none, some}
+use mathlib.Core.Bool.{Bool, true, false}
+use mathlib.Core.List.{List, [], ◌∷◌, ◌++◌}
+use mathlib.Core.Option.{none, some}
 use lib.ListN.{length, replicate}
 use Rattle.forms.specs.Bytes.{Bytes, cmp, eq_bytes, lt_bytes}
 use Rattle.forms.specs.Readers.{read_on, ◌>>=◌, just, only, byte, stretch, piece, up_to, times, section, ended, whole}
@@ -22,13 +22,13 @@ use Rattle.forms.specs.Ones.{fitted, one_mutation, one_key}
 use Rattle.rules.specs.declared.answers.Answer.{Answer}
 use Rattle.rules.specs.declared.records.Kind.TheVariants.{Put, Delete}
 use Rattle.rules.specs.Answers.{number, holder, ◌▸◌, need, need_own, Reply, nothing, shown, refused, answer_of, if_passed}
-use Rattle.rules.specs.Box.{Box, fresh, Lock, Line, Standing, Finished, KeyLine, Default, kind_byte, records_of, add_record, lock_of, add_lock, row_of, add_row, before, row_before, put_in, insert_by, drop_lock, unless_lock, drop_row, unless_row}
+use Rattle.rules.specs.Box.{Box, fresh, Line, Standing, Finished, KeyLine, Default, kind_byte, records_of, add_record, lock_of, add_lock, row_of, add_row, before, row_before, put_in, insert_by, drop_lock, unless_lock, drop_row, unless_row}
 use Rattle.rules.specs.Sound.{all_sound, sound_lock}
 use Rattle.rules.specs.Room.{sum_of, load_of, fits, room_for}
 use Rattle.rules.specs.Read.{lock_lets, keep_if, those, at_or_below, newest_first, show_if, show_row, one_record, walk, Examined, read_steps, examine, read}
-use Rattle.rules.specs.Page.{Bounds, Limits, bounds_step, page_arguments, row_page_steps, locks_of, locks_within, sound_step, unless_above, conflicting, conflict_page, keys_of, keys_within, on_page, too_large, cost_step, limit_step, on_judged, page_walk, unless_past, read_key, page}
+use Rattle.rules.specs.Page.{Bounds, bounds_step, page_arguments, row_page_steps, locks_of, locks_within, sound_step, unless_above, conflicting, conflict_page, keys_of, keys_within, on_page, too_large, cost_step, limit_step, on_judged, page_walk, unless_past, read_key, page}
 use Rattle.rules.specs.Written.{key_row_bytes, key_lock_bytes, all_bytes, page_bytes, Written, write_if, written, scan_page, scan_conflicting_intents}
-use Rattle.rules.specs.Calls.{Done, settle, State, fresh_state, Ended, settle_state, on_floor, of_batch, zero_step, all_below, found_if, stamped_at, record_for}
+use Rattle.rules.specs.Calls.{Done, settle, State, fresh_state, Ended, settle_state, of_batch, zero_step, all_below, found_if, stamped_at, record_for}
 use Rattle.rules.specs.Prewrite.{PrewriteTerms, prewrite_terms_step, lock_step, prewrite_entry, prewrite_entries, store_if, lock_line, unless_locked, apply_prewrite, apply_prewrites, prewrite_room, prewrite_steps, prewrite_all, prewrite_batch, prewrite}
 use Rattle.rules.specs.declared.terms.CommitTerms.{CommitTerms}
 use Rattle.rules.specs.Commit.{commit_terms_step, with_start, commit_lock, commit_step, commit_key, commit_keys, commit_to, apply_commit, apply_commits, commit_steps, commit_all, commit_batch, commit}

@@ -3,7 +3,6 @@
 use Rattle.std.specs.Prelude.{ℕ, Bool, true, false, ◌&&◌, not, List, [], ◌∷◌, ltb, eqb}
 use Rattle.std.proofs.Math.Option.{Option, none, some}
 use Rattle.forms.specs.Bytes.{eq_bytes}
-use Rattle.forms.specs.Key.{Key}
 use Rattle.forms.specs.Row.{Row, row_form}
 use Rattle.forms.specs.Readers.{is_some}
 use Rattle.rules.specs.declared.answers.Answer.{Answer}

@@ -2,7 +2,7 @@
 -- Put, and drop the rest with their rows. .. Refusals: 14, below the floor, .. for a collection with a lower floor, tested first; a collection
 -- with a lock at or below F answers 7 for the first such key". F is the floor that the collection names; the store's is another number.
 -- Assumes nothing.
-use Rattle.std.specs.Prelude.{ℕ, Bool, true, false, ◌&&◌, ◌||◌, not, List, [], ◌∷◌, leb, ltb}
+use Rattle.std.specs.Prelude.{ℕ, Bool, true, ◌&&◌, ◌||◌, not, List, [], ◌∷◌, leb, ltb}
 use Rattle.rules.specs.declared.answers.Answer.{Answer}
 use Rattle.rules.specs.declared.answers.Answer.TheVariants.{Accepted}
 use Rattle.rules.specs.declared.records.Kind.TheVariants.{Put, Rollback}

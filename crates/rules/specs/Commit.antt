@@ -4,7 +4,7 @@
 -- record of the lock's start and kind, stamped with the commit, replaces the lock; a Put's row stays."
 -- Document 02, CR 7: "14, below the floor, .. for a start at or below F in any changing call (after the last 3, ..)".
 -- Assumes nothing.
-use Rattle.std.specs.Prelude.{ℕ, Bool, true, false, ◌&&◌, not, List, [], ◌∷◌, ltb, eqb}
+use Rattle.std.specs.Prelude.{ℕ, Bool, true, ◌&&◌, not, List, [], ◌∷◌, ltb, eqb}
 use Rattle.std.proofs.Math.Option.{Option, none, some}
 use Rattle.forms.specs.Bytes.{Bytes}
 use Rattle.forms.specs.Key.{Key, key_form}

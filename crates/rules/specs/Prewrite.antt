@@ -7,7 +7,7 @@
 -- Document 02, CR 7: "14, below the floor, .. for a start at or below F in any changing call (after the last 3, in a prewrite after the time to
 -- live, and before any entry is judged)". The floor is a number beside the box, the store's.
 -- Assumes nothing.
-use Rattle.std.specs.Prelude.{ℕ, Bool, true, false, ◌&&◌, not, List, [], ◌∷◌, ltb, eqb}
+use Rattle.std.specs.Prelude.{ℕ, Bool, ◌&&◌, not, List, [], ◌∷◌, ltb, eqb}
 use Rattle.std.proofs.Math.Option.{Option, none, some}
 use Rattle.forms.specs.Bytes.{Bytes, eq_bytes}
 use Rattle.forms.specs.Key.{Key, key_form}

@@ -3,9 +3,9 @@
 -- Document 02, CR 7: "Demand 2's sentence on shown rows then speaks of moments at or above the floor."
 -- The words of that sentence, said without the read's own walk; proofs/ShownRows.antt has the theorem.
 -- Assumes nothing.
-use Rattle.std.specs.Prelude.{ℕ, ◌≤◌, ◌<◌, ◌≡◌, Bool, true, false, ◌↔◌}
+use Rattle.std.specs.Prelude.{ℕ, ◌≤◌, ◌<◌, ◌≡◌, true, false, ◌↔◌}
 use mathlib.Core.List.{List, Memᴰ}
-use Rattle.std.proofs.Math.Option.{Option, some}
+use Rattle.std.proofs.Math.Option.{some}
 use Rattle.forms.specs.Key.{Key, key_form}
 use Rattle.forms.specs.Row.{Row, row_form}
 use Rattle.rules.specs.declared.records.Kind.TheVariants.{Put, Rollback}

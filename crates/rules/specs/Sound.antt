@@ -1,7 +1,7 @@
 -- Document 01: "Sound record: its commit equals its write stamp; start not 0; Put and Delete have commit above start, Rollback has
 -- commit equal to start; otherwise 9. Sound lock: transaction, start, time to live not 0, kind Put or Delete, primary a key."
 -- Assumes nothing.
-use Rattle.std.specs.Prelude.{ℕ, Bool, true, false, ◌&&◌, not, List, [], ◌∷◌, ltb, eqb}
+use Rattle.std.specs.Prelude.{ℕ, Bool, true, ◌&&◌, not, List, [], ◌∷◌, ltb, eqb}
 use Rattle.forms.specs.Key.{key_form}
 use Rattle.rules.specs.declared.records.Kind.{Kind}
 use Rattle.rules.specs.declared.records.Kind.TheVariants.{Put, Delete, Rollback}

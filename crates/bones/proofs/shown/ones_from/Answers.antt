@@ -1,6 +1,5 @@
 use Rattle.bones.proofs.MaskLaws.{counting-start, sum-small, counting_more, counting-end}
 use native.Mathlib.Omega.{arith}
-use Prim.Native.Nat.{◌-◌}
 use lib.ListN.{get_or}
 use lib.Count.{ones-le}
 use Rattle.bones.proofs.shown.ones_from.Goals as goal

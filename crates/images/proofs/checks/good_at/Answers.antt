@@ -1,7 +1,6 @@
 -- `images::checks::good_at` meets its contract.
 -- Assumes nothing.
 use Rattle.images.proofs.GoodReaderLaws.{good_none, good-bad, good-good}
-use Prim.Native.Nat.{◌-◌}
 use Rattle.images.proofs.checks.good_at.Goals as goal
 
 pub returns-then-not-e : goal.returns-then-not-e

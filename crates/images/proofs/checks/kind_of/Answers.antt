@@ -1,7 +1,6 @@
 -- `images::checks::kind_of` meets its contract.
 -- Assumes nothing.
 use borrow.Author.Tests.{eq-eqb, ne_eqb}
-use Prim.Native.Nat.{◌-◌}
 use Rattle.images.proofs.checks.kind_of.Goals as goal
 
 pub returns-then-n-eq1 : goal.returns-then-n-eq1

@@ -1,7 +1,6 @@
 -- `images::checks::of_table` meets its contract.
 -- Assumes nothing.
 use Rattle.images.proofs.GoodLaws.{table-no-key, table_is}
-use Prim.Native.Nat.{◌-◌}
 use Rattle.images.proofs.checks.of_table.Goals as goal
 
 pub returns-then-not-key_in_form : goal.returns-then-not-key_in_form

@@ -3,7 +3,6 @@
 use Rattle.forms.proofs.NumberLaws.{number-long}
 use Rattle.images.proofs.ImageEntryLaws.{entry-no-key, entry-no-one, entry-no-piece, entry-no-tail, entry-good}
 use native.Mathlib.Omega.{arith}
-use Prim.Native.Nat.{◌-◌}
 use Rattle.images.proofs.entries.entry_at.Goals as goal
 
 pub returns-then-not-k : goal.returns-then-not-k

@@ -3,7 +3,6 @@
 use Rattle.forms.proofs.NumberLaws.{number-long}
 use Rattle.images.proofs.ImageEntryLaws.{tail-no-two, tail-no-three, tail-no-kind, tail-good}
 use native.Mathlib.Omega.{arith}
-use Prim.Native.Nat.{◌-◌}
 use Rattle.images.proofs.entries.numbers_at.Goals as goal
 
 pub returns-then-not-second : goal.returns-then-not-second

@@ -2,7 +2,6 @@
 -- Assumes nothing.
 use Rattle.images.specs.Entries.{has_piece}
 use Rattle.images.proofs.ImageEntryLaws.{piece-has, piece-none}
-use Prim.Native.Nat.{◌-◌}
 use mathlib.Core.Path.{ap}
 use Rattle.images.proofs.entries.piece_at.Goals as goal
 

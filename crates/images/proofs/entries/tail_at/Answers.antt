@@ -1,7 +1,6 @@
 -- `images::entries::tail_at` meets its contract.
 -- Assumes nothing.
 use Rattle.images.proofs.ImageEntryLaws.{tail_none}
-use Prim.Native.Nat.{◌-◌}
 use Rattle.images.proofs.entries.tail_at.Goals as goal
 
 pub returns-in-Default : goal.returns-in-Default

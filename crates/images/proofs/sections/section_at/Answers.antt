@@ -1,7 +1,6 @@
 use Rattle.images.proofs.SpanLaws.{span-no-count, listing_start, listing-bad, listing-room, listing-more, listing-end}
 use Rattle.forms.proofs.NumberLaws.{number-long}
 use native.Mathlib.Omega.{arith}
-use Prim.Native.Nat.{◌-◌}
 use Rattle.images.proofs.sections.section_at.Goals as goal
 
 pub returns-then-not-n : goal.returns-then-not-n

@@ -1,6 +1,5 @@
 use Rattle.orders.proofs.FindLaws.{search-start, search-up, search-down}
 use native.Mathlib.Omega.{arith}
-use Prim.Native.Nat.{◌-◌}
 use Rattle.orders.proofs.finds.row_place.Goals as goal
 
 pub loop-low-init : goal.loop-low-init

@@ -2,7 +2,6 @@
 -- Assumes nothing.
 use Rattle.store.specs.View.{past}
 use mathlib.Core.Path.{sym, ap}
-use Prim.Native.Nat.{◌-◌}
 use Rattle.store.proofs.views.past_key.Goals as goal
 
 pub returns-in-Standing : goal.returns-in-Standing

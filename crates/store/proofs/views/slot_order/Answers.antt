@@ -2,7 +2,7 @@
 -- Assumes nothing.
 use native.Mathlib.Nat.{add-sub_cancel_left}
 use Rattle.forms.specs.Bytes.{bytes_at, cmp}
-use Prim.Native.Nat.{ℕ, ◌-◌}
+use Prim.Native.Nat.{ℕ}
 use mathlib.Core.Path.{ap, ◌∙◌}
 use Rattle.store.proofs.views.slot_order.Goals as goal
 

@@ -1,5 +1,4 @@
 use native.Mathlib.Omega.{arith}
-use Prim.Native.Nat.{◌-◌}
 use Rattle.traces.proofs.OpLaws.{looking-start, looking-found, looking-more, looking-end}
 use Rattle.traces.proofs.op.is_in.Goals as goal
 

@@ -1,6 +1,5 @@
 use Rattle.rules.proofs.EntryWriterLaws.{listing_start, listing-more, listing-end}
 use Rattle.traces.proofs.PutLaws.{put_all, numbers-none, numbers-room}
-use Prim.Native.Nat.{◌-◌}
 use native.Mathlib.Omega.{arith}
 use Rattle.traces.proofs.payload.put_numbers.Goals as goal
 

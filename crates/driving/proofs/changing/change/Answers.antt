@@ -1,11 +1,11 @@
--- `driving::changes::change` meets its contract: `by-change` for each op that changes the store, by the promise of its call.
+-- `driving::changing::change` meets its contract: `by-change` for each op that changes the store, by the promise of its call.
 -- Assumes nothing.
 use Rattle.rules.specs.Commit.{commit}
 use Rattle.rules.specs.Rollback.{rollback}
 use Rattle.rules.specs.Call.{perform}
 use Rattle.traces.specs.declared.op.ChangeOp.{ChangeOp}
 use Rattle.driving.proofs.RunCallLaws.{settled, replaced, prewritten, by-change}
-use Rattle.driving.proofs.changes.change.Goals as goal
+use Rattle.driving.proofs.changing.change.Goals as goal
 
 pub returns-in-Prewrite : goal.returns-in-Prewrite
 returns-in-Prewrite c = by-change _ ChangeOp.Prewrite _ _ _ _ _ _ _ _ _ c.in-Prewrite.is (prewritten _ _ _ c.args.put c.prewrite.ensures)

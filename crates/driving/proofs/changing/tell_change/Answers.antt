@@ -1,7 +1,7 @@
--- `driving::changes::tell_change` meets its contract: `tells-change`.
+-- `driving::changing::tell_change` meets its contract: `tells-change`.
 -- Assumes nothing.
 use Rattle.driving.proofs.RunCallLaws.{tells-change}
-use Rattle.driving.proofs.changes.tell_change.Goals as goal
+use Rattle.driving.proofs.changing.tell_change.Goals as goal
 
 pub returns : goal.returns
 returns c = tells-change c.requires c.tell_plain-len.ensures
