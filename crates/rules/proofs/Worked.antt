@@ -8,9 +8,9 @@
 use Prim.Native.Nat.{ℕ, zero, suc, ◌-◌}
 use Prim.Native.String.{String}
 use mathlib.Core.Path.{◌≡◌, refl}
-use mathlib.Core.Bool.{Bool, true, false}
-use mathlib.Core.List.{List, [], ◌∷◌, ◌++◌}
-use mathlib.Core.Option.{none, some}
+use mathlib.Core.Bool.{Bool, true, false, ◌&&◌, ◌||◌, not}
+use mathlib.Core.List.{List, [], ◌∷◌, ◌++◌, reverse}
+use mathlib.Core.Option.{Option, none, some}
 use lib.ListN.{length, replicate}
 use Rattle.forms.specs.Bytes.{Bytes, cmp, eq_bytes, lt_bytes}
 use Rattle.forms.specs.Readers.{read_on, ◌>>=◌, just, only, byte, stretch, piece, up_to, times, section, ended, whole}
@@ -22,13 +22,14 @@ use Rattle.forms.specs.Ones.{fitted, one_mutation, one_key}
 use Rattle.rules.specs.declared.answers.Answer.{Answer}
 use Rattle.rules.specs.declared.records.Kind.TheVariants.{Put, Delete}
 use Rattle.rules.specs.Answers.{number, holder, ◌▸◌, need, need_own, Reply, nothing, shown, refused, answer_of, if_passed}
-use Rattle.rules.specs.Box.{Box, fresh, Line, Standing, Finished, KeyLine, Default, kind_byte, records_of, add_record, lock_of, add_lock, row_of, add_row, before, row_before, put_in, insert_by, drop_lock, unless_lock, drop_row, unless_row}
+use Rattle.rules.specs.Box.{Box, fresh, Lock, Line, Standing, Finished, KeyLine, Default, kind_byte, records_of, add_record, lock_of, add_lock, row_of, add_row, before, row_before, put_in, insert_by, drop_lock, unless_lock, drop_row, unless_row}
 use Rattle.rules.specs.Sound.{all_sound, sound_lock}
 use Rattle.rules.specs.Room.{sum_of, load_of, fits, room_for}
 use Rattle.rules.specs.Read.{lock_lets, keep_if, those, at_or_below, newest_first, show_if, show_row, one_record, walk, Examined, read_steps, examine, read}
-use Rattle.rules.specs.Page.{Bounds, bounds_step, page_arguments, row_page_steps, locks_of, locks_within, sound_step, unless_above, conflicting, conflict_page, keys_of, keys_within, on_page, too_large, cost_step, limit_step, on_judged, page_walk, unless_past, read_key, page}
-use Rattle.rules.specs.Written.{key_row_bytes, key_lock_bytes, all_bytes, page_bytes, Written, write_if, written, scan_page, scan_conflicting_intents}
-use Rattle.rules.specs.Calls.{Done, settle, State, fresh_state, Ended, settle_state, of_batch, zero_step, all_below, found_if, stamped_at, record_for}
+use Rattle.rules.specs.Intent.{lock_if, judge_lock, intent_at}
+use Rattle.rules.specs.Page.{Bounds, Limits, bounds_step, page_arguments, intent_arguments, row_page_steps, locks_of, locks_within, sound_step, unless_above, conflicting, conflict_page, keys_of, keys_within, on_page, too_large, cost_step, limit_step, on_judged, page_walk, unless_past, read_key, page, intent_walk, intent_page}
+use Rattle.rules.specs.Written.{lock_bytes, key_row_bytes, key_lock_bytes, all_bytes, page_bytes, Written, write_if, written, scan_page, scan_intent_page, scan_conflicting_intents}
+use Rattle.rules.specs.Calls.{Done, settle, State, fresh_state, Ended, settle_state, on_floor, of_batch, zero_step, all_below, found_if, stamped_at, record_for}
 use Rattle.rules.specs.Prewrite.{PrewriteTerms, prewrite_terms_step, lock_step, prewrite_entry, prewrite_entries, store_if, lock_line, unless_locked, apply_prewrite, apply_prewrites, prewrite_room, prewrite_steps, prewrite_all, prewrite_batch, prewrite}
 use Rattle.rules.specs.declared.terms.CommitTerms.{CommitTerms}
 use Rattle.rules.specs.Commit.{commit_terms_step, with_start, commit_lock, commit_step, commit_key, commit_keys, commit_to, apply_commit, apply_commits, commit_steps, commit_all, commit_batch, commit}
@@ -55,45 +56,45 @@ differing (c ∷ cs) = name_unless (eq_bytes c.got c.wanted) c.name (differing c
 -- ---- what a caller sees, as numbers: the answer's number and the holder's transaction, start, time to live and kind; then what else the call
 -- gives
 
-saw : Answer → List ℕ → List ℕ
+unfoldable pub saw : Answer → List ℕ → List ℕ
 saw a more = number a ∷ (holder a).txn ∷ (holder a).start ∷ (holder a).ttl ∷ (holder a).kind ∷ more
 
 -- "every other answer carries zeros"
-plain : ℕ → List ℕ → List ℕ
+unfoldable pub plain : ℕ → List ℕ → List ℕ
 plain n more = n ∷ 0 ∷ 0 ∷ 0 ∷ 0 ∷ more
 
-saw_done : Done → List ℕ
+unfoldable pub saw_done : Done → List ℕ
 saw_done d = saw d.answer []
 
 -- the count, and 0 where nothing is shown, 1 and the row
-saw_row : Reply Row → List ℕ
+unfoldable pub saw_row : Reply Row → List ℕ
 saw_row nothing = 0 ∷ []
 saw_row (shown r) = 1 ∷ r
 saw_row (refused a) = 0 ∷ []
 
-saw_read : Examined → List ℕ
+unfoldable pub saw_read : Examined → List ℕ
 saw_read x = saw (answer_of x.reply) (x.count ∷ saw_row x.reply)
 
-saw_count : Counted → List ℕ
+unfoldable pub saw_count : Counted → List ℕ
 saw_count c = saw c.done.answer (c.count ∷ [])
 
-saw_page : Written → List ℕ
+unfoldable pub saw_page : Written → List ℕ
 saw_page w = saw w.answer (w.count ∷ w.buffer)
 
 -- a box as numbers, each entry after its length
-flat_line : Line → List ℕ
+unfoldable pub flat_line : Line → List ℕ
 flat_line (Standing l) = 1 ∷ l.txn ∷ l.start ∷ l.ttl ∷ kind_byte l.kind ∷ length l.primary ∷ l.primary
 flat_line (Finished w) = 2 ∷ w.stamp ∷ w.start ∷ w.commit ∷ kind_byte w.kind ∷ []
 
-flat_lines : List KeyLine → List ℕ
+unfoldable pub flat_lines : List KeyLine → List ℕ
 flat_lines [] = []
 flat_lines (e ∷ es) = length e.key ∷ e.key ++ flat_line e.line ++ flat_lines es
 
-flat_defaults : List Default → List ℕ
+unfoldable pub flat_defaults : List Default → List ℕ
 flat_defaults [] = []
 flat_defaults (d ∷ ds) = length d.key ∷ d.key ++ (d.start ∷ length d.row ∷ d.row) ++ flat_defaults ds
 
-flat : Box → List ℕ
+unfoldable pub flat : Box → List ℕ
 flat b = length b.lines ∷ flat_lines b.lines ++ flat_defaults b.defaults
 
 -- ---- the calls of the table
@@ -101,19 +102,19 @@ flat b = length b.lines ∷ flat_lines b.lines ++ flat_defaults b.defaults
 unfoldable pub key_a : Key
 key_a = 0 ∷ 0 ∷ 0 ∷ 1 ∷ 0x61 ∷ []
 
-key_b : Key
+unfoldable pub key_b : Key
 key_b = 0 ∷ 0 ∷ 0 ∷ 1 ∷ 0x62 ∷ []
 
 unfoldable pub row : Row
 row = 0 ∷ 0 ∷ 0 ∷ []
 
-put : Key → Mutation
+unfoldable pub put : Key → Mutation
 put k = record { key = k; row = some row }
 
-head : ℕ → PrewriteTerms
+unfoldable pub head : ℕ → PrewriteTerms
 head start = record { txn = 7; start = start; primary = key_a; ttl = 1 }
 
-ending : ℕ → ℕ → CommitTerms
+unfoldable pub ending : ℕ → ℕ → CommitTerms
 ending start commit = record { txn = 7; start = start; commit = commit }
 
 prewrite_a : ℕ → Box → Done
@@ -126,13 +127,13 @@ rollback_a : ℕ → Box → Done
 rollback_a start b = rollback 0 7 start key_a b
 
 -- a mutation batch of Puts, as bytes
-batch_a : Bytes
+unfoldable pub batch_a : Bytes
 batch_a = 0 ∷ 1 ∷ 5 ∷ 0 ∷ 0 ∷ 0 ∷ 1 ∷ 0x61 ∷ 1 ∷ 3 ∷ 0 ∷ 0 ∷ 0 ∷ []
 
-batch_aB : Bytes
+unfoldable pub batch_aB : Bytes
 batch_aB = 0 ∷ 2 ∷ 5 ∷ 0 ∷ 0 ∷ 0 ∷ 1 ∷ 0x61 ∷ 1 ∷ 3 ∷ 0 ∷ 0 ∷ 0 ∷ 5 ∷ 0 ∷ 0 ∷ 0 ∷ 1 ∷ 0x62 ∷ 1 ∷ 3 ∷ 0 ∷ 0 ∷ 0 ∷ []
 
-no_bounds : Bounds
+unfoldable pub no_bounds : Bounds
 no_bounds = record { from = none; to = none; resume = none }
 
 -- a page at 12 with row limit 1, into a buffer of 14 bytes that hold 238
@@ -189,13 +190,17 @@ saw_load : Box → List ℕ
 saw_load b = (load_of b).lines ∷ (load_of b).locks ∷ (load_of b).defaults ∷ (load_of b).bytes ∷ []
 
 -- n locks, on keys of table 2 that ascend
-locks : ℕ → List KeyLine
+unfoldable pub locks : ℕ → List KeyLine
 locks zero = []
 locks (suc n) = record { key = 0 ∷ 0 ∷ 0 ∷ 2 ∷ (255 - n) ∷ []; line = Standing (record { txn = 9; primary = key_a; start = 20; ttl = 1; kind = Delete }) } ∷ locks n
 
 -- a record of a at 12, and as many locks as there may be
 full : Box
 full = record { lines = record { key = key_a; line = Finished (record_for 10 12 Delete) } ∷ locks 256; defaults = [] }
+
+-- a record of a at 12, and a lock too many
+crowded : Box
+crowded = record { lines = record { key = key_a; line = Finished (record_for 10 12 Delete) } ∷ locks 257; defaults = [] }
 
 pub room_table : List Case
 room_table =
@@ -204,11 +209,16 @@ room_table =
     record { name = "256 locks of 10 bytes each, and a record"; got = saw_load full; wanted = 257 ∷ 256 ∷ 0 ∷ 2565 ∷ [] } ∷
     record { name = "no room for one lock more: 11"; got = saw_done (prewrite_a 13 full); wanted = plain 11 [] } ∷
     record { name = "no room, and history forbids it: 8 goes before 11"; got = saw_done (prewrite_a 12 full); wanted = plain 8 [] } ∷
+    record { name = "a lock too many, rollback: 11"; got = saw_done (rollback_a 13 crowded); wanted = plain 11 [] } ∷
+    record { name = "a lock too many, rollback of start 10: 8 goes before 11"; got = saw_done (rollback_a 10 crowded); wanted = plain 8 [] } ∷
+    record { name = "a lock too many, one-step (13, 14): 11"; got = saw_count (one_step 0 (ending 13 14) batch_a crowded); wanted = plain 11 (0 ∷ []) } ∷
+    record { name = "a lock too many, one-step (12, 14): 8 goes before 11"; got = saw_count (one_step 0 (ending 12 14) batch_a crowded); wanted = plain 8 (0 ∷ []) } ∷
+    record { name = "a lock too many, the steps of a one-step (13, 12): newest's 8 goes before 11"; got = saw (step_new (ending 13 12) (put key_a ∷ []) crowded) []; wanted = plain 8 [] } ∷
     []
 
 -- ---- document 02, CR 7
 
-saw_ended : Ended → List ℕ
+unfoldable pub saw_ended : Ended → List ℕ
 saw_ended e = saw e.answer (e.state.floor ∷ flat e.state.box)
 
 -- a store on the floor 0, and the store that a collection leaves
@@ -226,7 +236,7 @@ deleted = record { lines = record { key = key_a; line = Finished (record_for 1 2
 locked : Box
 locked = (prewrite 0 (head 3) (put key_b) (prewrite_a 4 fresh).box).box
 
-short : Key
+unfoldable pub short : Key
 short = 0 ∷ 0 ∷ 0 ∷ 1 ∷ []
 
 pub floor_table : List Case
@@ -259,9 +269,16 @@ floor_table =
     record { name = "floor 10, W8 again: 14"; got = saw_count (one_step 10 (ending 10 12) batch_a (after 10 box2).box); wanted = plain 14 (0 ∷ []) } ∷
     []
 
+-- ---- the claim
+
+-- what a case computes with: a proof that unfolds this unfolds all that its line names
+unfoldable pub opened : Unit {0}
+unfolding saw_ended short fresh_state settle_state none_counts kept_lines dropped_lines pointed_to those collected locks_above_step collect_steps collect row_page_steps locks_of locks_within sound_step unless_above conflicting conflict_page key_lock_bytes scan_conflicting_intents rollback_terms_step locks name_unless differing saw plain saw_done saw_row saw_read saw_count saw_page flat_line flat_lines flat_defaults flat key_a key_b row put head ending batch_a batch_aB no_bounds cmp eq_bytes lt_bytes read_on ◌>>=◌ just only byte stretch piece up_to times section ended whole number_from digits number_of table_of key_form integers texts fields mask_bytes bone none_set spares_zero bones row_from row_form of_kind mutation above ascend if_ascend batch_of mutations keys fitted one_mutation one_key ◌▸◌ need need_own if_passed fresh records_of add_record lock_of add_lock row_of add_row before row_before put_in insert_by drop_lock unless_lock drop_row unless_row all_sound sound_lock sum_of load_of fits room_for lock_lets keep_if at_or_below newest_first show_if show_row one_record walk read_steps examine read bounds_step page_arguments keys_of keys_within on_page too_large cost_step limit_step on_judged page_walk unless_past read_key page key_row_bytes all_bytes page_bytes write_if written scan_page settle of_batch zero_step all_below found_if stamped_at prewrite_terms_step lock_step prewrite_entry prewrite_entries store_if lock_line unless_locked apply_prewrite apply_prewrites prewrite_room prewrite_steps prewrite_all prewrite_batch prewrite commit_terms_step with_start commit_lock commit_step commit_key commit_keys commit_to apply_commit apply_commits commit_steps commit_all commit_batch commit rollback_records rollback_lock rollback_step rollback_key rollback_keys rollback_to apply_rollback apply_rollbacks rollback_room rollback_steps rollback_all rollback_batch rollback arguments_step applied_if applied_by applied_in none_other all_applied some_applied step_lock step_entry step_entries newest_step replace_if apply_step apply_steps step_new step_applied step_arguments then_applied count_if step_done step_all of_counted one_step intent_arguments intent_walk intent_page lock_bytes scan_intent_page lock_if Rattle.rules.specs.Intent.unless_above judge_lock intent_at
+opened = tt
+
 -- no row of the tables differs
 all : (differing table ≡ []) × (differing room_table ≡ []) × (differing floor_table ≡ [])
-unfolding saw_ended on0 after deleted locked short floor_table fresh_state settle_state none_counts kept_lines dropped_lines pointed_to those collected locks_above_step collect_steps collect row_page_steps locks_of locks_within sound_step unless_above conflicting conflict_page key_lock_bytes scan_conflicting_intents rollback_terms_step saw_load locks full room_table name_unless differing saw plain saw_done saw_row saw_read saw_count saw_page flat_line flat_lines flat_defaults flat key_a key_b row put head ending prewrite_a commit_a rollback_a batch_a batch_aB no_bounds buffer page_at12 box1 box2 box6 box11 table cmp eq_bytes lt_bytes read_on ◌>>=◌ just only byte stretch piece up_to times section ended whole number_from digits number_of table_of key_form integers texts fields mask_bytes bone none_set spares_zero bones row_from row_form of_kind mutation above ascend if_ascend batch_of mutations keys fitted one_mutation one_key ◌▸◌ need need_own if_passed fresh records_of add_record lock_of add_lock row_of add_row before row_before put_in insert_by drop_lock unless_lock drop_row unless_row all_sound sound_lock sum_of load_of fits room_for lock_lets keep_if at_or_below newest_first show_if show_row one_record walk read_steps examine read bounds_step page_arguments keys_of keys_within on_page too_large cost_step limit_step on_judged page_walk unless_past read_key page key_row_bytes all_bytes page_bytes write_if written scan_page settle of_batch zero_step all_below found_if stamped_at prewrite_terms_step lock_step prewrite_entry prewrite_entries store_if lock_line unless_locked apply_prewrite apply_prewrites prewrite_room prewrite_steps prewrite_all prewrite_batch prewrite commit_terms_step with_start commit_lock commit_step commit_key commit_keys commit_to apply_commit apply_commits commit_steps commit_all commit_batch commit rollback_records rollback_lock rollback_step rollback_key rollback_keys rollback_to apply_rollback apply_rollbacks rollback_room rollback_steps rollback_all rollback_batch rollback arguments_step applied_if applied_by applied_in none_other all_applied some_applied step_lock step_entry step_entries newest_step replace_if apply_step apply_steps step_new step_applied step_arguments then_applied count_if step_done step_all of_counted one_step
+unfolding opened on0 after deleted locked floor_table saw_load full crowded room_table prewrite_a commit_a rollback_a buffer page_at12 box1 box2 box6 box11 table
 all = (refl, refl, refl)
 
 pub worked : differing table ≡ []
