@@ -16,7 +16,7 @@ use Rattle.rules.specs.Answers.{number, ◌▸◌, need, count_if}
 use Rattle.rules.specs.Bones.{Due, bone_steps, shown_if, bone_shown, bones_shown}
 use Rattle.rules.proofs.Worked.{Case, name_unless, differing}
 
-count_same : (p q : ℕ → Bool) (n : ℕ) → ((i : ℕ) → i < n → p i ≡ q i) → count_below p n ≡ count_below q n
+pub count_same : (p q : ℕ → Bool) (n : ℕ) → ((i : ℕ) → i < n → p i ≡ q i) → count_below p n ≡ count_below q n
 unfolding count_below
 count_same p q zero e = refl
 count_same p q (suc n) e = ap₂ (λ (b : Bool) (k : ℕ). one b + k) (e n (omega arith)) (count_same p q n (λ i l. e i (omega arith)))

@@ -1,26 +1,27 @@
 -- The number of records that a read reports is what document 02, CR 6, says of it. Assumes nothing.
 use Prim.Native.Nat.{ℕ, suc, ◌≤◌, ◌<◌}
+use mathlib.Core.Logic.{◌⊎◌, inl, inr}
 use native.Mathlib.Omega.{arith}
-use mathlib.Core.Path.{◌≡◌, refl, ap, ◌∙◌}
+use mathlib.Core.Path.{◌≡◌, refl, sym, ap, ◌∙◌}
 use mathlib.Core.Bool.{Bool, true, false, ◌&&◌, true≢false, false≢true}
 use mathlib.Core.List.{List, [], ◌∷◌, ◌++◌}
-use mathlib.Core.Option.{Option, some}
+use mathlib.Core.Option.{Option, none, some}
 use lib.ListN.{length, length-reverse}
-use lib.Dec.{leb}
+use lib.Dec.{leb, ltb}
 use borrow.Author.Tests.{le-ltb, lt-leb}
 use Rattle.seqs.proofs.Tests.{and_left, and_right}
 use Rattle.forms.specs.Key.{Key, key_form}
-use Rattle.forms.specs.Row.{Row}
+use Rattle.forms.specs.Row.{Row, row_form}
 use Rattle.rules.specs.declared.answers.Answer.{Answer}
 use Rattle.rules.specs.declared.answers.Answer.TheVariants.{Accepted, No, Held}
 use Rattle.rules.specs.declared.records.Kind.{Kind}
 use Rattle.rules.specs.declared.records.Kind.TheVariants.{Put, Delete, Rollback}
 use Rattle.rules.specs.declared.records.Record.{Record}
-use Rattle.rules.specs.Answers.{◌▸◌, need, need_own, Reply, count_if}
-use Rattle.rules.specs.Box.{Box, Lock, Default, eq_kind, holder_of, records_of, lock_of}
+use Rattle.rules.specs.Answers.{◌▸◌, need, need_own, Reply, count_if, number, answer_of, if_passed}
+use Rattle.rules.specs.Box.{Box, Lock, Default, eq_kind, holder_of, records_of, lock_of, row_of}
 use Rattle.rules.specs.Sound.{sound_record}
-use Rattle.rules.specs.Read.{lock_lets, at_or_below, newest_first, Examined, one_record, walk, read_steps, examine}
-use Rattle.rules.specs.Examined.{goes_on, all_go_on, by_moment, CountSays}
+use Rattle.rules.specs.Read.{lock_lets, at_or_below, newest_first, show_row, Examined, one_record, walk, read_steps, examine, show_if}
+use Rattle.rules.specs.Examined.{goes_on, all_go_on, by_moment, CountSays, CountTold}
 
 -- ---- one record
 
@@ -46,6 +47,22 @@ one-most true Delete row older n h = omega arith
 one-most true Rollback row older n h = omega arith
 one-most false k row older n h = omega arith
 
+-- the walk gives an answer, or 9
+abbrev Told : Answer → Type 0
+Told a = (a ≡ Accepted) ⊎ (a ≡ No 9)
+
+one_told : (t : Bool) (k : Kind) (stored : Option Row) (older : Examined) → Told (answer_of older.reply) → Told (answer_of (one_record t k (show_row stored) older).reply)
+unfolding one_record show_row show_if
+one_told true Put none older h = inr refl
+one_told true Put (some r) older h = go (row_form r)
+  where
+    go : (t : Bool) → Told (answer_of (show_if t r))
+    go true = inl refl
+    go false = inr refl
+one_told true Delete stored older h = inl refl
+one_told true Rollback stored older h = h
+one_told false k stored older h = inr refl
+
 -- ---- the walk
 
 module _ (k : Key) (ds : List Default) where
@@ -63,6 +80,11 @@ module _ (k : Key) (ds : List Default) where
   unfolding walk
   walk-most [] = omega arith
   walk-most (w ∷ ws) = one-most (sound_record w) w.kind _ _ (length ws) (walk-most ws)
+
+  walk-told : (ws : List Record) → Told (answer_of (walk k ds ws).reply)
+  unfolding walk
+  walk-told [] = inl refl
+  walk-told (w ∷ ws) = one_told (sound_record w) w.kind (row_of k w.start ds) (walk k ds ws) (walk-told ws)
 
 -- ---- the steps before it
 
@@ -132,3 +154,61 @@ count-says floor k m b = record {
   only = λ p h. counted floor k m b (length (by_moment k m b)) p (walk-only k b.defaults (by_moment k m b) h);
   most = at_most floor k m b;
 }
+
+-- ---- the same by what the read answered
+
+-- what they refuse counts 0
+others-none : (a : Answer) (x : Examined) → Told (answer_of x.reply) → (answer_of (if_passed a x.reply) ≡ Accepted → ⊥) → (answer_of (if_passed a x.reply) ≡ No 9 → ⊥) → count_if a x.count ≡ 0
+unfolding if_passed count_if
+others-none Accepted x (inl e) n m = absurd (n e)
+others-none Accepted x (inr e) n m = absurd (m e)
+others-none (No k) x h n m = refl
+others-none (Held h) x t n m = refl
+
+-- and what they refuse is neither accepted nor 9
+walked : (a : Answer) (r : Reply Row) → (a ≡ No 9 → ⊥) → Told (answer_of (if_passed a r)) → a ≡ Accepted
+unfolding if_passed
+walked Accepted r n h = refl
+walked (No k) r n (inl e) = e
+walked (No k) r n (inr e) = absurd (n e)
+walked (Held h) r n (inl e) = e
+walked (Held h) r n (inr e) = absurd (n e)
+
+module _ (floor : ℕ) (k : Key) (m : ℕ) (b : Box) where
+  not-nine : read_steps floor k m b ≡ No 9 → ⊥
+  unfolding read_steps lock_lets need_own need ◌▸◌
+  not-nine e = go (key_form k) (leb floor m) (lock_of k b.lines) (ap number e)
+    where
+      free : (o : Option Lock) → number (lock_lets m o) ≡ 9 → ⊥
+      free none q = omega arith
+      free (some l) q = held (ltb m l.start) q
+        where
+          held : (t : Bool) → number (need_own t (holder_of l)) ≡ 9 → ⊥
+          held true q = omega arith
+          held false q = omega arith
+
+      go : (t u : Bool) (o : Option Lock) → number (need t 1 ▸ need u 14 ▸ lock_lets m o) ≡ 9 → ⊥
+      go true true o q = free o q
+      go true false o q = omega arith
+      go false u o q = omega arith
+
+  abbrev answer : Answer
+  answer = answer_of (examine floor k m b).reply
+
+  counted_told : (n : ℕ) → Told answer → (walk k b.defaults (by_moment k m b)).count ≡ n → (examine floor k m b).count ≡ n
+  unfolding examine count_if
+  counted_told n p e = ap (λ (a : Answer). count_if a (walk k b.defaults (by_moment k m b)).count) (walked (read_steps floor k m b) _ not-nine p) ∙ e
+
+  refused_none : (answer ≡ Accepted → ⊥) → (answer ≡ No 9 → ⊥) → (examine floor k m b).count ≡ 0
+  unfolding examine
+  refused_none = others-none (read_steps floor k m b) (walk k b.defaults (by_moment k m b)) (walk-told k b.defaults (by_moment k m b))
+
+  -- "The definition's own walk gives the number."
+  pub count-told : CountTold k m b answer (examine floor k m b).count
+  count-told = record {
+    others = refused_none;
+    none_by = none-examined floor k m b;
+    decided = λ p over w older e h g. counted_told (suc (length over)) p (ap (λ (ws : List Record). (walk k b.defaults ws).count) e ∙ walk-decided k b.defaults over w older h g);
+    only = λ p h. counted_told (length (by_moment k m b)) (inl p) (walk-only k b.defaults (by_moment k m b) h);
+    most = at_most floor k m b;
+  }

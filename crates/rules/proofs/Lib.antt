@@ -5,6 +5,7 @@ pub mod EntryWriterLaws
 pub mod Worked
 pub mod ShownRows
 pub mod ExaminedLaws
+pub mod AscendLaws
 pub mod SickImages
 pub mod BoneCases
 pub mod FloorLaws

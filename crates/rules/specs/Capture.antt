@@ -3,9 +3,9 @@
 -- hold the same entries. Refusals: a zero table number 3, then a short buffer 12." The entries' forms are those that restore reads (Image).
 -- CR 7: the floor "stands in the image, 8 bytes, after the table number"; "CR 1's equal bytes now need equal floors too".
 -- Assumes nothing.
-use Rattle.std.specs.Prelude.{ℕ, ◌^◌, ◌<◌, Bool, true, false, not, List, [], ◌∷◌, ◌++◌, length, leb, eqb}
+use Rattle.std.specs.Prelude.{ℕ, ◌^◌, ◌<◌, ◌≡◌, ◌⊎◌, Bool, true, false, not, List, [], ◌∷◌, ◌++◌, length, leb, eqb}
 use Rattle.seqs.specs.Tables.{All}
-use Rattle.forms.specs.Bytes.{Bytes, piece_bytes}
+use Rattle.forms.specs.Bytes.{Bytes, lt_bytes, piece_bytes}
 use Rattle.forms.specs.Numbers.{digits}
 use Rattle.forms.specs.Key.{Key}
 use Rattle.rules.specs.declared.answers.Answer.TheVariants.{No}
@@ -40,9 +40,27 @@ unfoldable pub writes_of : List KeyLine → List KeyRecord
 writes_of [] = []
 writes_of (e ∷ es) = add_write e.key e.line (writes_of es)
 
--- "defaults, locks, writes, each ascending by key, then stamp": as a box stands in order, so do they. The image of any table has the store's floor.
+-- "defaults, locks, writes, each ascending by key, then stamp": as a box stands in order, so do they (`part_ascends`). The image of any table has
+-- the store's floor.
 unfoldable pub entries_of : ℕ → ℕ → Box → Image
 entries_of floor t b = record { table = t; floor = floor; defaults = (part_of t b).defaults; locks = locks_of (part_of t b).lines; writes = writes_of (part_of t b).lines }
+
+-- ---- their order
+
+-- "ascending by key, then stamp": by key in document 01's order, "bytewise unsigned, a proper prefix first", and at one key by number
+abbrev pub Ascends : Key → ℕ → Key → ℕ → Type 0
+Ascends k n j m = (lt_bytes k j ≡ true) ⊎ ((k ≡ j) × (n < m))
+
+-- each before all that follow it
+unfoldable pub Ascending : {A : Type 0} → (A → A → Type 0) → List A → Type 0
+Ascending R [] = Unit {0}
+Ascending R (x ∷ xs) = All (R x) xs × Ascending R xs
+
+-- "defaults, locks, writes, each ascending by key, then stamp": a default's number is its start, a write's its write stamp, and a key has one lock
+pub record AscendingImage (i : Image) : Type 0 where
+  pub defaults : Ascending (λ (a b : Default). Ascends a.key a.start b.key b.start) i.defaults
+  pub locks : Ascending (λ (a b : KeyLock). lt_bytes a.key b.key ≡ true) i.locks
+  pub writes : Ascending (λ (a b : KeyRecord). Ascends a.key a.write.stamp b.key b.write.stamp) i.writes
 
 -- ---- its bytes
 
