@@ -19,6 +19,7 @@ pub mod CommitLaws
 pub mod RollbackLaws
 pub mod OneStepLaws
 pub mod ImageBoxLaws
+pub mod ImageRefusals
 pub mod CallLaws
 pub mod Unrolled
 pub mod NewestFirstLaws
@@ -30,3 +31,4 @@ pub mod TablePartLaws
 pub mod CollectLaws
 pub mod CollectReadLaws
 pub mod CollectPageLaws
+pub mod PageReads

@@ -15,7 +15,8 @@ use Rattle.rules.specs.Read.{keep_if, those}
 use Rattle.rules.specs.Page.{KeyLock, locks_of}
 use Rattle.rules.specs.Image.{KeyRecord}
 use Rattle.rules.specs.Restore.{all_good, lock_line, write_line}
-use Rattle.rules.specs.Capture.{line_of_table, row_of_table, part_of, writes_of, LineWords, LockWords, RecordWords, Words}
+use Rattle.rules.specs.Capture.{line_of_table, row_of_table, part_of, writes_of, entries_of, AscendingImage, LineWords, LockWords, RecordWords, Words}
+use Rattle.rules.proofs.AscendLaws.{part_ascends}
 use Rattle.laws.proofs.StepLaws.{and_left, and_right, and_both}
 use Rattle.laws.proofs.Sorted.{In}
 use Rattle.laws.proofs.PlaceLaws.{those-fewer, those-hold}
@@ -38,6 +39,10 @@ module _ (t : ℕ) (b : Box) where
 
   pub part-order : in_order b ≡ true → in_order (part_of t b) ≡ true
   part-order o = fewer-order part-fewer o
+
+  -- "each ascending by key, then stamp": the entries of every box in order
+  pub entries-ascend : (f : ℕ) → in_order b ≡ true → AscendingImage (entries_of f t b)
+  entries-ascend f o = part_ascends f t b (part-order o)
 
   pub part-again : part_of t (part_of t b) ≡ part_of t b
   unfolding part_of

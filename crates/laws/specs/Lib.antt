@@ -2,3 +2,4 @@
 pub mod Adds
 pub mod Places
 pub mod Keys
+pub mod Singles
