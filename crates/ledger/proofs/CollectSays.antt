@@ -28,7 +28,7 @@ use Rattle.laws.proofs.FewerLaws.{fewer-in}
 use Rattle.laws.proofs.CollectLaws.{lock-kept, kept_records, records-kept, dropped-fewer}
 use Rattle.ledger.specs.Ledger.{lines_at, rows_at}
 use Rattle.ledger.specs.Tidy.{RowsOf, Paired, free, taken, Tidy}
-use Rattle.ledger.specs.Collected.{Stays, CollectSays}
+use Rattle.ledger.specs.Collected.{CollectsTo, Stays, CollectSays}
 use Rattle.ledger.proofs.ChosenLaws.{in-nil, sole}
 use Rattle.ledger.proofs.PairRowLaws.{self}
 use Rattle.ledger.proofs.ReadBackLaws.{in-chosen}
@@ -44,7 +44,7 @@ mem-in x (y ∷ ys) i = go (Memᴰ.cases_cons i) (mem-in x ys)
     go (inl e) ih = inl e
     go (inr j) ih = inr (ih j)
 
-in_mem : {A : Type 0} (x : A) (xs : List A) → In x xs → Memᴰ x xs
+pub in_mem : {A : Type 0} (x : A) (xs : List A) → In x xs → Memᴰ x xs
 in_mem x (y ∷ ys) (inl e) = Memᴰ.head e
 in_mem x (y ∷ ys) (inr m) = Memᴰ.tail (in_mem x ys m)
 in_mem {A = A} x [] x'' = elim x'' [ ]
@@ -199,3 +199,8 @@ module _ (f : ℕ) (b : Box) (v : Tidy b) where
 
       back : (k : Key) (w : Record) → In w (kept_records f (records_of k b.lines)) → Memᴰ w (records_of k (kept_lines f b.lines))
       back k w i = in_mem w _ (subst (λ (ws : List Record). In w ws) (sym (records-kept f k b.lines)) i)
+
+  pub collects-to : in_order b ≡ true → CollectsTo f b (collected f b)
+  collects-to o =
+      let s = collect-says o in
+      record { records = s.records; locks = s.locks; rows = s.rows }

@@ -1,4 +1,4 @@
--- The theorems of this crate, Demand3, Restored, Refusals, Tidiness and Unmet, and the laws that they stand on. Assumes nothing.
+-- The theorems of this crate, Demand3, Restored, Refusals, Tidiness, Unmet and HolderSays, and the laws that they stand on. Assumes nothing.
 pub mod ChosenLaws
 pub mod PairLineLaws
 pub mod PairRowLaws
@@ -28,3 +28,6 @@ pub mod CollectReads
 pub mod CollectChecks
 pub mod CollectSays
 pub mod CollectCalls
+pub mod SevenLaws
+pub mod SevenFree
+pub mod HolderSays

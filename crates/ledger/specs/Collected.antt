@@ -37,6 +37,12 @@ pub record CollectSays (f : ℕ) (b : Box) : Type 0 where
   -- a row stays exactly if a Put line that stays points to it
   pub rows : (collected f b).defaults ≡ those (pointed_to (collected f b).lines) b.defaults
 
+-- the same of a box before and a box after
+pub record CollectsTo (f : ℕ) (b after : Box) : Type 0 where
+  pub records : (k : Key) (w : Record) → Memᴰ w (records_of k after.lines) ↔ (Memᴰ w (records_of k b.lines) × Stays f (records_of k b.lines) w)
+  pub locks : (k : Key) → lock_of k after.lines ≡ lock_of k b.lines
+  pub rows : after.defaults ≡ those (pointed_to after.lines) b.defaults
+
 -- "Reads and pages at moments at or above F answer as before": on the floor F after the collection, on the store's before it
 pub record AnswersAsBefore (f floor : ℕ) (b : Box) : Type 0 where
   pub reads : (k : Key) (m : ℕ) → f ≤ m → read f k m (collected f b) ≡ read floor k m b

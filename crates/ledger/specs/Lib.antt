@@ -4,3 +4,4 @@ pub mod Tidy
 pub mod Restored
 pub mod BoxImages
 pub mod Collected
+pub mod Holders
