@@ -61,7 +61,7 @@ module _ (f t : ℕ) (n : TableNumber t) (b : Box) (v : Stored f b) where
     writes = record { count = omega (arith, room.lines, writes-few part.lines); words = write-words part.lines (part-words t b v.words).lines };
   }
 
-  read_back : image (image_of f t b) ≡ some entries
+  pub read_back : image (image_of f t b) ≡ some entries
   unfolding image_of
   read_back = image-back entries fit
 
