@@ -13,7 +13,7 @@ mod worths;
 ghost use Rattle.std.specs.Prelude.{◌≡◌, ◌+◌, ◌≤◌, length};
 
 use forms::Width;
-use libc::{STDIN_FILENO, STDOUT_FILENO};
+use inputs::read_full;
 use mvcc::AREA;
 use turns::many_turns;
 
@@ -53,7 +53,7 @@ fn head_of(input: &[u8]) -> Head
 }
 
 // The image restored, and its turns.
-fn measure(input: &[u8]) {
+fn measure(rt: &impl Print, input: &[u8]) {
     let mut area = [0u8; AREA];
     let mut copy = [0u8; AREA];
     let head = head_of(input);
@@ -75,11 +75,11 @@ fn measure(input: &[u8]) {
     // modulo 4,096, and there some processors copy thirty times slower (docs/SPEED.md).
     let mut bytes = [0u8; 64];
     forms::put_digits(&mut bytes, 0, Width::Eight, sum);
-    io::write_all(STDOUT_FILENO, &bytes[..8]);
+    let _ = rt.write_all(&bytes[..8]);
 }
 
-fn main() {
+fn main(rt: HostRuntime) {
     let mut input = [0u8; 262144];
-    let n = io::read_full(STDIN_FILENO, &mut input);
-    measure(&input[..n]);
+    let n = read_full(&mut rt.stdin(), &mut input);
+    measure(&rt, &input[..n]);
 }

@@ -5,8 +5,10 @@
 ghost use Rattle.std.specs.Prelude.{◌≡◌, length};
 ghost use Rattle.store.specs.Made.{Made};
 
-use libc::{STDIN_FILENO, STDOUT_FILENO};
+use inputs::read_full;
 use rules::Answer;
+use std::env::Env;
+use std::io::Read;
 use store::{AREA, Store};
 
 mod streams;
@@ -14,13 +16,19 @@ mod streams;
 use streams::Next;
 
 // "A trace not in form gives one answer, number 6, with zeros and no payload"
-fn refuse(out: &mut [u8]) -> bool {
+fn refuse(rt: &impl Print, out: &mut [u8]) -> bool {
     let n = driving::tell_plain(out, Answer::No(6), 0);
-    io::write_all(STDOUT_FILENO, &out[..n])
+    rt.write_all(&out[..n]).is_ok()
 }
 
 // "The calls of one trace run in turn on one store"
-fn answer_calls(store: Store, trace: &[u8], area: &mut [u8; AREA], out: &mut [u8]) -> bool
+fn answer_calls(
+    rt: &impl Print,
+    store: Store,
+    trace: &[u8],
+    area: &mut [u8; AREA],
+    out: &mut [u8],
+) -> bool
     requires { Made store area.old }
 {
     let first = traces::first_call(trace);
@@ -33,7 +41,7 @@ fn answer_calls(store: Store, trace: &[u8], area: &mut [u8; AREA], out: &mut [u8
         let e = b + c.len;
         let ran = driving::run_call(kept, area, &trace[b..e], out);
         let n = ran.len;
-        if !io::write_all(STDOUT_FILENO, &out[..n]) {
+        if rt.write_all(&out[..n]).is_err() {
             return false;
         }
         kept = ran.store;
@@ -44,50 +52,53 @@ fn answer_calls(store: Store, trace: &[u8], area: &mut [u8; AREA], out: &mut [u8
 }
 
 // "fresh at the start"; "nothing is run" of a trace that is not in form
-fn answer_trace(trace: &[u8], out: &mut [u8]) -> bool {
+fn answer_trace(rt: &impl Print, trace: &[u8], out: &mut [u8]) -> bool {
     if !traces::trace_in_form(trace) {
-        return refuse(out);
+        return refuse(rt, out);
     }
     let mut area = [0u8; AREA];
     let store = store::fresh();
-    answer_calls(store, trace, &mut area, out)
+    answer_calls(rt, store, trace, &mut area, out)
 }
 
 // Whether there is more to answer.
-fn answer_next(trace: &mut [u8], out: &mut [u8]) -> bool {
-    let next = streams::next_trace(STDIN_FILENO, trace);
+fn answer_next(rt: &impl Print, input: &mut impl Read, trace: &mut [u8], out: &mut [u8]) -> bool {
+    let next = streams::next_trace(input, trace);
     match next {
         Next::End => false,
-        Next::Over => refuse(out),
-        Next::Trace(n) => answer_trace(&trace[..n], out),
+        Next::Over => refuse(rt, out),
+        Next::Trace(n) => answer_trace(rt, &trace[..n], out),
     }
 }
 
-fn answer_many(trace: &mut [u8], out: &mut [u8]) {
+fn answer_many(rt: &impl Print, input: &mut impl Read, trace: &mut [u8], out: &mut [u8]) {
     let mut turns = u64::MAX;
-    while turns > 0 && answer_next(trace, out) {
+    while turns > 0 && answer_next(rt, input, trace, out) {
         turns -= 1;
     }
 }
 
 // The buffer has one byte more than a trace may have, so that a longer one shows.
-fn answer_one(trace: &mut [u8], out: &mut [u8]) {
-    let n = io::read_full(STDIN_FILENO, trace);
-    answer_trace(&trace[..n], out);
+fn answer_one(rt: &impl Print, input: &mut impl Read, trace: &mut [u8], out: &mut [u8]) {
+    let n = read_full(input, trace);
+    answer_trace(rt, &trace[..n], out);
 }
 
-fn asked_many() -> bool {
+fn asked_many(rt: &impl Env) -> bool {
     let mut word = [0u8; 8];
-    let n = os::arg(1, &mut word);
-    forms::same(&word[..n], b"many")
+    match rt.arg(1, &mut word) {
+        Ok(n) => forms::same(&word[..n], b"many"),
+        Err(_) => false,
+    }
 }
 
-fn main() {
+fn main(rt: HostRuntime) {
     let mut out = [0u8; 262182];
     let mut trace = [0u8; 262145];
-    if asked_many() {
-        answer_many(&mut trace, &mut out);
+    let mut input = rt.stdin();
+    if asked_many(&rt) {
+        answer_many(&rt, &mut input, &mut trace, &mut out);
     } else {
-        answer_one(&mut trace, &mut out);
+        answer_one(&rt, &mut input, &mut trace, &mut out);
     }
 }

@@ -2,6 +2,8 @@
 ghost use Rattle.drive.specs.Next.{NextIn};
 
 use forms::Width;
+use inputs::read_full;
+use std::io::Read;
 
 // What stands next in a stream: nothing more, a trace that is longer than the buffer, or a trace of so many bytes at the buffer's front.
 #[derive(Clone, Copy)]
@@ -12,37 +14,37 @@ pub enum Next {
 }
 
 // Reads so many bytes and forgets them; false where the input ends before.
-fn pass_over(fd: i32, len: usize, buffer: &mut [u8]) -> bool {
+fn pass_over(input: &mut impl Read, len: usize, buffer: &mut [u8]) -> bool {
     let mut left = len;
     while buffer.len() < left {
-        let n = io::read_full(fd, buffer);
+        let n = read_full(input, buffer);
         if n == 0 {
             return false;
         }
         left -= n;
     }
-    let n = io::read_full(fd, &mut buffer[..left]);
+    let n = read_full(input, &mut buffer[..left]);
     n == left
 }
 
 // The trace after the next length. One that is longer than the buffer is passed over; one that the input ends in is none.
-pub fn next_trace(fd: i32, buffer: &mut [u8]) -> Next
+pub fn next_trace(input: &mut impl Read, buffer: &mut [u8]) -> Next
     ensures { NextIn result buffer.new }
 {
     let mut head = [0u8; 4];
-    let got = io::read_full(fd, &mut head);
+    let got = read_full(input, &mut head);
     if got < 4 {
         return Next::End;
     }
     let number = forms::number_at(&head, 0, Width::Four);
     let len = number.value as usize;
     if buffer.len() < len {
-        if pass_over(fd, len, buffer) {
+        if pass_over(input, len, buffer) {
             return Next::Over;
         }
         return Next::End;
     }
-    let have = io::read_full(fd, &mut buffer[..len]);
+    let have = read_full(input, &mut buffer[..len]);
     if have < len {
         return Next::End;
     }

@@ -6,25 +6,25 @@ use mvcc::{AREA, Store};
 use visits::{asks_figures, asks_key, say_number, tell};
 
 // A box of its own, with an area of its own.
-fn second_box(image: &[u8], key: &[u8]) {
+fn second_box(rt: &impl Print, image: &[u8], key: &[u8]) {
     let mut area = [0u8; AREA];
     let mut kept = mvcc::fresh();
-    kept = fills(kept, &mut area, image);
-    asks_key(kept, &area, key, 25);
-    asks_figures(kept, &area, b"the second box: ");
+    kept = fills(rt, kept, &mut area, image);
+    asks_key(rt, kept, &area, key, 25);
+    asks_figures(rt, kept, &area, b"the second box: ");
 }
 
-fn say_image(table: u32, len: usize) {
-    tell(b"the image of table ", table as u64, b": ");
-    say_number(len as u64, b" bytes\n");
+fn say_image(rt: &impl Print, table: u32, len: usize) {
+    tell(rt, b"the image of table ", table as u64, b": ");
+    say_number(rt, len as u64, b" bytes\n");
 }
 
-pub fn copies_hall(store: Store, area: &[u8; AREA], table: u32, key: &[u8])
+pub fn copies_hall(rt: &impl Print, store: Store, area: &[u8; AREA], table: u32, key: &[u8])
     requires { Made store area.now }
 {
     let mut out = [0u8; 1024];
     let wrote = mvcc::capture_snapshot_table(store, area, table, &mut out);
     let n = wrote.count;
-    say_image(table, n);
-    second_box(&out[..n], key);
+    say_image(rt, table, n);
+    second_box(rt, &out[..n], key);
 }

@@ -10,30 +10,31 @@ use visits::{say, say_answer, tell};
 const TTL: u64 = 60;
 
 // What a curator's transaction is about.
-fn say_work(txn: u64) {
+fn say_work(rt: &impl Print, txn: u64) {
     if txn == 7 {
-        say(b"the jaw and the rib");
+        say(rt, b"the jaw and the rib");
     } else {
-        say(b"the removal of the jaw");
+        say(rt, b"the removal of the jaw");
     }
 }
 
-fn say_act(txn: u64, does: &[u8], at: &[u8], number: u64) {
-    tell(b"curator ", txn, does);
-    say_work(txn);
-    tell(at, number, b": ");
+fn say_act(rt: &impl Print, txn: u64, does: &[u8], at: &[u8], number: u64) {
+    tell(rt, b"curator ", txn, does);
+    say_work(rt, txn);
+    tell(rt, at, number, b": ");
 }
 
 // What was answered, and the store after it.
-pub fn answered(done: Changed) -> Store
+pub fn answered(rt: &impl Print, done: Changed) -> Store
     ensures { result ≡ done.store }
 {
     let answer = done.answer;
-    say_answer(answer);
+    say_answer(rt, answer);
     done.store
 }
 
 pub fn prewrites(
+    rt: &impl Print,
     store: Store,
     area: &mut [u8; AREA],
     txn: u64,
@@ -44,11 +45,15 @@ pub fn prewrites(
     requires { Made store area.old }
     ensures { Made result area.new }
 {
-    say_act(txn, b" prewrites ", b", starting at ", start);
-    answered(mvcc::prewrite_batch(store, area, txn, start, TTL, primary, batch))
+    say_act(rt, txn, b" prewrites ", b", starting at ", start);
+    answered(
+        rt,
+        mvcc::prewrite_batch(store, area, txn, start, TTL, primary, batch),
+    )
 }
 
 pub fn commits(
+    rt: &impl Print,
     store: Store,
     area: &mut [u8; AREA],
     txn: u64,
@@ -59,23 +64,33 @@ pub fn commits(
     requires { Made store area.old }
     ensures { Made result area.new }
 {
-    say_act(txn, b" commits ", b" at ", commit);
-    answered(mvcc::commit_intents_batch(store, area, txn, start, commit, keys))
+    say_act(rt, txn, b" commits ", b" at ", commit);
+    answered(
+        rt,
+        mvcc::commit_intents_batch(store, area, txn, start, commit, keys),
+    )
 }
 
 // "Lock and its row go, a Rollback record comes."
-pub fn withdraws(store: Store, area: &mut [u8; AREA], txn: u64, start: u64, key: &[u8]) -> Store
+pub fn withdraws(
+    rt: &impl Print,
+    store: Store,
+    area: &mut [u8; AREA],
+    txn: u64,
+    start: u64,
+    key: &[u8],
+) -> Store
     requires { Made store area.old }
     ensures { Made result area.new }
 {
-    say_act(txn, b" withdraws ", b", started at ", start);
-    answered(mvcc::rollback_intent(store, area, txn, start, key))
+    say_act(rt, txn, b" withdraws ", b", started at ", start);
+    answered(rt, mvcc::rollback_intent(store, area, txn, start, key))
 }
 
-pub fn fills(store: Store, area: &mut [u8; AREA], image: &[u8]) -> Store
+pub fn fills(rt: &impl Print, store: Store, area: &mut [u8; AREA], image: &[u8]) -> Store
     requires { Made store area.old }
     ensures { Made result area.new }
 {
-    say(b"a second box is filled from the image: ");
-    answered(mvcc::restore(store, area, image))
+    say(rt, b"a second box is filled from the image: ");
+    answered(rt, mvcc::restore(store, area, image))
 }

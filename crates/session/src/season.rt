@@ -39,7 +39,7 @@ fn next_digit(digit: u8) -> u8 {
 }
 
 // Editions, each two moments after the one before, until one is refused.
-fn editions(store: Store, area: &mut [u8; AREA]) -> Store
+fn editions(rt: &impl Print, store: Store, area: &mut [u8; AREA]) -> Store
     requires { Made store area.old }
     ensures { Made result area.new }
 {
@@ -51,8 +51,8 @@ fn editions(store: Store, area: &mut [u8; AREA]) -> Store
         let answer = done.answer;
         kept = done.store;
         if !accepted(answer) {
-            say_number(number, b" editions, then ");
-            say_answer(answer);
+            say_number(rt, number, b" editions, then ");
+            say_answer(rt, answer);
             return kept;
         }
         digit = next_digit(digit);
@@ -62,36 +62,40 @@ fn editions(store: Store, area: &mut [u8; AREA]) -> Store
 }
 
 // "Collect up to a floor F"
-fn collects(store: Store, area: &[u8; AREA], floor: u64) -> Store
+fn collects(rt: &impl Print, store: Store, area: &[u8; AREA], floor: u64) -> Store
     requires { Made store area.now }
     ensures { Made result area.now }
 {
-    tell(b"what is older is collected, up to ", floor, b": ");
-    answered(mvcc::collect(store, area, floor))
+    tell(rt, b"what is older is collected, up to ", floor, b": ");
+    answered(rt, mvcc::collect(store, area, floor))
 }
 
-fn writes_again(store: Store, area: &mut [u8; AREA], start: u64) -> Store
+fn writes_again(rt: &impl Print, store: Store, area: &mut [u8; AREA], start: u64) -> Store
     requires { Made store area.old }
     ensures { Made result area.new }
 {
     tell(
+        rt,
         b"curator 9 writes the two labels once more, starting at ",
         start,
         b": ",
     );
-    answered(edition(store, area, start, 48))
+    answered(rt, edition(store, area, start, 48))
 }
 
-pub fn passes_season(store: Store, area: &mut [u8; AREA], jaw: &[u8])
+pub fn passes_season(rt: &impl Print, store: Store, area: &mut [u8; AREA], jaw: &[u8])
     requires { Made store area.old }
 {
-    say(b"curator 9 writes the jaw and the rib anew, over and over: ");
-    let mut kept = editions(store, area);
-    asks_figures(kept, area, b"the box is full: ");
-    asks_key(kept, area, jaw, 1000);
-    kept = collects(kept, area, 1000);
-    asks_figures(kept, area, b"what is left: ");
-    kept = writes_again(kept, area, 2000);
-    asks_key(kept, area, jaw, 1000);
-    asks_key(kept, area, jaw, 999);
+    say(
+        rt,
+        b"curator 9 writes the jaw and the rib anew, over and over: ",
+    );
+    let mut kept = editions(rt, store, area);
+    asks_figures(rt, kept, area, b"the box is full: ");
+    asks_key(rt, kept, area, jaw, 1000);
+    kept = collects(rt, kept, area, 1000);
+    asks_figures(rt, kept, area, b"what is left: ");
+    kept = writes_again(rt, kept, area, 2000);
+    asks_key(rt, kept, area, jaw, 1000);
+    asks_key(rt, kept, area, jaw, 999);
 }

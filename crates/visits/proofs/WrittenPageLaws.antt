@@ -11,7 +11,7 @@ use Rattle.forms.specs.Bytes.{Bytes}
 use Rattle.rules.specs.Answers.{Reply, nothing, shown, refused}
 use Rattle.rules.specs.Box.{Box}
 use Rattle.rules.specs.Page.{Bounds, Limits, Page, page}
-use Rattle.rules.specs.Written.{Written, page_bytes, key_row_bytes, write_if, written, scan_page, WroteAs}
+use Rattle.rules.specs.Written.{page_bytes, key_row_bytes, write_if, written, scan_page, WroteAs}
 use Rattle.rules.specs.declared.written.Wrote.{Wrote}
 use Rattle.rules.specs.Capture.{image_of, capture_if, capture_image}
 

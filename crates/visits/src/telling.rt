@@ -3,94 +3,96 @@ ghost use Rattle.forms.specs.Places.{PartAt};
 ghost use Rattle.visits.specs.Labels.{text_place};
 
 use forms::Part;
-use libc::STDOUT_FILENO;
 use mvcc::{Answer, Holder};
 
-pub fn say(words: &[u8]) {
-    io::write_all(STDOUT_FILENO, words);
+pub fn say(rt: &impl Print, words: &[u8]) {
+    let _ = rt.write_all(words);
 }
 
 // A number and the words after it.
-pub fn say_number(number: u64, after: &[u8]) {
-    io::print_decimal(STDOUT_FILENO, number);
-    say(after);
+pub fn say_number(rt: &impl Print, number: u64, after: &[u8]) {
+    let _ = rt.print(number);
+    say(rt, after);
 }
 
 // A number with the words before and after it.
-pub fn tell(before: &[u8], number: u64, after: &[u8]) {
-    say(before);
-    say_number(number, after);
+pub fn tell(rt: &impl Print, before: &[u8], number: u64, after: &[u8]) {
+    say(rt, before);
+    say_number(rt, number, after);
 }
 
 // "What a call answers": the paper's words for a number. One match of fourteen arms would be dear to prove, so there are three. This one has the
 // arguments.
-fn meaning_given(number: u8) {
+fn meaning_given(rt: &impl Print, number: u8) {
     match number {
-        1 => say(b"key not in form"),
-        2 => say(b"row argument not in form"),
-        3 => say(b"a zero, a commit not above its start, or a bone past the count"),
-        4 => say(b"scan start not below scan end"),
-        _ => meaning_stored(number),
+        1 => say(rt, b"key not in form"),
+        2 => say(rt, b"row argument not in form"),
+        3 => say(
+            rt,
+            b"a zero, a commit not above its start, or a bone past the count",
+        ),
+        4 => say(rt, b"scan start not below scan end"),
+        _ => meaning_stored(rt, number),
     }
 }
 
 // The batch, and what is stored.
-fn meaning_stored(number: u8) {
+fn meaning_stored(rt: &impl Print, number: u8) {
     match number {
-        5 => say(b"empty batch"),
-        6 => say(b"batch not in form"),
-        7 => say(b"key locked"),
-        8 => say(b"history forbids it"),
-        9 => say(b"stored state contradicts the call or itself"),
-        _ => meaning_short(number),
+        5 => say(rt, b"empty batch"),
+        6 => say(rt, b"batch not in form"),
+        7 => say(rt, b"key locked"),
+        8 => say(rt, b"history forbids it"),
+        9 => say(rt, b"stored state contradicts the call or itself"),
+        _ => meaning_short(rt, number),
     }
 }
 
 // Limits, room, buffers and images, and the floor.
-fn meaning_short(number: u8) {
+fn meaning_short(rt: &impl Print, number: u8) {
     match number {
-        10 => say(b"byte limit below the first entry"),
-        11 => say(b"no room"),
-        12 => say(b"lent buffer shorter than the page"),
-        13 => say(b"image refused"),
-        14 => say(b"below the floor"),
-        _ => say(b"no number of the paper"),
+        10 => say(rt, b"byte limit below the first entry"),
+        11 => say(rt, b"no room"),
+        12 => say(rt, b"lent buffer shorter than the page"),
+        13 => say(rt, b"image refused"),
+        14 => say(rt, b"below the floor"),
+        _ => say(rt, b"no number of the paper"),
     }
 }
 
 // The number of a refusal and what it means.
-fn say_refusal(number: u8) {
-    tell(b"refused, ", number as u64, b": ");
-    meaning_given(number);
+fn say_refusal(rt: &impl Print, number: u8) {
+    tell(rt, b"refused, ", number as u64, b": ");
+    meaning_given(rt, number);
 }
 
 // What a lock is for, by its kind: "1 Put, 2 Delete".
-fn say_kind(kind: u8) {
+fn say_kind(rt: &impl Print, kind: u8) {
     match kind {
-        1 => say(b"a new label"),
-        2 => say(b"a removal"),
-        _ => say(b"no kind of the paper"),
+        1 => say(rt, b"a new label"),
+        2 => say(rt, b"a removal"),
+        _ => say(rt, b"no kind of the paper"),
     }
 }
 
 // Who holds the key, since when and for what, and how long the lock is to stand.
-fn say_holder(holder: Holder) {
-    tell(b" by curator ", holder.txn, b" since ");
-    say_number(holder.start, b" for ");
-    say_kind(holder.kind);
-    tell(b", time to live ", holder.ttl, b"\n");
+fn say_holder(rt: &impl Print, holder: Holder) {
+    tell(rt, b" by curator ", holder.txn, b" since ");
+    say_number(rt, holder.start, b" for ");
+    say_kind(rt, holder.kind);
+    tell(rt, b", time to live ", holder.ttl, b"\n");
 }
 
-pub fn say_answer(answer: Answer) {
+pub fn say_answer(rt: &impl Print, answer: Answer) {
     match answer {
-        Answer::Accepted => say(b"accepted\n"),
+        Answer::Accepted => say(rt, b"accepted\n"),
         Answer::No(n) => {
-            say_refusal(n);
-            say(b"\n");
+            say_refusal(rt, n);
+            say(rt, b"\n");
         }
         Answer::Held(holder) => {
-            say_refusal(7);
-            say_holder(holder);
+            say_refusal(rt, 7);
+            say_holder(rt, holder);
         }
     }
 }
@@ -104,9 +106,9 @@ pub fn accepted(answer: Answer) -> bool {
 }
 
 // A key is its table's number in 4 bytes, and then a name.
-pub fn say_name(key: &[u8]) {
+pub fn say_name(rt: &impl Print, key: &[u8]) {
     if 4 <= key.len() {
-        say(&key[4..]);
+        say(rt, &key[4..]);
     }
 }
 
@@ -122,11 +124,11 @@ fn first_text(row: &[u8]) -> Part
 }
 
 // The label of a row is its first text.
-pub fn say_label(row: &[u8]) {
+pub fn say_label(rt: &impl Print, row: &[u8]) {
     let text = first_text(row);
     let at = text.at;
     let end = at + text.len;
-    say(b"\"");
-    say(&row[at..end]);
-    say(b"\"\n");
+    say(rt, b"\"");
+    say(rt, &row[at..end]);
+    say(rt, b"\"\n");
 }

@@ -1,5 +1,4 @@
--- `visits::visitors::page_of` meets its contract: a page that was written lies in the buffer (`page-within`).
--- Assumes nothing.
+-- A page that was written lies in the buffer (`page-within`).
 use Rattle.visits.proofs.WrittenPageLaws.{page-within}
 use Rattle.visits.proofs.visitors.page_of.Goals as goal
 

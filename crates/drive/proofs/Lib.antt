@@ -1,2 +1,0 @@
--- The laws of `drive`, in the order in which they build on each other.
-pub mod NextLaws
