@@ -81,7 +81,7 @@ module _ (w : Lent) where
   pub page-same : {x : Written} {r q : Wrote} {out out' : Bytes} → WroteAs x r out → WroteAs x q out' → Same w (paged r out) (paged q out')
   page-same {r = r} {q = q} {out = out} {out' = out'} a b = same w (paged r out) (paged q out') (one_answer a b) (one-count a b) refl refl refl (one-buffer a b)
 
-  changed-same : {r q : Changed} {area area' : Bytes} → Alike r area q area' → Same w (changed r area) (changed q area')
+  pub changed-same : {r q : Changed} {area area' : Bytes} → Alike r area q area' → Same w (changed r area) (changed q area')
   changed-same {r = r} {q = q} {area = area} {area' = area'} a = same w (changed r area) (changed q area') a.answer refl refl refl a.state refl
 
 -- ---- one law a call

@@ -34,7 +34,7 @@ use Rattle.demands.proofs.Stays.{stays-made}
 
 -- ---- one call: the store shows the box and the floor that the definition leaves
 
-settled-shows : {st : Store} {area : Bytes} {d : Done} {r : Changed} {area' : Bytes} → Settled st area d r area' → state_shown r.store area' ≡ (on_floor st.floor d).state
+pub settled-shows : {st : Store} {area : Bytes} {d : Done} {r : Changed} {area' : Bytes} → Settled st area d r area' → state_shown r.store area' ≡ (on_floor st.floor d).state
 settled-shows s = ap₂ (λ (b : Box) (f : ℕ). record { box = b; floor = f }) s.shown s.floor_is
 
 shows-next : (c : Changing) (w : Lent) (g : Given (gives (changing c))) → Kept w (changing c) g → state_in (calls.after w g) ≡ (perform c (state_in w)).state
@@ -59,14 +59,14 @@ unfolding empty fresh_state
 shows {cs} w (started st) f run = ran-shows cs empty run (record { made = f.made; shown = f.shown })
 
 -- an image that restore accepts, and its state
-record Taken (s : Bytes) (st : State) : Type 0 where
+pub record Taken (s : Bytes) (st : State) : Type 0 where
   pub img : Image
   pub is : image s ≡ some img
   pub good : good_image img ≡ true
   pub healthy : healthy_image img ≡ true
   pub shown : (restore s st).state ≡ state_of img
 
-taken : (s : Bytes) (st : State) → (restore s st).answer ≡ Accepted → Taken s st
+pub taken : (s : Bytes) (st : State) → (restore s st).answer ≡ Accepted → Taken s st
 unfolding restore restore_to restore_steps
 taken s st p = go (image s) refl p
   where

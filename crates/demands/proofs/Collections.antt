@@ -1,4 +1,4 @@
--- Document 02, CR 7, carried to the store by the calls' promises alone: what a collection leaves to see, and what calls after it answer.
+-- Document 02, CR 7, carried to the store by the calls' promises alone: what a collection leaves and leaves to see, and what calls after it answer.
 -- Assumes nothing.
 use Prim.Native.Nat.{ℕ, ◌≤◌}
 use native.Mathlib.Omega.{arith}
@@ -29,7 +29,8 @@ use Rattle.laws.proofs.StepLaws.{then-left, need-true}
 use Rattle.laws.proofs.SettleLaws.{settle_state-answer, settle_state-new}
 use Rattle.ledger.specs.Ledger as ledger
 use Rattle.ledger.specs.Ledger.{Past, then}
-use Rattle.ledger.specs.Collected.{AnswersAsBefore, CallsAsBefore, SameUnless11}
+use Rattle.ledger.specs.Collected.{CollectsTo, AnswersAsBefore, CallsAsBefore, SameUnless11}
+use Rattle.ledger.proofs.CollectSays.{collects-to}
 use Rattle.ledger.proofs.CollectReads.{answers-as-before}
 use Rattle.ledger.proofs.CollectCalls.{calls-as-before}
 use Rattle.ledger.proofs.Tidiness.{collected-since}
@@ -38,7 +39,7 @@ use Rattle.store.proofs.TidyLaws.{built-tidy}
 use Rattle.calls.specs.declared.changed.Changed.{Changed}
 use Rattle.demands.specs.Calls.{a_row, a_lock, a_change, calling, gives, Lent, box_in, floor_in, state_in, Given, seen, pointed, paged, changed, stepped, row_in, lock_in, answer_in, count_in, shown_in, after, Kept, Same}
 use Rattle.demands.specs.Demands.{changing, Ran, Shows}
-use Rattle.demands.specs.Collections.{Collects, left, SeenAsBefore, AsBefore, CallAbove, ChangesAsBefore, SecondCollection}
+use Rattle.demands.specs.Collections.{Collects, left, CollectionSays, SeenAsBefore, AsBefore, CallAbove, ChangesAsBefore, SecondCollection}
 use Rattle.demands.proofs.Stays.{stays-made}
 use Rattle.demands.proofs.Carried.{ran-shows}
 use Rattle.demands.proofs.Alike.{page-same}
@@ -100,6 +101,12 @@ module _ {f : ℕ} {w : Lent} {r : Changed} {area : Bytes} (c : Collects f w r a
     conflicts = λ a m l. page-left (λ (st : State). scan_conflicting_intents a m l st.box w.buffer) (ap (λ (x : Reply (Page KeyLock)). written key_lock_bytes x w.buffer) (box-says.conflicts a m l));
     points = points-left;
   }
+
+pub collection-says : CollectionSays
+collection-says f w r area c = (
+  subst (λ (st : State). CollectsTo f (box_in w) st.box) (sym (state-left c)) (collects-to f (box_in w) (built-tidy c.made.built) (sorted c)),
+  ap (λ (st : State). st.floor) (state-left c),
+)
 
 pub as_before : AsBefore
 as_before f w r area c = seen-as-before c

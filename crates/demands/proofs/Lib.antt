@@ -5,3 +5,7 @@ pub mod Refusals
 pub mod Alike
 pub mod StoreImages
 pub mod Collections
+pub mod Counts
+pub mod Conversions
+pub mod Singles
+pub mod Holders

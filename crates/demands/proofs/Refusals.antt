@@ -96,7 +96,7 @@ module _ (w : Lent) where
 
   -- ---- a changing call
 
-  both : (st : Store) (area : Bytes) → Untouched w.store w.area st area → record { store = st; area = area; buffer = w.buffer } ≡ w
+  pub both : (st : Store) (area : Bytes) → Untouched w.store w.area st area → record { store = st; area = area; buffer = w.buffer } ≡ w
   both st area u =
       ap (λ (s : Store). record { store = s; area = area; buffer = w.buffer }) u.store_is
       ∙ ap (λ (a : Bytes). record { store = w.store; area = a; buffer = w.buffer }) u.area_is

@@ -1,7 +1,7 @@
--- Document 02, CR 1, carried to the store: what a call wrote, restored, is that table's part; and equal bytes are equal entries.
+-- Document 02, CR 1, carried to the store: what a call wrote ascends; restored, it is that table's part; and equal bytes are equal entries.
 -- Assumes nothing.
 use Prim.Native.Nat.{ℕ}
-use mathlib.Core.Path.{◌≡◌, refl, sym, ap, ◌∙◌}
+use mathlib.Core.Path.{◌≡◌, refl, sym, ap, ◌∙◌, subst}
 use mathlib.Core.Bool.{Bool, true, false, not, true≢false}
 use lib.ListN.{length, take, drop}
 use lib.Seq.{take_at}
@@ -9,38 +9,52 @@ use lib.Dec.{leb, eqb}
 use Rattle.forms.specs.Bytes.{Bytes}
 use Rattle.rules.specs.declared.answers.Answer.TheVariants.{Accepted, No}
 use Rattle.rules.specs.declared.written.Wrote.{Wrote}
-use Rattle.rules.specs.Box.{Box}
+use Rattle.rules.specs.Box.{Box, in_order}
 use Rattle.rules.specs.Calls.{State, Ended}
-use Rattle.rules.specs.Written.{write_if}
-use Rattle.rules.specs.Restore.{restore}
-use Rattle.rules.specs.Capture.{part_of, image_of, capture_if, capture_image}
+use Rattle.rules.specs.Written.{Written, write_if, WroteAs}
+use Rattle.rules.specs.Restore.{state_of, restore}
+use Rattle.rules.specs.Capture.{part_of, entries_of, image_of, capture_if, capture_image}
+use Rattle.rules.proofs.AscendLaws.{part_ascends}
+use Rattle.laws.proofs.ImageBoxLaws.{box_of-order}
 use Rattle.laws.proofs.TablePartLaws.{part-again}
 use Rattle.ledger.proofs.BoxImages.{same-image}
 use Rattle.captures.specs.Promise.{image_in}
 use Rattle.demands.specs.Calls.{Lent, box_in, floor_in, state_in}
-use Rattle.demands.specs.StoreImages.{part_state, Writes, RestoresPart, SameBytes, SameBytesOnly, WrittenAgain}
+use Rattle.demands.specs.StoreImages.{part_state, Writes, WrittenAscends, RestoresPart, SameBytes, SameBytesOnly, WrittenAgain}
+use Rattle.demands.proofs.Carried.{taken}
 
-never : (n : ℕ) → No n ≡ Accepted → ⊥
+pub never : (n : ℕ) → No n ≡ Accepted → ⊥
 never n e = true≢false (cc)
 
--- the bytes that an accepted call counts are the image
+-- ---- the bytes that an accepted call counts are those that it was to write
+
+pub front : (k : Bool) (bytes buffer : Bytes) → (write_if k bytes buffer).answer ≡ Accepted → take (write_if k bytes buffer).count (write_if k bytes buffer).buffer ≡ bytes
+unfolding write_if
+front true bytes buffer e = take_at bytes (drop (length bytes) buffer) (length bytes) refl
+front false bytes buffer e = absurd (never 12 e)
+
+pub counted-front : {x : Written} {r : Wrote} {out : Bytes} → WroteAs x r out → take r.count out ≡ take x.count x.buffer
+counted-front {x} {out = out} k = ap (λ (n : ℕ). take n out) k.count_is ∙ ap (take x.count) k.out_is
+
 filled : (f t : ℕ) (b : Box) (buffer : Bytes) → (capture_image f t b buffer).answer ≡ Accepted → take (capture_image f t b buffer).count (capture_image f t b buffer).buffer ≡ image_of f t b
-unfolding capture_image capture_if write_if
+unfolding capture_image capture_if
 filled f t b buffer = go (not (eqb t 0))
   where
-    fits : (k : Bool) → (write_if k (image_of f t b) buffer).answer ≡ Accepted → take (write_if k (image_of f t b) buffer).count (write_if k (image_of f t b) buffer).buffer ≡ image_of f t b
-    fits true e = take_at (image_of f t b) (drop (length (image_of f t b)) buffer) (length (image_of f t b)) refl
-    fits false e = absurd (never 12 e)
-
     go : (k : Bool) → (capture_if k (image_of f t b) buffer).answer ≡ Accepted → take (capture_if k (image_of f t b) buffer).count (capture_if k (image_of f t b) buffer).buffer ≡ image_of f t b
-    go true e = fits (leb (length (image_of f t b)) (length buffer)) e
+    go true e = front (leb (length (image_of f t b)) (length buffer)) (image_of f t b) buffer e
     go false e = absurd (never 3 e)
 
 module _ {w : Lent} {t : ℕ} {r : Wrote} {out : Bytes} (v : Writes w t r out) where
   image-is : image_in r out ≡ image_of (floor_in w) t (box_in w)
-  image-is =
-      let k = v.kept.captured in
-      ap (λ (n : ℕ). take n out) k.count_is ∙ ap (take (capture_image (floor_in w) t (box_in w) w.buffer).count) k.out_is ∙ filled (floor_in w) t (box_in w) w.buffer (sym k.answer_is.case_is ∙ v.accepted)
+  image-is = counted-front v.kept.captured ∙ filled (floor_in w) t (box_in w) w.buffer (sym v.kept.captured.answer_is.case_is ∙ v.accepted)
+
+  -- what restore takes stands in order
+  part-ordered : in_order (part_of t (box_in w)) ≡ true
+  unfolding state_of
+  part-ordered =
+      let e = v.kept.restores v.accepted (state_in w) in
+      let k = taken (image_in r out) (state_in w) (ap (λ (d : Ended). d.answer) e) in
+      subst (λ (b : Box). in_order b ≡ true) (ap (λ (st : State). st.box) (sym k.shown ∙ ap (λ (d : Ended). d.state) e)) (box_of-order k.img k.good)
 
   part-is : (old : State) → (restore (image_in r out) old).state ≡ part_state t w
   part-is old = ap (λ (e : Ended). e.state) (v.kept.restores v.accepted old)
@@ -49,6 +63,9 @@ pub restores-part : RestoresPart
 restores-part w v t r out q area x k =
     let e = x.kept.restores x.accepted (state_in v) in
     (k.answer_is.case_is ∙ ap (λ (d : Ended). d.answer) e, k.shown ∙ ap (λ (d : Ended). d.state) e)
+
+pub written-ascends : WrittenAscends
+written-ascends w t r out v = (entries_of (floor_in w) t (box_in w), v.kept.reads v.accepted, part_ascends (floor_in w) t (box_in w) (part-ordered v))
 
 -- equal bytes restore to one state
 states : {w v : Lent} {t : ℕ} {r s : Wrote} {out out' : Bytes} → Writes w t r out → Writes v t s out' → image_in r out ≡ image_in s out'

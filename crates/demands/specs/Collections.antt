@@ -1,5 +1,5 @@
--- Document 02, CR 7, of the store: what a collection leaves to see. Said of calls that kept their promises, on a store that our code made; nothing
--- else is known of the code. That every lock starts above the floor is part of `Made`. proofs/Collections.antt has the theorems.
+-- Document 02, CR 7, of the store: what a collection leaves, and what it leaves to see. Said of calls that kept their promises, on a store that our
+-- code made; nothing else is known of the code. That every lock starts above the floor is part of `Made`. proofs/Collections.antt has the theorems.
 -- Assumes nothing.
 use Rattle.std.specs.Prelude.{ℕ, ◌≤◌, ◌<◌, ◌≡◌, List}
 use Rattle.forms.specs.Bytes.{Bytes}
@@ -8,9 +8,9 @@ use Rattle.rules.specs.declared.answers.Answer.TheVariants.{Accepted}
 use Rattle.rules.specs.declared.written.Wrote.{Wrote}
 use Rattle.rules.specs.Page.{Bounds, Limits}
 use Rattle.rules.specs.Call.{Changing, Call}
-use Rattle.ledger.specs.Collected.{SameUnless11}
+use Rattle.ledger.specs.Collected.{CollectsTo, SameUnless11}
 use Rattle.calls.specs.declared.changed.Changed.{Changed}
-use Rattle.demands.specs.Calls.{a_row, a_lock, a_change, calling, gives, Lent, floor_in, Given, paged, changed, answer_in, count_in, shown_in, after, Kept, MadeIn, Same}
+use Rattle.demands.specs.Calls.{a_row, a_lock, a_change, calling, gives, Lent, box_in, floor_in, Given, paged, changed, answer_in, count_in, shown_in, after, Kept, MadeIn, Same}
 use Rattle.demands.specs.Demands.{changing, Ran}
 
 -- a collection up to F was made on a store, and accepted
@@ -22,6 +22,11 @@ pub record Collects (f : ℕ) (w : Lent) (r : Changed) (area : Bytes) : Type 0 w
 -- what stands after it
 abbrev pub left : Lent → Changed → Bytes → Lent
 left w r area = after w (changed r area)
+
+-- "for each key, of records stamped at or below F keep the newest that is not a Rollback, if it is a Put, and drop the rest with their rows": of the
+-- box before it and the box after it, whose floor is F
+abbrev pub CollectionSays : Type 0
+CollectionSays = (f : ℕ) (w : Lent) (r : Changed) (area : Bytes) → Collects f w r area → CollectsTo f (box_in w) (box_in (left w r area)) × (floor_in (left w r area) ≡ f)
 
 -- "Reads and pages at moments at or above F answer as before; the record counts of CR 6 may fall."
 pub record SeenAsBefore (f : ℕ) (w w' : Lent) : Type 0 where

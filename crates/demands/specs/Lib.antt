@@ -3,3 +3,7 @@ pub mod Demands
 pub mod Calls
 pub mod StoreImages
 pub mod Collections
+pub mod Counts
+pub mod Conversions
+pub mod Singles
+pub mod Holders

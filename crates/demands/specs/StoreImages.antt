@@ -1,15 +1,17 @@
--- Document 02, CR 1, of the store: "Restoring what was written gives that table's part of the store, and two stores holding only that table have
--- equal bytes exactly when they hold the same entries." CR 7: "CR 1's equal bytes now need equal floors too". Said of calls that kept their
--- promises, each on a store that our code made, as a call asks; nothing else is known of the code, and nothing else is asked for.
+-- Document 02, CR 1, of the store: "write that table's image: defaults, locks, writes, each ascending by key, then stamp. Restoring what was written
+-- gives that table's part of the store, and two stores holding only that table have equal bytes exactly when they hold the same entries." CR 7: "CR 1's
+-- equal bytes now need equal floors too". Said of calls that kept their promises; nothing else is known of the code, and nothing else is asked for.
 -- proofs/StoreImages.antt has the theorems.
 -- Assumes nothing.
 use Rattle.std.specs.Prelude.{ℕ, ◌≡◌, ◌↔◌}
+use Rattle.std.proofs.Math.Option.{some}
 use Rattle.forms.specs.Bytes.{Bytes}
 use Rattle.rules.specs.declared.answers.Answer.TheVariants.{Accepted}
 use Rattle.rules.specs.declared.written.Wrote.{Wrote}
 use Rattle.rules.specs.Calls.{State}
 use Rattle.rules.specs.Call.{Call}
-use Rattle.rules.specs.Capture.{part_of}
+use Rattle.rules.specs.Image.{Image, image}
+use Rattle.rules.specs.Capture.{part_of, AscendingImage}
 use Rattle.ledger.specs.BoxImages.{HoldsOnly}
 use Rattle.store.specs.View.{state_shown}
 use Rattle.captures.specs.Promise.{image_in}
@@ -20,6 +22,10 @@ use Rattle.demands.specs.Calls.{calling, Lent, box_in, floor_in, paged, changed,
 pub record Writes (w : Lent) (t : ℕ) (r : Wrote) (out : Bytes) : Type 0 where
   pub kept : Kept w (calling (Call.Capture t)) (paged r out)
   pub accepted : r.answer ≡ Accepted
+
+-- "defaults, locks, writes, each ascending by key, then stamp": the bytes are an image whose entries so ascend
+abbrev pub WrittenAscends : Type 0
+WrittenAscends = (w : Lent) (t : ℕ) (r : Wrote) (out : Bytes) → Writes w t r out → (i : Image) × (image (image_in r out) ≡ some i) × AscendingImage i
 
 -- "that table's part of the store", and the store's floor
 abbrev pub part_state : ℕ → Lent → State

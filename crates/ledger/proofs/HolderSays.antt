@@ -41,7 +41,7 @@ use Rattle.laws.proofs.PrewriteLaws.{prewrite_entries-all}
 use Rattle.laws.proofs.CommitLaws.{commit_keys-all}
 use Rattle.laws.proofs.RollbackLaws.{rollback_keys-all}
 use Rattle.ledger.specs.Tidy.{Tidy}
-use Rattle.ledger.specs.Holders.{Named, Another, Bars, Carries, HolderSays, HoldersTold}
+use Rattle.ledger.specs.Holders.{NamedKey, Another, Bars, Carries, HolderSays, HoldersTold}
 use Rattle.ledger.proofs.SevenLaws.{Seven, seven-for, steps, no_seven, accepted-seven, need-seven, own-seven, then_if, then-seven, past-seven, all-seven, settle-seven, settle_state-seven, applied-seven, batch-seven, passed-seven, page-seven, walk-seven, written-seven}
 use Rattle.ledger.proofs.SevenFree.{page-arguments, intent-page, conflict-page, one-intent, restored, captured, converted, bone-asked, bones-asked, rollback-records, newest-seven, step-arguments}
 use Rattle.ledger.proofs.Unmet.{lock-sound, read_walk}
@@ -147,7 +147,7 @@ module _ (b : Box) (named : Key → Type 0) (txn start : ℕ) where
   asks k n l e = own k l (owns txn start l) e (λ f. (n, another txn start l f))
 
 -- an entry of the batch is named by it
-named_by : {A : Type 0} (key : A → Key) (o : Option (List A)) (xs : List A) → o ≡ some xs → (x : A) → In x xs → Named key o (key x)
+named_by : {A : Type 0} (key : A → Key) (o : Option (List A)) (xs : List A) → o ≡ some xs → (x : A) → In x xs → NamedKey key o (key x)
 named_by key o xs e x i = (xs, e, x, in_mem x xs i, refl)
 
 module _ (b : Box) (named : Key → Type 0) (h : PrewriteTerms) where
@@ -206,7 +206,7 @@ prewrite-seven floor h s b =
     batch-seven (mutations s) (prewrite_all floor h) b
     (λ ms e. settle-seven _ _ b
     (past-seven _ 5 _ refl (then-seven _ _ (search steps) (then-seven _ _
-    (all-seven (prewrite_entry h) b ms (prewrite_entries-all h b ms) (λ m i. prewrite-entry b (Named key_inside (mutations s)) h m (named_by key_inside (mutations s) ms e m i)))
+    (all-seven (prewrite_entry h) b ms (prewrite_entries-all h b ms) (λ m i. prewrite-entry b (NamedKey key_inside (mutations s)) h m (named_by key_inside (mutations s) ms e m i)))
     (need-seven _ 11 refl)))))
 
 commit-seven : (floor : ℕ) (h : CommitTerms) (s : Bytes) (b : Box) → SevenOf (Call.Change (Changing.Commit h s)) b (commit_batch floor h s b).answer
@@ -215,7 +215,7 @@ commit-seven floor h s b =
     batch-seven (keys s) (commit_all floor h) b
     (λ ks e. settle-seven _ _ b
     (past-seven _ 5 _ refl (then-seven _ _ (search steps)
-    (all-seven (commit_key h) b ks (commit_keys-all h b ks) (λ k i. commit-key b (Named (λ (j : Key). j) (keys s)) h k (named_by (λ (j : Key). j) (keys s) ks e k i))))))
+    (all-seven (commit_key h) b ks (commit_keys-all h b ks) (λ k i. commit-key b (NamedKey (λ (j : Key). j) (keys s)) h k (named_by (λ (j : Key). j) (keys s) ks e k i))))))
 
 rollback-seven : (floor txn start : ℕ) (s : Bytes) (b : Box) → SevenOf (Call.Change (Changing.Rollback txn start s)) b (rollback_batch floor txn start s b).answer
 unfolding rollback_batch rollback_all rollback_steps rollback_terms_step zero_step rollback_room
@@ -223,7 +223,7 @@ rollback-seven floor txn start s b =
     batch-seven (keys s) (rollback_all floor txn start) b
     (λ ks e. settle-seven _ _ b
     (past-seven _ 5 _ refl (then-seven _ _ (search steps) (then-seven _ _
-    (all-seven (rollback_key txn start) b ks (rollback_keys-all txn start b ks) (λ k i. rollback-key b (Named (λ (j : Key). j) (keys s)) txn start k (named_by (λ (j : Key). j) (keys s) ks e k i)))
+    (all-seven (rollback_key txn start) b ks (rollback_keys-all txn start b ks) (λ k i. rollback-key b (NamedKey (λ (j : Key). j) (keys s)) txn start k (named_by (λ (j : Key). j) (keys s) ks e k i)))
     (need-seven _ 11 refl)))))
 
 step-seven : (floor : ℕ) (h : CommitTerms) (s : Bytes) (b : Box) → SevenOf (Call.Change (Changing.OneStep h s)) b (one_step floor h s b).done.answer
@@ -234,7 +234,7 @@ step-seven floor h s b = go (mutations s) refl
     applied ms e true = accepted-seven
     applied ms e false =
         settle-seven _ _ b
-        (past-seven _ 9 _ refl (then-seven _ _ (step-entries b (Named key_inside (mutations s)) h ms (named_by key_inside (mutations s) ms e)) (then-seven _ _ (newest-seven h b ms) (need-seven _ 11 refl))))
+        (past-seven _ 9 _ refl (then-seven _ _ (step-entries b (NamedKey key_inside (mutations s)) h ms (named_by key_inside (mutations s) ms e)) (then-seven _ _ (newest-seven h b ms) (need-seven _ 11 refl))))
 
     go : (o : Option (List Mutation)) → mutations s ≡ o → SevenOf (Call.Change (Changing.OneStep h s)) b (of_counted o (step_all floor h) b).done.answer
     go none e = no_seven 6 refl

@@ -28,8 +28,8 @@ use Rattle.ledger.specs.Tidy.{Tidy}
 -- ---- why a lock bars a call
 
 -- "per entry", "per key": an entry of the batch has this key
-abbrev pub Named : {A : Type 0} → (A → Key) → Option (List A) → Key → Type 0
-Named {A = A} key batch k = (xs : List A) × (batch ≡ some xs) × (x : A) × Memᴰ x xs × (key x ≡ k)
+abbrev pub NamedKey : {A : Type 0} → (A → Key) → Option (List A) → Key → Type 0
+NamedKey {A = A} key batch k = (xs : List A) × (batch ≡ some xs) × (x : A) × Memᴰ x xs × (key x ≡ k)
 
 -- "a lock of another transaction or start"
 abbrev pub Another : ℕ → ℕ → Lock → Type 0
@@ -42,10 +42,10 @@ Bars (Call.Read key m) b k l = (k ≡ key) × (l.start ≤ m)
 -- "from start (from after resume, if start is absent or not above resume) to before end. Each key is read first"
 Bars (Call.Page a m limits) b k l = (in_bounds a k ≡ true) × (l.start ≤ m)
 -- "a lock of another transaction or start, 7"; "another's lock, 7"
-Bars (Call.Change (Changing.Prewrite h s)) b k l = Named key_inside (mutations s) k × Another h.txn h.start l
-Bars (Call.Change (Changing.Commit h s)) b k l = Named (λ (j : Key). j) (keys s) k × Another h.txn h.start l
-Bars (Call.Change (Changing.Rollback txn start s)) b k l = Named (λ (j : Key). j) (keys s) k × Another txn start l
-Bars (Call.Change (Changing.OneStep h s)) b k l = Named key_inside (mutations s) k × Another h.txn h.start l
+Bars (Call.Change (Changing.Prewrite h s)) b k l = NamedKey key_inside (mutations s) k × Another h.txn h.start l
+Bars (Call.Change (Changing.Commit h s)) b k l = NamedKey (λ (j : Key). j) (keys s) k × Another h.txn h.start l
+Bars (Call.Change (Changing.Rollback txn start s)) b k l = NamedKey (λ (j : Key). j) (keys s) k × Another txn start l
+Bars (Call.Change (Changing.OneStep h s)) b k l = NamedKey key_inside (mutations s) k × Another h.txn h.start l
 -- "a collection with a lock at or below F answers 7 for the first such key": at every key before it a lock starts above F
 Bars (Call.Change (Changing.Collect f)) b k l = (l.start ≤ f) × ((j : Key) (o : Lock) → lt_bytes j k ≡ true → lock_of j b.lines ≡ some o → f < o.start)
 -- no other call can give 7
