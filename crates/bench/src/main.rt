@@ -1,5 +1,5 @@
 // The benchmark program; bench/run times it, and nothing here is part of the store. Standard input holds 8 bytes, the number of turns; a byte,
-// the kind of call (src/turns.rt); a 4-byte length and an image of that length; and the calls of one turn (src/asked.rt). The image is restored,
+// the kind of call (src/turning.rt); a 4-byte length and an image of that length; and the calls of one turn (src/asked.rt). The image is restored,
 // so many turns are made, each call on that box, and the sum of what the answers are worth is written, 8 bytes. An input that is shorter than
 // its lengths say gives nothing.
 #![tactic(auto)]
@@ -7,7 +7,7 @@
 mod asked;
 mod changing;
 mod shows;
-mod turns;
+mod turning;
 mod worths;
 
 ghost use Rattle.std.specs.Prelude.{◌≡◌, ◌+◌, ◌≤◌, length};
@@ -15,7 +15,7 @@ ghost use Rattle.std.specs.Prelude.{◌≡◌, ◌+◌, ◌≤◌, length};
 use forms::Width;
 use inputs::read_full;
 use mvcc::AREA;
-use turns::many_turns;
+use turning::many_turns;
 
 // What stands before the calls: where the image lies.
 #[derive(Clone, Copy)]
