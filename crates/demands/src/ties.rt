@@ -24,6 +24,13 @@ pub fn fresh() -> Store
     mvcc::fresh()
 }
 
+// The area is lent: it takes no store before it, and any may stand for one.
+pub fn open(area: &[u8; AREA]) -> Store
+    ensures { (store : Store) → KeptOn store area.now starting (started result) }
+{
+    mvcc::open(area)
+}
+
 // With whatever part `row_of` hands back of the answer.
 pub fn read(store: Store, area: &[u8; AREA], key: &[u8], moment: u64) -> Reading
     requires { Made store area.now }

@@ -1,6 +1,6 @@
 // The public face: document 01's calls under the Rust's names, as they stand in their crates, re-exported and not wrapped, so that no call
 // copies a table for its name; and every type that a call takes or gives back, with the types of its fields, so that a caller names no other
-// crate. `fresh` is the Rust's `new`, `restore` its `restore_from_snapshot_entries`,
+// crate. `fresh` is the Rust's `new`, `open` the same over an area that is lent, `restore` its `restore_from_snapshot_entries`,
 // `capture_snapshot_table` its `capture_snapshot_state` of one table. A store and its area of `AREA` bytes go together: between
 // calls the area is the store's own, and nobody else writes to it. Every call's only premise is that our code made them (`Made`,
 // crates/store/specs/Made.antt). Each call is tied to the demands in crates/demands/src/ties.rt, by its name here.
@@ -10,7 +10,7 @@
 pub use captures::capture_snapshot_table;
 pub use converts::convert_image;
 pub use restores::restore;
-pub use store::fresh;
+pub use store::{fresh, open};
 
 // What a key shows at a moment, and the lock that stands in the way of a read.
 pub use reads::{intent_for_read, primary_of, read, row_of};

@@ -11,5 +11,5 @@ pub mod views;
 
 pub use holders::{held_by, owns};
 pub use intents::put_intent;
-pub use table::{AREA, Line, LockSlot, RecordSlot, Slot, Store, fresh, pairs_in, place_of};
+pub use table::{AREA, Line, LockSlot, RecordSlot, Slot, Store, fresh, open, pairs_in, place_of};
 pub use views::{LineView, LockView, RecordView, past_key, slot_order, view_of};

@@ -86,6 +86,21 @@ pub fn fresh() -> Store
     }
 }
 
+// The same for one area of the right length.
+fn fresh_over(area: &[u8]) -> Store
+    requires { length area.now ≡ 131072 }
+    ensures { FreshStore result area.now }
+{
+    fresh()
+}
+
+// The same for the area that is lent, so that every later call has its premise without a proof.
+pub fn open(area: &[u8; AREA]) -> Store
+    ensures { FreshStore result area.now }
+{
+    fresh_over(area)
+}
+
 // Where the stretch of a slot begins.
 pub fn place_of(s: Slot) -> usize
     ensures { result ≡ place_of s }

@@ -1,0 +1,2 @@
+-- The laws of `mvcc`, for those who call it.
+pub mod Within
