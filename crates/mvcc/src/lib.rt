@@ -33,6 +33,9 @@ pub use collects::collect;
 // Figures of the whole store.
 pub use figures::{allocator_high_water_marks, stats};
 
+// Whether a call was accepted.
+pub use calls::accepted;
+
 // The types that calls take and give back.
 pub use bones::{BoneShown, BonesShown};
 pub use calls::Changed;
