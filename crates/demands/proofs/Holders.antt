@@ -31,7 +31,7 @@ answer_is w (Call.Convert s) (paged r out) p = p.wrote.answer_is.case_is
 answer_is w (Call.Bone r n) (boned b) p = p.answer_is.case_is
 answer_is w (Call.Bones r) (summed b) p = p.answer_is.case_is
 
--- `fresh`, `row_of` and `primary_of` refuse nothing
+-- `fresh`, `open`, `row_of` and `primary_of` refuse nothing
 pub holders : Holders
 holders w starting (started s) p made = accepted-says
 holders w (calling c) g p made =

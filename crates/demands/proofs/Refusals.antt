@@ -152,7 +152,7 @@ module _ (w : Lent) where
 
 -- ---- the theorem
 
--- `fresh`, `row_of`, `primary_of` and the figures refuse nothing
+-- `fresh`, `open`, `row_of`, `primary_of` and the figures refuse nothing
 pub refusals : Refusals
 unfolding scan_page scan_intent_page scan_conflicting_intents
 refusals w starting (started s) p n = absurd (n refl)

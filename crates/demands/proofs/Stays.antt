@@ -3,7 +3,7 @@ use Rattle.rules.specs.Call.{Changing, Call}
 use Rattle.demands.specs.Calls.{started, seen, pointed, handed, paged, changed, stepped, counted, marked, boned, summed, StaysMade, StartsMade}
 use Rattle.demands.specs.Calls.{starting, calling, handing_row, handing_primary}
 
--- `fresh`, with an area of 131,072 bytes
+-- `fresh` and `open`, with an area of 131,072 bytes
 pub starts-made : StartsMade
 starts-made w (started s) p = p.made
 

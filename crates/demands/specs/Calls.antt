@@ -47,7 +47,7 @@ use Rattle.converts.specs.Promise.{ImageConverted}
 
 -- a public call with its arguments, but for what it is lent
 pub data Public : Type 0 where
-  -- fresh
+  -- fresh and open
   starting : Public
   -- a call of document 01 or 02. prewrite, commit_intent and rollback_intent are their batches at the bytes of a batch of one.
   calling : Call → Public
@@ -241,7 +241,7 @@ after w (summed b) = w
 
 -- the call, made on `w`, gave this, and kept its promise
 abbrev pub Kept : Lent → (c : Public) → Given (gives c) → Type 0
--- `fresh` promises it of every area of 131,072 bytes
+-- `fresh` promises it of every area of 131,072 bytes, `open` of the one that it is lent
 Kept w starting (started s) = FreshStore s w.area
 Kept w (calling (Call.Read k m)) (seen r part) = ReadAs (examine (floor_in w) k m (box_in w)) w.area r × RowPart w.area r.seen part
 Kept w (calling (Call.Page a m l)) (paged r out) = WroteAs (scan_page (floor_in w) a m l (box_in w) w.buffer) r out
@@ -314,6 +314,6 @@ OneRefusal = (w : Lent) (c : Public) (g q : Given (gives c)) → Kept w c g → 
 abbrev pub StaysMade : Type 0
 StaysMade = (w : Lent) (c : Public) (g : Given (gives c)) → Kept w c g → MadeIn w → MadeIn (after w g)
 
--- and `fresh` is how one begins: it asks nothing of a store before it
+-- and `fresh` or `open` is how one begins: it asks nothing of a store before it
 abbrev pub StartsMade : Type 0
 StartsMade = (w : Lent) (g : Given a_store) → Kept w starting g → MadeIn (after w g)

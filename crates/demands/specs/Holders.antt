@@ -7,7 +7,7 @@ use Rattle.rules.specs.Box.{Box, Lock}
 use Rattle.ledger.specs.Holders.{Bars, HolderSays}
 use Rattle.demands.specs.Calls.{Public, starting, calling, handing_row, handing_primary, gives, Lent, box_in, Given, answer_in, Kept, MadeIn}
 
--- why a lock bars a public call: "key locked by another, or at or before the reading moment". Nothing bars `fresh`, `row_of` and `primary_of`.
+-- why a lock bars a public call: "key locked by another, or at or before the reading moment". Nothing bars `fresh`, `open`, `row_of` and `primary_of`.
 abbrev pub BarsAt : Public → Box → Key → Lock → Type 0
 BarsAt starting b k l = ⊥
 BarsAt (calling c) b k l = Bars c b k l
