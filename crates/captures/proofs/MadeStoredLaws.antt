@@ -5,7 +5,6 @@ use Prim.Native.Nat.{ℕ, zero, suc, ◌+◌, ◌<◌}
 use native.Mathlib.Omega.{arith}
 use mathlib.Core.Path.{◌≡◌, sym, ap, ◌∙◌, subst}
 use mathlib.Core.Bool.{Bool, true, false, true≢false}
-use mathlib.Core.Option.{some}
 use mathlib.Core.List.{List, [], ◌∷◌, map}
 use lib.ListN.{length, take, drop, length-take}
 use Rattle.seqs.specs.Tables.{All, shown}
@@ -19,12 +18,11 @@ use Rattle.rules.specs.Box.{start_of, kind_in, put_in, insert_by}
 use Rattle.rules.specs.Room.{Fits, load_of, room_for}
 use Rattle.rules.specs.declared.written.Wrote.{Wrote}
 use Rattle.rules.specs.Calls.{State}
-use Rattle.rules.specs.Image.{image}
 use Rattle.rules.specs.Restore.{restore}
-use Rattle.rules.specs.Capture.{part_of, entries_of, image_of, Word, LineWords, Words}
+use Rattle.rules.specs.Capture.{part_of, image_of, Word, LineWords, Words}
 use Rattle.rules.proofs.RoomLaws.{fits_in}
 use Rattle.ledger.specs.BoxImages.{Stored, TableNumber}
-use Rattle.ledger.proofs.BoxImages.{read_back, capture-restores}
+use Rattle.ledger.proofs.BoxImages.{capture-restores}
 use Rattle.store.specs.declared.table.Line.{Line}
 use Rattle.store.specs.declared.table.Line.TheVariants.{Standing, Finished}
 use Rattle.store.specs.declared.table.Slot.{Slot}
@@ -95,10 +93,6 @@ module _ {st : Store} {area : Bytes} (m : Made st area) (g : AllBytes area) (f :
     above = m.above;
     floor_word = f;
   }
-
-  -- what was written is read as the table's entries
-  pub written-reads : (t : ℕ) → TableNumber t → {s : Bytes} → s ≡ image_of st.floor t (box_of st area) → image s ≡ some (entries_of st.floor t (box_of st area))
-  written-reads t n e = ap image e ∙ read_back st.floor t n (box_of st area) made-stored
 
   -- "Restoring what was written gives that table's part of the store"
   pub written-restores : (t : ℕ) → TableNumber t → {s : Bytes} → s ≡ image_of st.floor t (box_of st area)

@@ -13,7 +13,7 @@ use Rattle.rules.specs.Box.{Box, in_order}
 use Rattle.rules.specs.Calls.{State, Ended}
 use Rattle.rules.specs.Written.{Written, write_if, WroteAs}
 use Rattle.rules.specs.Restore.{state_of, restore}
-use Rattle.rules.specs.Capture.{part_of, entries_of, image_of, capture_if, capture_image}
+use Rattle.rules.specs.Capture.{part_of, image_of, capture_if, capture_image}
 use Rattle.rules.proofs.AscendLaws.{part_ascends}
 use Rattle.laws.proofs.ImageBoxLaws.{box_of-order}
 use Rattle.laws.proofs.TablePartLaws.{part-again}
@@ -65,7 +65,7 @@ restores-part w v t r out q area x k =
     (k.answer_is.case_is ∙ ap (λ (d : Ended). d.answer) e, k.shown ∙ ap (λ (d : Ended). d.state) e)
 
 pub written-ascends : WrittenAscends
-written-ascends w t r out v = (entries_of (floor_in w) t (box_in w), v.kept.reads v.accepted, part_ascends (floor_in w) t (box_in w) (part-ordered v))
+written-ascends w t r out v = (image-is v, part_ascends (floor_in w) t (box_in w) (part-ordered v))
 
 -- equal bytes restore to one state
 states : {w v : Lent} {t : ℕ} {r s : Wrote} {out out' : Bytes} → Writes w t r out → Writes v t s out' → image_in r out ≡ image_in s out'

@@ -4,14 +4,12 @@
 -- proofs/StoreImages.antt has the theorems.
 -- Assumes nothing.
 use Rattle.std.specs.Prelude.{ℕ, ◌≡◌, ◌↔◌}
-use Rattle.std.proofs.Math.Option.{some}
 use Rattle.forms.specs.Bytes.{Bytes}
 use Rattle.rules.specs.declared.answers.Answer.TheVariants.{Accepted}
 use Rattle.rules.specs.declared.written.Wrote.{Wrote}
 use Rattle.rules.specs.Calls.{State}
 use Rattle.rules.specs.Call.{Call}
-use Rattle.rules.specs.Image.{Image, image}
-use Rattle.rules.specs.Capture.{part_of, AscendingImage}
+use Rattle.rules.specs.Capture.{part_of, entries_of, image_of, AscendingImage}
 use Rattle.ledger.specs.BoxImages.{HoldsOnly}
 use Rattle.store.specs.View.{state_shown}
 use Rattle.captures.specs.Promise.{image_in}
@@ -23,9 +21,12 @@ pub record Writes (w : Lent) (t : ℕ) (r : Wrote) (out : Bytes) : Type 0 where
   pub kept : Kept w (calling (Call.Capture t)) (paged r out)
   pub accepted : r.answer ≡ Accepted
 
--- "defaults, locks, writes, each ascending by key, then stamp": the bytes are an image whose entries so ascend
+-- "defaults, locks, writes, each ascending by key, then stamp": the bytes are those of the table's entries, which so ascend
 abbrev pub WrittenAscends : Type 0
-WrittenAscends = (w : Lent) (t : ℕ) (r : Wrote) (out : Bytes) → Writes w t r out → (i : Image) × (image (image_in r out) ≡ some i) × AscendingImage i
+WrittenAscends =
+    (w : Lent) (t : ℕ) (r : Wrote) (out : Bytes)
+    → Writes w t r out
+    → (image_in r out ≡ image_of (floor_in w) t (box_in w)) × AscendingImage (entries_of (floor_in w) t (box_in w))
 
 -- "that table's part of the store", and the store's floor
 abbrev pub part_state : ℕ → Lent → State
