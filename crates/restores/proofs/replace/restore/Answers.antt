@@ -1,4 +1,5 @@
 use Rattle.restores.proofs.RestoreLaws.{filling-start, rows_few, line-asks, filling-more, restore-refused, restore-done}
+use borrow.Author.Rules.{rules}
 use native.Mathlib.Omega.{arith}
 use Prim.Native.Nat.{◌-◌}
 use mathlib.Core.Path.{sym}
@@ -6,7 +7,7 @@ use lib.Seq.{length-take-le}
 use Rattle.restores.proofs.replace.restore.Goals as goal
 
 pub loop-k-init : goal.loop-k-init
-loop-k-init c = filling-start c.verdict-v.ensures c.accepted.ensures (cc) c.requires c.longer-end.ensures
+loop-k-init c = filling-start c.verdict-v.ensures c.accepted.ensures (search rules) c.requires c.longer-end.ensures
 
 pub slice_bounds-put_line-end-in-loop-k : goal.slice_bounds-put_line-end-in-loop-k
 slice_bounds-put_line-end-in-loop-k c = sym (length-take-le _ _ (rows_few c.loop-k.invariant))
