@@ -47,7 +47,7 @@ use Rattle.store.specs.View.{eight_at, line_in, place_of, past, row_len, key_of,
 use Rattle.store.specs.Made.{SlotBelow, Built, store_of}
 use Rattle.store.specs.Views.{view_in, view_of, RowThere}
 use Rattle.lookups.specs.KeyStates.{locked_by, nothing_at, see_line, LockThere, HistoryAt, stamp_line, record_place, KeyStateAt}
-use Rattle.store.proofs.BuiltLaws.{es, ds, slot, slot-in, lines-order, same, inside, row-there}
+use Rattle.store.proofs.BuiltLaws.{es, ds, slot, lines-order, same, inside, row-there}
 use Rattle.lookups.proofs.HistoryLaws.{history-none, history-more, examined-few, records-append, or_lock, lock-append}
 
 -- p is the lesser of i and n
@@ -70,18 +70,16 @@ pub round-left : (rounds : ℕ) {d : ℕ} → d < 2 ^ rounds → 0 < d → 0 < r
 round-left zero f g = absurd (omega (arith, f, g, pow-zero 2))
 round-left (suc r) f g = omega arith
 
--- for half of the range, or less, one round fewer suffices
-half-fits : (rounds : ℕ) {d rest : ℕ} → d < 2 ^ rounds → 0 < d → rest ≤ d / 2 → rest < 2 ^ (rounds - 1)
+-- "shall halve its range": for half of the range, or less, one round fewer suffices
+pub half-fits : (rounds : ℕ) {d rest : ℕ} → d < 2 ^ rounds → 0 < d → rest ≤ d / 2 → rest < 2 ^ (rounds - 1)
 half-fits zero f g h = absurd (omega (arith, round-left zero f g))
 half-fits (suc r) {rest} f g h = let e : r ≡ suc r - 1 = omega arith in subst (λ (n : ℕ). rest < 2 ^ n) e (omega (arith, f, h, pow-suc 2 r))
 
--- the search: the place of the key's first line is at least `low` and at most `high`, and so many rounds, each of which halves the range, leave
--- nothing of it
-pub record Halving (area key : Bytes) (slots : List Slot) (n low high rounds : ℕ) : Type 0 where
+-- the search: the place of the key's first line is at least `low` and at most `high`
+pub record Halving (area key : Bytes) (slots : List Slot) (n low high : ℕ) : Type 0 where
   pub from : low ≤ lines_before key (shown (line_of area) n slots)
   pub to : lines_before key (shown (line_of area) n slots) ≤ high
   pub count_fits : high ≤ n
-  pub enough : high - low < 2 ^ rounds
 
 -- the walk: what was seen is what the lines before `i` say of the key; `i` is its first place or past it
 pub record Looking (area key : Bytes) (start stamp : ℕ) (slots : List Slot) (n i : ℕ) (seen : KeyState) : Type 0 where
@@ -132,28 +130,27 @@ module _ {st : Store} {area : Bytes} (b : Built st area) (k : Key) where
     below-here : lt_bytes (key_of area (slot b i)) k ≡ ltb i first
     below-here = ap (λ (x : box.KeyLine). lt_bytes x.key k) (sym at_here) ∙ line-below k (es b) (lines-order b) i (line_of area no_slot) within
 
-  pub halving-start : {rounds : ℕ} → 1024 < 2 ^ rounds → Halving area k st.lines st.load.lines 0 st.load.lines rounds
-  halving-start f = record { from = omega arith; to = first-in; count_fits = omega arith; enough = omega (arith, f, b.lines.count_fits) }
+  pub halving-start : Halving area k st.lines st.load.lines 0 st.load.lines
+  halving-start = record { from = omega arith; to = first-in; count_fits = omega arith }
 
-  -- "shall halve its range": a round compares the line at a place of the range, and leaves half of it or less
-  module _ {low high rounds mid : ℕ} (v : Halving area k st.lines st.load.lines low high rounds) (h : low < high) (l : mid < high) where
-    mid-in : mid < st.load.lines
+  module _ {low high : ℕ} (v : Halving area k st.lines st.load.lines low high) (h : low < high) where
+    abbrev mid : ℕ
+    mid = low + (high - low) / 2
+
+    pub mid-in : mid < st.load.lines
     mid-in = omega (arith, v.count_fits)
 
-    pub key-in : place_of (slot b mid) + (slot b mid).len ≤ length area
-    key-in = omega (arith, slot-in b mid mid-in)
-
-    pub halving-up : is_less (cmp (key_of area (slot b mid)) k) ≡ true → high - (mid + 1) ≤ (high - low) / 2 → Halving area k st.lines st.load.lines (mid + 1) high (rounds - 1)
+    pub halving-up : is_less (cmp (key_of area (slot b mid)) k) ≡ true → Halving area k st.lines st.load.lines (mid + 1) high
     unfolding lt_bytes
-    halving-up c g = record { from = omega (arith, ltb-true mid first (sym (below-here mid mid-in) ∙ c)); to = v.to; count_fits = v.count_fits; enough = half-fits rounds v.enough (omega arith) g }
+    halving-up c = record { from = omega (arith, ltb-true mid first (sym (below-here mid mid-in) ∙ c)); to = v.to; count_fits = v.count_fits }
 
-    pub halving-down : is_less (cmp (key_of area (slot b mid)) k) ≡ false → mid - low ≤ (high - low) / 2 → Halving area k st.lines st.load.lines low mid (rounds - 1)
+    pub halving-down : is_less (cmp (key_of area (slot b mid)) k) ≡ false → Halving area k st.lines st.load.lines low mid
     unfolding lt_bytes
-    halving-down c g = record { from = v.from; to = ltb-false mid first (sym (below-here mid mid-in) ∙ c); count_fits = omega (arith, mid-in); enough = half-fits rounds v.enough (omega arith) g }
+    halving-down c = record { from = v.from; to = ltb-false mid first (sym (below-here mid mid-in) ∙ c); count_fits = omega (arith, mid-in) }
 
 module _ {st : Store} {area : Bytes} (b : Built st area) (k : Key) (start stamp : ℕ) where
   -- where the search ends, the walk begins
-  nothing_seen : {low high rounds : ℕ} → Halving area k st.lines st.load.lines low high rounds → high ≤ low → Looking area k start stamp st.lines st.load.lines low (nothing_at low)
+  nothing_seen : {low high : ℕ} → Halving area k st.lines st.load.lines low high → high ≤ low → Looking area k start stamp st.lines st.load.lines low (nothing_at low)
   nothing_seen {low} {high} v e =
       let f : low ≡ lines_before k (es b) = omega (arith, v.from, v.to) in
       let p = record-place k (record_for 0 stamp Put) (es b) (lines-order b) in
@@ -170,7 +167,7 @@ module _ {st : Store} {area : Bytes} (b : Built st area) (k : Key) (start stamp 
             subst (λ (ws : List Record). HistoryAt top area (ds b) k start stamp ws (nothing_at low).history) (sym (ap (box.records_of k) t ∙ (none_below k (es b)).1)) history-none;
       }
 
-  pub looking-start : {low high rounds : ℕ} {seen : KeyState} → Halving area k st.lines st.load.lines low high rounds → high ≤ low → seen ≡ nothing_at low
+  pub looking-start : {low high : ℕ} {seen : KeyState} → Halving area k st.lines st.load.lines low high → high ≤ low → seen ≡ nothing_at low
       → Looking area k start stamp st.lines st.load.lines low seen
   looking-start {low} v e q = subst (Looking area k start stamp st.lines st.load.lines low) (sym q) (nothing_seen v e)
 

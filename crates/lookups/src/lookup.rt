@@ -197,7 +197,7 @@ pub fn look_up(
     let mut rounds = ROUNDS;
     while low < high {
         rounds -= 1;
-        let mid = (low + high) / 2;
+        let mid = low + (high - low) / 2;
         match slot_order(lines[mid], area, key) {
             Order::Less => low = mid + 1,
             Order::Equal => high = mid,

@@ -1,13 +1,13 @@
 -- `lookups::lookup::look_up` meets its contract. The first loop's invariant: the place of the key's first line is at least `low` and at most
--- `high`, and the rounds that are left suffice (`Halving` of `LookUpLaws`). A round must leave half of the range or less, and 11 rounds suffice for
+-- `high` (`Halving` of `LookUpLaws`), and so many rounds as are left, each of which halves the range, leave nothing of it. 11 rounds suffice for
 -- 1,024 lines. The second's: what was seen is what the lines before `i` say of the key (`Looking`).
 -- Assumes nothing.
 use Rattle.lookups.proofs.LookUpLaws.{Halving, Looking}
-use Prim.Native.Nat.{◌-◌}
+use Prim.Native.Nat.{◌-◌, ◌^◌, ◌<◌}
 use Rattle.lookups.proofs.lookup.look_up.Given as goal
 
 abbrev pub invariant-loop-low : goal.invariant-loop-low
-invariant-loop-low l = Halving l.area l.key l.lines l.n l.low l.high l.rounds
+invariant-loop-low l = record { halving : Halving l.area l.key l.lines l.n l.low l.high; enough : l.high - l.low < 2 ^ l.rounds }
 
 abbrev pub decreases-loop-low : goal.decreases-loop-low
 decreases-loop-low l = l.high - l.low
