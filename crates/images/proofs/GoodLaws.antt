@@ -1,4 +1,4 @@
--- One entry of an image: `ofTable`, `soundLock` and `fits` by the tests that a program makes of them, one law for each way out.
+-- One entry of an image: `of_table`, `sound_lock` and `fits` by the tests that a program makes of them, one law for each way out.
 -- Assumes nothing.
 use Prim.Native.Nat.{ℕ}
 use native.Mathlib.Omega.{arith}

@@ -1,4 +1,4 @@
--- The order of a box: `before` and `rowBefore` are transitive and irreflexive, and of two lines (or defaults) that do not share a place one
+-- The order of a box: `before` and `row_before` are transitive and irreflexive, and of two lines (or defaults) that do not share a place one
 -- is before the other. A lock where none stands, a record at a stamp where none stands, and a default where none is stored come in order;
 -- what goes leaves the others in order. Two boxes in order with the same entries are equal. Assumes nothing.
 use Prim.Native.Nat.{ℕ, ◌<◌}

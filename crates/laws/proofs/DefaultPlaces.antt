@@ -1,4 +1,4 @@
--- The defaults of a key stand together, by start. The row of a key and a start, if there is one, stands at the place `pairsBefore`: a lookup
+-- The defaults of a key stand together, by start. The row of a key and a start, if there is one, stands at the place `pairs_before`: a lookup
 -- finds it there, it goes from there, and a default that comes goes in there. Assumes nothing.
 use Prim.Native.Nat.{ℕ, zero, suc, ◌+◌, ◌≤◌, ◌<◌}
 use native.Mathlib.Omega.{arith}

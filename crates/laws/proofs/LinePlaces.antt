@@ -1,4 +1,4 @@
--- The lines of a key stand together, its standing intent first and then its records by stamp, from the place `linesBefore k es` on. So what a
+-- The lines of a key stand together, its standing intent first and then its records by stamp, from the place `lines_before k es` on. So what a
 -- lookup finds there is the key's lock and records, a lock goes from there, and a lock or a record that comes goes in there or past it.
 -- Assumes nothing.
 use Prim.Native.Nat.{ℕ, zero, suc, ◌+◌, ◌<◌}

@@ -1,4 +1,4 @@
--- Places in a list in order, over every test `lt`: a test that holds of all before one that it holds of holds of the first `howMany`, and of
+-- Places in a list in order, over every test `lt`: a test that holds of all before one that it holds of holds of the first `how_many`, and of
 -- no other. So a search by halves or by steps finds that number, and what comes goes in there. Assumes nothing.
 use Prim.Native.Nat.{ℕ, zero, suc, ◌-◌, ◌≤◌, ◌<◌}
 use native.Mathlib.Omega.{arith}

@@ -1,4 +1,4 @@
--- `soundRecord` by the tests that a program makes of it, one law for each way out. Assumes nothing.
+-- `sound_record` by the tests that a program makes of it, one law for each way out. Assumes nothing.
 use mathlib.Core.Path.{◌≡◌, ◌∙◌}
 use mathlib.Core.Bool.{Bool, false}
 use borrow.Author.Tests.{eq-eqb, ne_eqb}

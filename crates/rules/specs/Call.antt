@@ -15,7 +15,7 @@ use Rattle.rules.specs.OneStep.{one_step}
 use Rattle.rules.specs.Collect.{collect}
 
 -- the calls of demand 3, "prewrites, commits, rollbacks and one-step batches", and document 02's collections: a batch is its bytes, in form or
--- not. A single form is its batch of one (`oneMutation`, `oneKey`), whose entry is the call's own wherever it is accepted (`prewrite-named` of
+-- not. A single form is its batch of one (`one_mutation`, `one_key`), whose entry is the call's own wherever it is accepted (`prewrite-named` of
 -- laws/proofs/Singles, and so on)
 pub data Changing : Type 0 where
   Prewrite : PrewriteTerms → (batch : Bytes) → Changing

@@ -179,7 +179,7 @@ with_key k nothing = nothing
 with_key k (shown r) = shown (record { key = k; row = r })
 with_key k (refused v) = refused v
 
--- "Each key is read first". The page asks the floor once for all keys (`rowPageSteps`), so each is read as on the floor 0: at or above the floor
+-- "Each key is read first". The page asks the floor once for all keys (`row_page_steps`), so each is read as on the floor 0: at or above the floor
 -- the two are the same (`read_above` of FloorLaws).
 unfoldable pub read_key : ℕ → Box → Key → Reply KeyRow
 read_key moment b k = with_key k (read 0 k moment b)

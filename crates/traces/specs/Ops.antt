@@ -1,4 +1,4 @@
--- docs/TRACE.md, the table of calls: its op bytes. An op byte without a line in `knownOps`, here and in src/op.rt, is unknown.
+-- docs/TRACE.md, the table of calls: its op bytes. An op byte without a line in `known_ops`, here and in src/op.rt, is unknown.
 -- Assumes nothing.
 use Rattle.std.specs.Prelude.{ℕ, Bool, true, false, ◌||◌, List, [], ◌∷◌, eqb}
 use Rattle.std.proofs.Math.Option.{Option, none, some}
