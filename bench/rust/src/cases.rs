@@ -73,7 +73,7 @@ const COPIED: u8 = 4;
 const WRITTEN: u8 = 11;
 const COLLECTED: u8 = 12;
 
-/// The kind of call, as crates/bench numbers it (its turning.rt).
+/// The kind of call, as crates/bench numbers it (its ways.rt).
 fn kind_of(way: u8, call: &Call) -> u8 {
     match call {
         Call::Read { .. } => 1,

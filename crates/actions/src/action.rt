@@ -2,12 +2,14 @@
 ghost use Rattle.std.specs.Prelude.{◌≡◌};
 ghost use Rattle.actions.specs.Actions.{point_of, most_of};
 
+use rules::CommitTerms;
+
 #[derive(Clone, Copy)]
 pub enum Action {
     Prewrite { txn: u64, start: u64, ttl: u64 },
-    Commit { txn: u64, start: u64, commit: u64 },
+    Commit(CommitTerms),
     Rollback { txn: u64, start: u64 },
-    Step { txn: u64, start: u64, commit: u64 },
+    Step(CommitTerms),
 }
 
 // The start and the stamp that a key is looked up with.
@@ -21,21 +23,14 @@ pub fn point_of(action: Action) -> Point
     ensures { result ≡ point_of action }
 {
     match action {
-        Action::Prewrite { txn, start, ttl } => Point {
-            start: start,
-            stamp: 0,
+        Action::Prewrite { start, .. } => Point { start, stamp: 0 },
+        Action::Commit(terms) | Action::Step(terms) => Point {
+            start: terms.start,
+            stamp: terms.commit,
         },
-        Action::Commit { txn, start, commit } => Point {
-            start: start,
-            stamp: commit,
-        },
-        Action::Rollback { txn, start } => Point {
-            start: start,
+        Action::Rollback { start, .. } => Point {
+            start,
             stamp: start,
-        },
-        Action::Step { txn, start, commit } => Point {
-            start: start,
-            stamp: commit,
         },
     }
 }
@@ -46,9 +41,8 @@ pub fn most_of(action: Action) -> usize
     ensures { result ≡ most_of action }
 {
     match action {
-        Action::Prewrite { txn, start, ttl } => 376,
-        Action::Commit { txn, start, commit } => 320,
-        Action::Rollback { txn, start } => 65,
-        Action::Step { txn, start, commit } => 320,
+        Action::Prewrite { .. } => 376,
+        Action::Commit(_) | Action::Step(_) => 320,
+        Action::Rollback { .. } => 65,
     }
 }

@@ -1,73 +1,62 @@
 // A call's arguments in the input: three numbers of 8 bytes; the lengths of the primary, of the key, and of the row or the batch, 2 bytes each;
 // then their bytes. A call that has no such argument has zeros and no bytes there.
-ghost use Rattle.std.specs.Prelude.{◌<◌, length};
-ghost use Rattle.bench.specs.Asks.{AskedAt};
+ghost use Rattle.std.specs.Prelude.{◌<◌, length, IfSome};
 
-use forms::Width;
+use forms::{Width, number_at};
 
-// The numbers, where each of the others begins, and where the next call begins.
 #[derive(Clone, Copy)]
-pub struct Asked {
+pub struct Asked<'a> {
     pub one: u64,
     pub two: u64,
     pub three: u64,
-    pub primary: usize,
-    pub key: usize,
-    pub row: usize,
-    pub next: usize,
+    pub primary: &'a [u8],
+    pub key: &'a [u8],
+    pub row: &'a [u8],
 }
 
-// Bytes that are too few for a call: zeros, no bytes, and the end.
-fn no_call(at: usize, end: usize) -> Asked
-    requires { at < end }
-    ensures { AskedAt at end result }
+// A number of 8 bytes, and a length of 2, in the 30 bytes before a call's own.
+fn number_in(head: &[u8], at: usize) -> u64 {
+    number_at(head, at, Width::Eight).unwrap_or(0)
+}
+
+fn length_in(head: &[u8], at: usize) -> usize {
+    number_at(head, at, Width::Two).unwrap_or(0) as usize
+}
+
+// The first call of these bytes, and the bytes after it; nothing where they are too few for one.
+fn whole_call(s: &[u8]) -> Option<(Asked<'_>, &[u8])>
+    ensures { IfSome result (λ r. length r.1.now < length s.now) }
 {
-    Asked {
-        one: 0,
-        two: 0,
-        three: 0,
-        primary: end,
-        key: end,
-        row: end,
-        next: end,
-    }
+    let (head, rest) = s.split_at_checked(30)?;
+    let (primary, rest) = rest.split_at_checked(length_in(head, 24))?;
+    let (key, rest) = rest.split_at_checked(length_in(head, 26))?;
+    let (row, rest) = rest.split_at_checked(length_in(head, 28))?;
+    let asked = Asked {
+        one: number_in(head, 0),
+        two: number_in(head, 8),
+        three: number_in(head, 16),
+        primary,
+        key,
+        row,
+    };
+    Some((asked, rest))
 }
 
-// A number of 8 bytes, and a length of 2; 0 where the bytes are too few.
-fn number_of(s: &[u8], at: usize) -> u64 {
-    let n = forms::number_at(s, at, Width::Eight);
-    n.value
-}
-
-fn length_of(s: &[u8], at: usize) -> usize
-    ensures { result < 65536 }
+// The same, and where the bytes are too few a call with zeros and no bytes, which is the last.
+pub fn first_call(s: &[u8]) -> (Asked<'_>, &[u8])
+    requires { 0 < length s.now }
+    ensures { length result.1.now < length s.now }
 {
-    let n = forms::number_at(s, at, Width::Two);
-    n.value as usize
-}
-
-pub fn asked_at(s: &[u8], at: usize) -> Asked
-    requires { at < length s.now }
-    ensures { AskedAt at (length s.now) result }
-{
-    let end = s.len();
-    if end - at < 30 {
-        return no_call(at, end);
-    }
-    let primary = at + 30;
-    let key = primary + length_of(s, at + 24);
-    let row = key + length_of(s, at + 26);
-    let next = row + length_of(s, at + 28);
-    if end < next {
-        return no_call(at, end);
-    }
-    Asked {
-        one: number_of(s, at),
-        two: number_of(s, at + 8),
-        three: number_of(s, at + 16),
-        primary: primary,
-        key: key,
-        row: row,
-        next: next,
-    }
+    let none = &s[..0];
+    whole_call(s).unwrap_or((
+        Asked {
+            one: 0,
+            two: 0,
+            three: 0,
+            primary: none,
+            key: none,
+            row: none,
+        },
+        none,
+    ))
 }

@@ -2,98 +2,95 @@
 ghost use Rattle.std.specs.Prelude.{◌≡◌, ◌≤◌, length, take};
 ghost use Rattle.forms.specs.Writers.{Laid};
 ghost use Rattle.store.specs.Made.{Made};
-ghost use Rattle.bench.specs.Asks.{CallAsks};
 
 use crate::asked::Asked;
-use crate::worths::{of_changed, of_load};
-use mvcc::{AREA, Changed, Store};
-use std::num::wrapping_add_u64;
+use crate::worths::{of_answer, of_count, of_load};
+use mvcc::{AREA, Refusal, Store};
 
 // The first `top` bytes of one area over those of another.
 pub fn copy_below(from: &[u8], to: &mut [u8], top: usize)
     requires { (top ≤ length from.now) × (top ≤ length to.old) }
     ensures { Laid 0 top (take top from.now) to.old top to.new }
 {
-    forms::put_bytes(to, 0, &from[..top]);
+    to[..top].copy_from_slice(&from[..top]);
 }
 
 // A Put's prewrite.
-fn locked(store: Store, area: &mut [u8; AREA], s: &[u8], a: Asked) -> Changed
-    requires { CallAsks store area.old s.now a }
-    ensures { Made result.store area.new }
+fn prewrite(store: &mut Store, area: &mut [u8; AREA], asked: Asked) -> Result<(), Refusal>
+    requires { Made store.old area.old }
+    ensures { Made store.new area.new }
 {
-    let p = a.primary;
-    let k = a.key;
-    let r = a.row;
-    let e = a.next;
     mvcc::prewrite(
         store,
         area,
-        a.one,
-        a.two,
-        a.three,
-        &s[p..k],
-        &s[k..r],
+        asked.one,
+        asked.two,
+        asked.three,
+        asked.primary,
+        asked.key,
         true,
-        &s[r..e],
+        asked.row,
     )
 }
 
-pub fn prewrite_once(store: Store, area: &mut [u8; AREA], s: &[u8], a: Asked) -> u64
-    requires { CallAsks store area.old s.now a }
-    ensures { length area.new ≡ 131072 }
+// A commit at one above the start.
+fn commit(store: &mut Store, area: &mut [u8; AREA], asked: Asked) -> Result<(), Refusal>
+    requires { Made store.old area.old }
+    ensures { Made store.new area.new }
 {
-    of_changed(locked(store, area, s, a))
+    let commit = asked.two.wrapping_add(1);
+    mvcc::commit_intent(store, area, asked.one, asked.two, commit, asked.key)
 }
 
-pub fn commit_once(store: Store, area: &mut [u8; AREA], key: &[u8], txn: u64, start: u64) -> u64
-    requires { Made store area.old }
-    ensures { length area.new ≡ 131072 }
-{
-    let commit = wrapping_add_u64(start, 1);
-    of_changed(mvcc::commit_intent(store, area, txn, start, commit, key))
+// What a change is worth: its answer and the store that it leaves.
+fn worth(answer: Result<(), Refusal>, store: &Store) -> u64 {
+    of_answer(answer).wrapping_add(of_load(store.load))
 }
 
-// A prewrite, and its commit at one above its start.
-pub fn pair_once(store: Store, area: &mut [u8; AREA], s: &[u8], a: Asked) -> u64
-    requires { CallAsks store area.old s.now a }
-    ensures { length area.new ≡ 131072 }
+pub fn prewrite_once(store: &mut Store, area: &mut [u8; AREA], asked: Asked) -> u64
+    requires { Made store.old area.old }
+    ensures { Made store.new area.new }
 {
-    let done = locked(store, area, s, a);
-    let held = done.store;
-    let k = a.key;
-    let r = a.row;
-    commit_once(held, area, &s[k..r], a.one, a.two)
+    worth(prewrite(store, area, asked), store)
 }
 
-pub fn rollback_once(store: Store, area: &mut [u8; AREA], key: &[u8], txn: u64, start: u64) -> u64
-    requires { Made store area.old }
-    ensures { length area.new ≡ 131072 }
+pub fn commit_once(store: &mut Store, area: &mut [u8; AREA], asked: Asked) -> u64
+    requires { Made store.old area.old }
+    ensures { Made store.new area.new }
 {
-    of_changed(mvcc::rollback_intent(store, area, txn, start, key))
+    worth(commit(store, area, asked), store)
 }
 
-pub fn step_once(store: Store, area: &mut [u8; AREA], batch: &[u8], txn: u64, start: u64) -> u64
-    requires { Made store area.old }
-    ensures { length area.new ≡ 131072 }
+// A prewrite, and its commit, whatever the prewrite answered.
+pub fn pair_once(store: &mut Store, area: &mut [u8; AREA], asked: Asked) -> u64
+    requires { Made store.old area.old }
+    ensures { Made store.new area.new }
 {
-    let commit = wrapping_add_u64(start, 1);
-    let done = mvcc::commit_batch(store, area, txn, start, commit, batch);
-    let answer = done.answer;
-    let load = done.store.load;
-    wrapping_add_u64(of_load(answer, load), done.count as u64)
+    let _ = prewrite(store, area, asked);
+    commit_once(store, area, asked)
 }
 
-pub fn restore_once(store: Store, area: &mut [u8; AREA], image: &[u8]) -> u64
-    requires { Made store area.old }
-    ensures { length area.new ≡ 131072 }
+pub fn rollback_once(store: &mut Store, area: &mut [u8; AREA], asked: Asked) -> u64
+    requires { Made store.old area.old }
+    ensures { Made store.new area.new }
 {
-    of_changed(mvcc::restore(store, area, image))
+    let answer = mvcc::rollback_intent(store, area, asked.one, asked.two, asked.key);
+    worth(answer, store)
 }
 
-// A collection reads the area and changes none of it.
-pub fn collect_once(store: Store, area: &[u8; AREA], floor: u64) -> u64
-    requires { Made store area.now }
+pub fn step_once(store: &mut Store, area: &mut [u8; AREA], asked: Asked) -> u64
+    requires { Made store.old area.old }
+    ensures { Made store.new area.new }
 {
-    of_changed(mvcc::collect(store, area, floor))
+    let commit = asked.two.wrapping_add(1);
+    let answer = mvcc::commit_batch(store, area, asked.one, asked.two, commit, asked.row);
+    of_count(answer).wrapping_add(of_load(store.load))
+}
+
+pub fn restore_once(store: &mut Store, area: &mut [u8; AREA], image: &[u8]) -> u64
+    requires { Made store.old area.old }
+    ensures { Made store.new area.new }
+{
+    let answer = mvcc::restore(store, area, image);
+    worth(answer, store)
 }

@@ -1,163 +1,119 @@
-// The turns: each makes every call of the input once, each call on the same box. All calls of an input are of one kind, a number: 1 read,
-// 2 page, 3 statistics, 11 image, 12 collection; and, each on a copy of the area, 5 prewrite, 6 commit, 7 prewrite and commit, 8 rollback, 9
-// one-step batch, 10 restore.
-// 0 makes no call, and 4 only the copy: what such a turn takes is to be subtracted.
+// The turns: each makes every call of the input once, each call on the same box.
 ghost use Rattle.std.specs.Prelude.{◌≡◌, length};
-ghost use Rattle.bench.specs.Asks.{AskedIn, CallAsks, TurnAsks};
+ghost use Rattle.store.specs.Made.{Made};
+ghost use Rattle.bench.specs.Asks.{TurnAsks};
 
-use crate::asked::{Asked, asked_at};
+use crate::asked::{Asked, first_call};
 use crate::changing::{
-    collect_once, commit_once, copy_below, pair_once, prewrite_once, restore_once, rollback_once,
-    step_once,
+    commit_once, copy_below, pair_once, prewrite_once, restore_once, rollback_once, step_once,
 };
-use crate::shows::{image_once, page_once, read_once, stats_once};
+use crate::shows::{collect_once, image_once, page_once, read_once, stats_once};
+use crate::ways::{Change, Show, Way};
 use mvcc::{AREA, Store};
-use std::num::wrapping_add_u64;
 
-// A call that leaves the area as it was: one that shows something, or a collection. A page or an image is written over the front of `out`. The
-// moment is the call's and one above it, turn about: no record of the boxes stands between the two.
+// What the calls are made on: a store, its area, and the image that it was restored from.
+#[derive(Clone, Copy)]
+pub struct Subject<'a> {
+    pub store: &'a Store,
+    pub area: &'a [u8; AREA],
+    pub image: &'a [u8],
+}
+
+// A page or an image is written over the front of `out`. The moment is the call's and one above it, turn about: no record of the boxes stands
+// between the two.
 fn show_call(
-    store: Store,
+    store: &Store,
     area: &[u8; AREA],
     out: &mut [u8],
-    s: &[u8],
-    a: Asked,
-    way: u8,
+    show: Show,
     turn: u64,
+    asked: Asked,
 ) -> u64
-    requires { CallAsks store area.now s.now a }
+    requires { Made store.now area.now }
 {
-    let k = a.key;
-    let r = a.row;
-    let key = &s[k..r];
-    let moment = wrapping_add_u64(a.one, turn % 2);
-    match way {
-        1 => read_once(store, area, key, moment),
-        2 => page_once(store, area, out, key, moment, a.two),
-        3 => stats_once(store, area),
-        11 => image_once(store, area, out, a.one),
-        12 => collect_once(store, area, a.one),
-        _ => a.one,
+    let moment = asked.one.wrapping_add(turn % 2);
+    match show {
+        Show::Nothing => asked.one,
+        Show::Read => read_once(store, area, asked.key, moment),
+        Show::Page => page_once(store, area, out, asked.key, moment, asked.two),
+        Show::Statistics => stats_once(store, area),
+        Show::Image => image_once(store, area, out, asked.one),
+        Show::Collection => collect_once(store, area, asked.one),
     }
 }
 
-// A call that changes the store.
 fn change_call(
-    store: Store,
+    store: &mut Store,
     area: &mut [u8; AREA],
     image: &[u8],
-    s: &[u8],
-    a: Asked,
-    way: u8,
+    change: Change,
+    asked: Asked,
 ) -> u64
-    requires { CallAsks store area.old s.now a }
-    ensures { length area.new ≡ 131072 }
+    requires { Made store.old area.old }
+    ensures { Made store.new area.new }
 {
-    let k = a.key;
-    let r = a.row;
-    let e = a.next;
-    let key = &s[k..r];
-    match way {
-        5 => prewrite_once(store, area, s, a),
-        6 => commit_once(store, area, key, a.one, a.two),
-        7 => pair_once(store, area, s, a),
-        8 => rollback_once(store, area, key, a.one, a.two),
-        9 => step_once(store, area, &s[r..e], a.one, a.two),
-        10 => restore_once(store, area, image),
-        _ => a.one,
+    match change {
+        Change::Nothing => asked.one,
+        Change::Prewrite => prewrite_once(store, area, asked),
+        Change::Commit => commit_once(store, area, asked),
+        Change::PrewriteAndCommit => pair_once(store, area, asked),
+        Change::Rollback => rollback_once(store, area, asked),
+        Change::OneStep => step_once(store, area, asked),
+        Change::Restore => restore_once(store, area, image),
     }
 }
 
-// A call that changes the store is made on a copy of the area, so that all start from the same box. Only the bytes below the store's top are
-// copied: a store depends on none above it. This stands by itself, so that no copy of the table which it makes falls on a call that shows
-// something.
-fn change_on_copy(
-    store: Store,
-    area: &[u8; AREA],
-    copy: &mut [u8; AREA],
-    s: &[u8],
-    a: Asked,
-    way: u8,
-    image: &[u8],
-) -> u64
-    requires { (TurnAsks store area.now copy.old) × (AskedIn (length s.now) a) }
+// A call that changes the store is made on a copy, so that all start from the same box. Only the bytes below the store's top are copied: a store
+// depends on none above it.
+fn change_on_copy(subject: Subject, copy: &mut [u8; AREA], change: Change, asked: Asked) -> u64
+    requires { TurnAsks subject copy.old }
     ensures { length copy.new ≡ 131072 }
 {
-    let top = store.top;
-    copy_below(area, copy, top);
-    change_call(store, copy, image, s, a, way)
-}
-
-// Whether the call leaves the area as it was.
-fn leaves_area(way: u8) -> bool {
-    if 10 < way {
-        return true;
-    }
-    way < 4
+    let Subject { store, area, image } = subject;
+    let mut store = *store;
+    copy_below(area, copy, store.top);
+    change_call(&mut store, copy, image, change, asked)
 }
 
 // One call, of either sort. What is shown is written where the others have their copy.
-fn one_call(
-    way: u8,
-    turn: u64,
-    store: Store,
-    area: &[u8; AREA],
-    copy: &mut [u8; AREA],
-    image: &[u8],
-    s: &[u8],
-    a: Asked,
-) -> u64
-    requires { (TurnAsks store area.now copy.old) × (AskedIn (length s.now) a) }
+fn one_call(subject: Subject, copy: &mut [u8; AREA], way: Way, turn: u64, asked: Asked) -> u64
+    requires { TurnAsks subject copy.old }
     ensures { length copy.new ≡ 131072 }
 {
-    if leaves_area(way) {
-        return show_call(store, area, copy, s, a, way, turn);
+    match way {
+        Way::Shows(show) => show_call(subject.store, subject.area, copy, show, turn, asked),
+        Way::Changes(change) => change_on_copy(subject, copy, change, asked),
     }
-    change_on_copy(store, area, copy, s, a, way, image)
 }
 
-fn one_turn(
-    store: Store,
-    area: &[u8; AREA],
-    copy: &mut [u8; AREA],
-    image: &[u8],
-    s: &[u8],
-    way: u8,
-    turn: u64,
-) -> u64
-    requires { TurnAsks store area.now copy.old }
+fn one_turn(subject: Subject, copy: &mut [u8; AREA], way: Way, turn: u64, calls: &[u8]) -> u64
+    requires { TurnAsks subject copy.old }
     ensures { length copy.new ≡ 131072 }
 {
-    let mut at: usize = 0;
+    let mut rest = calls;
     let mut sum: u64 = 0;
-    while at < s.len() {
-        let a = asked_at(s, at);
-        let worth = one_call(way, turn, store, area, copy, image, s, a);
-        sum = wrapping_add_u64(sum, worth);
-        at = a.next;
+    while !rest.is_empty() {
+        let (asked, after) = first_call(rest);
+        sum = sum.wrapping_add(one_call(subject, copy, way, turn, asked));
+        rest = after;
     }
     sum
 }
 
 // So many turns: the sum of what their calls are worth.
 pub fn many_turns(
-    turns: u64,
-    way: u8,
-    store: Store,
-    area: &[u8; AREA],
+    subject: Subject,
     copy: &mut [u8; AREA],
-    image: &[u8],
-    s: &[u8],
+    way: Way,
+    turns: u64,
+    calls: &[u8],
 ) -> u64
-    requires { TurnAsks store area.now copy.old }
+    requires { TurnAsks subject copy.old }
     ensures { length copy.new ≡ 131072 }
 {
-    let mut left = turns;
     let mut sum: u64 = 0;
-    while 0 < left {
-        let worth = one_turn(store, area, copy, image, s, way, left);
-        sum = wrapping_add_u64(sum, worth);
-        left -= 1;
+    for turn in 1..=turns {
+        sum = sum.wrapping_add(one_turn(subject, copy, way, turn, calls));
     }
     sum
 }

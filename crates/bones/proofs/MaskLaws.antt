@@ -5,23 +5,26 @@ use native.Mathlib.Omega.{arith}
 use native.Mathlib.Nat.{mod-eq_of_lt, mod-lt}
 use mathlib.Core.Path.{◌≡◌, refl, sym, ap, ap₂, ◌∙◌, subst}
 use mathlib.Core.Bool.{Bool, true, false, not}
-use lib.ListN.{length, get_or, drop, length-drop}
-use lib.Seq.{get_or-drop, take_all}
+use lib.ListN.{length, get_or, take, drop, length-drop}
+use lib.Seq.{get_or-drop, take_all, take-length}
+use native.Mathlib.Numerals.{add-one}
+use Rattle.std.specs.List.{sum_by}
+use Rattle.std.proofs.lemmas.List.Sums.{sum_by_more}
 use lib.Dec.{eqb, ltb}
 use lib.Pow.{mod-pow-add, pow_pos}
 use lib.Bits.{bit_and, and_mask}
 use lib.Count.{ones, ones_cat}
-use borrow.Author.Tests.{lt-ltb, le-ltb, not-true, not-false}
+use borrow.Author.Tests.{lt-ltb, le-ltb, not-true}
 use Rattle.seqs.proofs.Tests.{and_left, and_right}
-use Rattle.forms.specs.Bytes.{Bytes}
+use Rattle.forms.specs.Bytes.{Bytes, AllBytes}
 use Rattle.forms.specs.Row.{Row, mask_bytes, bone, none_set, spares_zero, Bones, row_form, bones_of, one, count_below}
-use Rattle.forms.specs.Places.{RowBones}
+use Rattle.forms.specs.Places.{AreBones}
 use Rattle.forms.specs.declared.row.Mask.{Mask}
+use Rattle.seqs.proofs.Parts.{part_end}
+use Rattle.forms.proofs.NumberLaws.{bytes_drop}
 use Rattle.forms.proofs.RowLaws.{row-bounds}
 use Rattle.forms.proofs.BoneLaws.{bone-of, bones-fit}
-use Rattle.rules.specs.declared.answers.Answer.{Answer}
-use Rattle.rules.specs.declared.answers.Answer.TheVariants.{Accepted, No}
-use Rattle.rules.specs.Answers.{◌▸◌, need, count_if}
+use Rattle.rules.specs.Answers.{Answer, Accepted, No, ◌▸◌, need, count_if}
 use Rattle.rules.specs.Bones.{Due, Tells, bone_steps, shown_if, bone_shown, bones_shown}
 
 -- ---- the ones of a byte
@@ -77,113 +80,94 @@ none_more mask n (suc k) h =
     ∙ ap (λ (b : Bool). one b + count_below (bone mask) n) off
     ∙ omega arith
 
--- ---- `ones_from`: the bytes before i are counted
+-- ---- the ones of a mask are its bones
 
-pub record Counting (s : Bytes) (at sum i : ℕ) : Type 0 where
-  pub from : at ≤ i
-  pub within : i ≤ length s
-  pub short : length s ≤ 255
-  pub sum_is : sum ≡ count_below (bone (drop at s)) (8 * (i - at))
-
-pub counting-start : (s : Bytes) (at : ℕ) → at ≤ length s → length s ≤ 255 → Counting s at 0 at
+front-bones : (mask : Bytes) → AllBytes mask → (i : ℕ) → i ≤ length mask → sum_by ones (take i mask) ≡ count_below (bone mask) (8 * i)
 unfolding count_below
-counting-start s at h l = record { from = omega arith; within = h; short = l; sum_is = let e : 8 * (at - at) ≡ 0 = omega arith in sym (ap (λ (n : ℕ). count_below (bone (drop at s)) n) e) }
+front-bones mask g zero h = refl
+front-bones mask g (suc i) h =
+    let l : i < length mask = omega arith in
+    let k : 8 * (i + 1) ≡ 8 * suc i = omega arith in
+    ap (λ (n : ℕ). sum_by ones (take n mask)) (sym (add-one i)) ∙ sum_by_more ones mask i 0 l ∙ ap (λ (n : ℕ). n + ones (get_or mask i 0)) (front-bones mask g i (omega arith))
+    ∙ sym (byte-bones mask i (g i)) ∙ ap (λ (n : ℕ). count_below (bone mask) n) k
 
-module _ {s : Bytes} {at sum i : ℕ} (v : Counting s at sum i) where
-  -- a sum stays small
-  pub sum-small : sum ≤ 2040
-  sum-small = let l = count_most (bone (drop at s)) (8 * (i - at)) in omega (arith, l, v.sum_is, v.within, v.short)
-
-  pub counting_more : i < length s → get_or s i 0 < 256 → Counting s at (sum + ones (get_or s i 0)) (i + 1)
-  counting_more l b =
-      let here : get_or (drop at s) (i - at) 0 ≡ get_or s i 0 = get_or-drop at s (i - at) 0 ∙ ap (λ (n : ℕ). get_or s n 0) (let f = v.from in omega arith) in
-      let e : i + 1 - at ≡ i - at + 1 = let f = v.from in omega arith in
-      record {
-        from = let f = v.from in omega arith;
-        within = omega arith;
-        short = v.short;
-        sum_is =
-            ap₂ (λ (a b : ℕ). a + ones b) v.sum_is (sym here)
-            ∙ sym (ap (λ (n : ℕ). count_below (bone (drop at s)) (8 * n)) e ∙ byte-bones (drop at s) (i - at) (subst (λ (x : ℕ). x < 256) (sym here) b));
-      }
-
-  pub counting-end : length s ≤ i → sum ≡ count_below (bone (drop at s)) (8 * (length s - at))
-  counting-end h = v.sum_is ∙ ap (λ (n : ℕ). count_below (bone (drop at s)) (8 * (n - at))) (let w = v.within in omega arith)
+mask-bones : (mask : Bytes) → AllBytes mask → sum_by ones mask ≡ count_below (bone mask) (8 * length mask)
+mask-bones mask g = let l : length mask ≤ length mask = omega arith in ap (λ (m : Bytes). sum_by ones m) (sym (take-length mask)) ∙ front-bones mask g (length mask) l
 
 -- ---- the two questions
 
 tells : {A : Type 0} {due : Due A} {a : Answer} {x : A} → due ≡ record { answer = a; shown = x } → Tells due a x
 tells {A} {due} {a} {x} e = subst (λ (d : Due A). Tells d a x) (sym e) (record { answer_is = record { number_is = refl; holder_is = refl; case_is = refl }; shown_is = refl })
 
-module _ {r : Row} {m : Mask} (v : RowBones r m) where
+module _ (r : Row) (e : row_form r ≡ false) where
   -- out of form
-  pub bone-unformed : (n : ℕ) → not m.ok ≡ true → Tells (bone_shown r n) (No 2) false
+  pub bone-unformed : (n : ℕ) → Tells (bone_shown r n) (No 2) false
   unfolding bone_shown bone_steps ◌▸◌ need
-  bone-unformed n h = let e : row_form r ≡ false = sym v.form ∙ not-true m.ok h in tells (ap (λ (f : Bool). record { answer = need f 2 ▸ need (ltb n (bones_of r).count) 3; shown = shown_if (need f 2 ▸ need (ltb n (bones_of r).count) 3) (bone (bones_of r).mask n) }) e)
+  bone-unformed n = tells (ap (λ (f : Bool). record { answer = need f 2 ▸ need (ltb n (bones_of r).count) 3; shown = shown_if (need f 2 ▸ need (ltb n (bones_of r).count) 3) (bone (bones_of r).mask n) }) e)
 
-  pub bones-unformed : not m.ok ≡ true → Tells (bones_shown r) (No 2) 0
+  pub bones-unformed : Tells (bones_shown r) (No 2) 0
   unfolding bones_shown need count_if
-  bones-unformed h = let e : row_form r ≡ false = sym v.form ∙ not-true m.ok h in tells (ap (λ (f : Bool). record { answer = need f 2; shown = count_if (need f 2) (count_below (bone (bones_of r).mask) (bones_of r).count) }) e)
+  bones-unformed = tells (ap (λ (f : Bool). record { answer = need f 2; shown = count_if (need f 2) (count_below (bone (bones_of r).mask) (bones_of r).count) }) e)
 
-  module _ (good : not m.ok ≡ false) where
-    ok : m.ok ≡ true
-    ok = not-false m.ok good
+module _ {r : Row} {m : Mask} (v : AreBones r m) where
+  mask_is : (bones_of r).mask ≡ drop m.at r
+  mask_is =
+      ap (λ (b : Bones). b.mask) v.is
+      ∙ take_all (mask_bytes m.count) (drop m.at r) (subst (λ (n : ℕ). n ≤ mask_bytes m.count) (sym (length-drop m.at r)) (let e = v.size in omega arith))
 
-    formed : row_form r ≡ true
-    formed = sym v.form ∙ ok
+  count_is : (bones_of r).count ≡ m.count
+  count_is = ap (λ (b : Bones). b.count) v.is
 
-    mask_is : (bones_of r).mask ≡ drop m.at r
-    mask_is =
-        ap (λ (b : Bones). b.mask) (v.is ok)
-        ∙ take_all (mask_bytes m.count) (drop m.at r) (subst (λ (n : ℕ). n ≤ mask_bytes m.count) (sym (length-drop m.at r)) (let e = v.size ok in omega arith))
+  judged : (n : ℕ) (t : Bool) → ltb n m.count ≡ t → bone_shown r n ≡ record { answer = need t 3; shown = shown_if (need t 3) (bone (drop m.at r) n) }
+  unfolding bone_shown bone_steps ◌▸◌ need
+  judged n t p =
+      ap₂ (λ (f : Bool) (mask : Bytes). record { answer = need f 2 ▸ need (ltb n (bones_of r).count) 3; shown = shown_if (need f 2 ▸ need (ltb n (bones_of r).count) 3) (bone mask n) }) v.form mask_is
+      ∙ ap (λ (t : Bool). record { answer = need t 3; shown = shown_if (need t 3) (bone (drop m.at r) n) }) (ap (λ (k : ℕ). ltb n k) count_is ∙ p)
 
-    count_is : (bones_of r).count ≡ m.count
-    count_is = ap (λ (b : Bones). b.count) (v.is ok)
+  -- "a bone number not below the count is 3"
+  pub bone-past : {n : ℕ} → m.count ≤ n → Tells (bone_shown r n) (No 3) false
+  unfolding need
+  bone-past {n} l = tells (judged n false (le-ltb n m.count l))
 
-    judged : (n : ℕ) (t : Bool) → ltb n m.count ≡ t → bone_shown r n ≡ record { answer = need t 3; shown = shown_if (need t 3) (bone (drop m.at r) n) }
-    unfolding bone_shown bone_steps ◌▸◌ need
-    judged n t p =
-        ap₂ (λ (f : Bool) (mask : Bytes). record { answer = need f 2 ▸ need (ltb n (bones_of r).count) 3; shown = shown_if (need f 2 ▸ need (ltb n (bones_of r).count) 3) (bone mask n) }) formed mask_is
-        ∙ ap (λ (t : Bool). record { answer = need t 3; shown = shown_if (need t 3) (bone (drop m.at r) n) }) (ap (λ (k : ℕ). ltb n k) count_is ∙ p)
+  -- its byte lies in the row
+  pub bone-in : {n : ℕ} → n < m.count → m.at + n / 8 < length r
+  unfolding mask_bytes
+  bone-in {n} l = let e = v.size in omega arith
 
-    -- "a bone number not below the count is 3"
-    pub bone-past : {n : ℕ} → m.count ≤ n → Tells (bone_shown r n) (No 3) false
-    unfolding need
-    bone-past {n} l = tells (judged n false (le-ltb n m.count l))
+  pub bone-told : {n : ℕ} → n < m.count → Tells (bone_shown r n) Accepted (eqb (bit_and (get_or r (m.at + n / 8) 0 / 2 ^ (n % 8)) 1) 1)
+  unfolding need bone
+  bone-told {n} l =
+      tells (
+      judged n true (lt-ltb n m.count l)
+      ∙ ap (λ (x : ℕ). record { answer = Accepted; shown = eqb (x / 2 ^ (n % 8) % 2) 1 }) (get_or-drop m.at r (n / 8) 0)
+      ∙ ap (λ (x : ℕ). record { answer = Accepted; shown = eqb x 1 }) (sym (and_mask (get_or r (m.at + n / 8) 0 / 2 ^ (n % 8)) 1))
+      )
 
-    -- its byte lies in the row
-    pub bone-in : {n : ℕ} → n < m.count → m.at + n / 8 < length r
-    unfolding mask_bytes
-    bone-in {n} l = let e = v.size ok in omega arith
+  -- the mask lies in the row, and is short
+  pub mask-start : m.at ≤ length r
+  mask-start = let e = v.size in omega arith
 
-    pub bone-told : {n : ℕ} → n < m.count → Tells (bone_shown r n) Accepted (eqb (bit_and (get_or r (m.at + n / 8) 0 / 2 ^ (n % 8)) 1) 1)
-    unfolding need bone
-    bone-told {n} l =
-        tells (
-        judged n true (lt-ltb n m.count l)
-        ∙ ap (λ (x : ℕ). record { answer = Accepted; shown = eqb (x / 2 ^ (n % 8) % 2) 1 }) (get_or-drop m.at r (n / 8) 0)
-        ∙ ap (λ (x : ℕ). record { answer = Accepted; shown = eqb x 1 }) (sym (and_mask (get_or r (m.at + n / 8) 0 / 2 ^ (n % 8)) 1))
-        )
+  pub row-short : length r ≤ 255
+  row-short = (row-bounds r v.form).short
 
-    -- what `ones_from` asks
-    pub asks : (m.at ≤ length r) × (length r ≤ 255)
-    asks = let e = v.size ok in (omega arith, (row-bounds r formed).short)
+  -- the bones shown are those of all bits of the mask
+  all-bits : count_below (bone (drop m.at r)) (8 * length (drop m.at r)) ≡ count_below (bone (bones_of r).mask) (bones_of r).count
+  unfolding spares_zero mask_bytes
+  all-bits =
+      let f = bones-fit r in
+      let size : length (bones_of r).mask ≡ length (drop m.at r) = ap length mask_is in
+      let fit = f.size in
+      let e : 8 * length (drop m.at r) ≡ (bones_of r).count + (8 * length (bones_of r).mask - (bones_of r).count) = omega arith in
+      ap₂ (λ (mask : Bytes) (n : ℕ). count_below (bone mask) n) (sym mask_is) e
+      ∙ none_more (bones_of r).mask (bones_of r).count (8 * length (bones_of r).mask - (bones_of r).count) f.spare
 
-    -- the bones shown are those of all bits of the mask
-    all-bits : count_below (bone (drop m.at r)) (8 * (length r - m.at)) ≡ count_below (bone (bones_of r).mask) (bones_of r).count
-    unfolding spares_zero mask_bytes
-    all-bits =
-        let f = bones-fit r in
-        let size : length (bones_of r).mask ≡ length r - m.at = ap length mask_is ∙ length-drop m.at r in
-        let fit = f.size in
-        let e : 8 * (length r - m.at) ≡ (bones_of r).count + (8 * length (bones_of r).mask - (bones_of r).count) = omega arith in
-        ap₂ (λ (mask : Bytes) (n : ℕ). count_below (bone mask) n) (sym mask_is) e
-        ∙ none_more (bones_of r).mask (bones_of r).count (8 * length (bones_of r).mask - (bones_of r).count) f.spare
+  module _ (g : AllBytes r) {sum : ℕ} (e : sum ≡ sum_by ones (take (length r - m.at) (drop m.at r))) where
+    s : sum ≡ count_below (bone (drop m.at r)) (8 * length (drop m.at r))
+    s = e ∙ ap (λ (x : Bytes). sum_by ones x) (part_end m.at r) ∙ mask-bones (drop m.at r) (bytes_drop m.at r g)
 
-    module _ {sum : ℕ} (s : sum ≡ count_below (bone (drop m.at r)) (8 * (length r - m.at))) where
-      pub sum_fits : sum ≤ 255
-      sum_fits = let l = count_most (bone (bones_of r).mask) (bones_of r).count in omega (arith, s, all-bits, (bones-fit r).small)
+    pub sum_fits : sum ≤ 255
+    sum_fits = let l = count_most (bone (bones_of r).mask) (bones_of r).count in omega (arith, s, all-bits, (bones-fit r).small)
 
-      pub bones-told : Tells (bones_shown r) Accepted sum
-      unfolding bones_shown need count_if
-      bones-told = tells (ap (λ (f : Bool). record { answer = need f 2; shown = count_if (need f 2) (count_below (bone (bones_of r).mask) (bones_of r).count) }) formed ∙ ap (λ (n : ℕ). record { answer = Accepted; shown = n }) (sym (s ∙ all-bits)))
+    pub bones-told : Tells (bones_shown r) Accepted sum
+    unfolding bones_shown need count_if
+    bones-told = tells (ap (λ (f : Bool). record { answer = need f 2; shown = count_if (need f 2) (count_below (bone (bones_of r).mask) (bones_of r).count) }) v.form ∙ ap (λ (n : ℕ). record { answer = Accepted; shown = n }) (sym (s ∙ all-bits)))

@@ -3,4 +3,4 @@
 
 pub mod shown;
 
-pub use shown::{BoneShown, BonesShown, bone_shown, bones_shown};
+pub use shown::{bone_shown, bones_shown};

@@ -1,74 +1,36 @@
-// The two questions. A row out of form is 2; a refusal shows no bone, and counts none.
-ghost use Rattle.std.specs.Prelude.{◌≡◌, ◌-◌, ◌*◌, ◌≤◌, length, drop};
-ghost use Rattle.forms.specs.Row.{bone, count_below};
+// The two questions. A row out of form is refused as such; a refusal shows no bone, and counts none.
+ghost use Rattle.std.specs.Prelude.{◌≡◌, ◌≤◌, false, length, count_ones};
+ghost use Rattle.std.specs.List.{sum_by};
+ghost use Rattle.rules.specs.Outcomes.{outcome, value_or};
 ghost use Rattle.rules.specs.Bones.{Tells, bone_shown, bones_shown};
 
 use forms::bones_in;
-use rules::Answer;
-
-#[derive(Clone, Copy)]
-pub struct BoneShown {
-    pub answer: Answer,
-    pub shown: bool,
-}
+use rules::Refusal;
 
 // "whether bone n is shown": "bone 0 in the lowest bit of the first byte"; "a bone number not below the count is 3"
-pub fn bone_shown(row: &[u8], n: u64) -> BoneShown
-    ensures { Tells (bone_shown row.now n) result.answer result.shown }
+pub fn bone_shown(row: &[u8], n: u64) -> Result<bool, Refusal>
+    ensures { Tells (bone_shown row.now n) (outcome result) (value_or false result) }
 {
-    let mask = bones_in(row);
-    if !mask.ok {
-        return BoneShown {
-            answer: Answer::No(2),
-            shown: false,
-        };
-    }
+    let mask = bones_in(row).ok_or(Refusal::RowForm)?;
     if mask.count as u64 <= n {
-        return BoneShown {
-            answer: Answer::No(3),
-            shown: false,
-        };
+        return Err(Refusal::Argument);
     }
-    let i = n as usize;
-    BoneShown {
-        answer: Answer::Accepted,
-        shown: (row[mask.at + i / 8] >> (i % 8)) & 1 == 1,
-    }
+    let n = n as usize;
+    Ok((row[mask.at + n / 8] >> (n % 8)) & 1 == 1)
 }
 
-// Ones counted in each byte from a place to the end, and summed.
-fn ones_from(s: &[u8], at: usize) -> u32
-    requires { (at ≤ length s.now) × (length s.now ≤ 255) }
-    ensures { result ≡ count_below (bone (drop at s.now)) (8 * (length s.now - at)) }
+// Ones counted in each byte, and summed.
+fn ones_in(mask: &[u8]) -> u32
+    requires { length mask.now ≤ 255 }
+    ensures { result ≡ sum_by count_ones mask.now }
 {
-    let mut sum: u32 = 0;
-    let mut i = at;
-    while i < s.len() {
-        sum += u8::count_ones(s[i]);
-        i += 1;
-    }
-    sum
-}
-
-#[derive(Clone, Copy)]
-pub struct BonesShown {
-    pub answer: Answer,
-    pub shown: u8,
+    mask.iter().map(|byte| byte.count_ones()).sum()
 }
 
 // "how many bones are shown"
-pub fn bones_shown(row: &[u8]) -> BonesShown
-    ensures { Tells (bones_shown row.now) result.answer result.shown }
+pub fn bones_shown(row: &[u8]) -> Result<u8, Refusal>
+    ensures { Tells (bones_shown row.now) (outcome result) (value_or 0 result) }
 {
-    let mask = bones_in(row);
-    if !mask.ok {
-        return BonesShown {
-            answer: Answer::No(2),
-            shown: 0,
-        };
-    }
-    BonesShown {
-        answer: Answer::Accepted,
-        shown: ones_from(row, mask.at) as u8,
-    }
+    let mask = bones_in(row).ok_or(Refusal::RowForm)?;
+    Ok(ones_in(&row[mask.at..]) as u8)
 }

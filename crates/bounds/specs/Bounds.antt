@@ -1,10 +1,9 @@
--- The bounds that flags and slices say.
+-- The bounds that a page's arguments say.
 -- Assumes nothing.
-use Rattle.std.specs.Prelude.{Bool}
-use Rattle.forms.specs.Key.{Key}
-use Rattle.forms.specs.Readers.{when}
-use Rattle.rules.specs.Page.{Bounds}
+use Rattle.forms.specs.Readers.{given}
+use Rattle.rules.specs.Page as page
+use Rattle.bounds.specs.declared.asked.Bounds.{Bounds}
 
--- "start, end and resume may each be absent, by a flag"
-abbrev pub bounds_of : Bool → Key → Bool → Key → Bool → Key → Bounds
-bounds_of starts start ends end resumes resume = record { from = when starts start; to = when ends end; resume = when resumes resume }
+-- "start, end and resume may each be absent"
+abbrev pub bounds_of : Bounds → page.Bounds
+bounds_of b = record { from = given b.start; to = given b.end; resume = given b.resume }

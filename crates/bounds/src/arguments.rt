@@ -1,90 +1,65 @@
 // "3; start 1; end 1; 4; resume 1; resume at or past end": the checks of a page's arguments.
 ghost use Rattle.std.specs.Prelude.{◌≡◌};
-ghost use Rattle.forms.specs.Readers.{when};
 ghost use Rattle.rules.specs.Page.{absent_or, both_below, bounds_step, page_arguments, past_end};
+ghost use Rattle.rules.specs.Outcomes.{outcome};
 ghost use Rattle.bounds.specs.Bounds.{bounds_of};
+ghost use Rattle.forms.specs.Readers.{given};
 
-use rules::Answer;
+use crate::asked::Bounds;
+use rules::Refusal;
 
-fn absent_or(present: bool, key: &[u8]) -> bool
-    ensures { result ≡ absent_or (when present key.now) }
+fn absent_or(key: Option<&[u8]>) -> bool
+    ensures { result ≡ absent_or (given key.entry) }
 {
-    if !present {
-        return true;
-    }
-    forms::key_in_form(key)
+    key.is_none_or(|k| forms::key_in_form(k))
 }
 
 // "scan start not below scan end"
-fn both_below(starts: bool, start: &[u8], ends: bool, end: &[u8]) -> bool
-    ensures { result ≡ both_below (when starts start.now) (when ends end.now) }
+fn both_below(start: Option<&[u8]>, end: Option<&[u8]>) -> bool
+    ensures { result ≡ both_below (given start.entry) (given end.entry) }
 {
-    if !starts {
-        return true;
+    match (start, end) {
+        (Some(s), Some(e)) => forms::below(s, e),
+        _ => true,
     }
-    if !ends {
-        return true;
-    }
-    forms::below(start, end)
 }
 
-// "start 1; end 1; 4; resume 1"
-fn bounds_step(
-    starts: bool,
-    start: &[u8],
-    ends: bool,
-    end: &[u8],
-    resumes: bool,
-    resume: &[u8],
-) -> Answer
-    ensures { result ≡ bounds_step (bounds_of starts start.now ends end.now resumes resume.now) }
-{
-    if !absent_or(starts, start) {
-        return Answer::No(1);
+impl Bounds<'_> {
+    // "start 1; end 1; 4; resume 1"
+    #[tactic(auto, using(laws::proofs::ChainLaws::chain), unfolding(rules::specs::Page::bounds_step))]
+    fn step(&self) -> Result<(), Refusal>
+        ensures { outcome result ≡ bounds_step (bounds_of self.now) }
+    {
+        if !absent_or(self.start) || !absent_or(self.end) {
+            return Err(Refusal::KeyForm);
+        }
+        if !both_below(self.start, self.end) {
+            return Err(Refusal::ScanRange);
+        }
+        if !absent_or(self.resume) {
+            return Err(Refusal::KeyForm);
+        }
+        Ok(())
     }
-    if !absent_or(ends, end) {
-        return Answer::No(1);
-    }
-    if !both_below(starts, start, ends, end) {
-        return Answer::No(4);
-    }
-    if !absent_or(resumes, resume) {
-        return Answer::No(1);
-    }
-    Answer::Accepted
-}
 
-// "3; start 1; end 1; 4; resume 1". "Page's argument checks without byte limit" are those with a byte limit that is not 0.
-pub fn page_arguments(
-    rows: u64,
-    bytes: u64,
-    starts: bool,
-    start: &[u8],
-    ends: bool,
-    end: &[u8],
-    resumes: bool,
-    resume: &[u8],
-) -> Answer
-    ensures { result ≡ page_arguments rows bytes (bounds_of starts start.now ends end.now resumes resume.now) }
-{
-    if rows == 0 {
-        return Answer::No(3);
+    // "3; start 1; end 1; 4; resume 1". "Page's argument checks without byte limit" are those with a byte limit that is not 0.
+    #[tactic(auto, using(laws::proofs::ChainLaws::chain), unfolding(rules::specs::Page::page_arguments))]
+    pub fn page_arguments(&self, rows: u64, bytes: u64) -> Result<(), Refusal>
+        ensures { outcome result ≡ page_arguments rows bytes (bounds_of self.now) }
+    {
+        if rows == 0 || bytes == 0 {
+            return Err(Refusal::Argument);
+        }
+        self.step()
     }
-    if bytes == 0 {
-        return Answer::No(3);
-    }
-    bounds_step(starts, start, ends, end, resumes, resume)
-}
 
-// "resume at or past end"
-pub fn past_end(resumes: bool, resume: &[u8], ends: bool, end: &[u8]) -> bool
-    ensures { result ≡ past_end (when resumes resume.now) (when ends end.now) }
-{
-    if !resumes {
-        return false;
+    // "resume at or past end"
+    pub fn past_end(&self) -> bool
+        ensures { result ≡ past_end (bounds_of self.now).resume (bounds_of self.now).to }
+    {
+        match (self.resume, self.end) {
+            (Some(r), Some(e)) => !forms::below(r, e),
+            _ => false,
+        }
     }
-    if !ends {
-        return false;
-    }
-    !forms::below(resume, end)
 }

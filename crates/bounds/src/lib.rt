@@ -1,9 +1,10 @@
-// The bounds of a page: "start, end and resume may each be absent, by a flag". Every function takes any bytes and any flags. `bounds`, `walks`
-// and `pages` are one layer, kept apart for the gate's time: a must-fail edit repeats the check of its whole crate.
+// The bounds of a page: what is asked of them, and which keys lie within them. `bounds`, `walks` and `pages` are one layer, kept apart for the
+// gate's time: a must-fail edit repeats the check of its whole crate.
 #![tactic(auto)]
 
 pub mod arguments;
+pub mod asked;
 pub mod within;
 
-pub use arguments::{page_arguments, past_end};
-pub use within::{slot_inside, slots_share};
+pub use asked::Bounds;
+pub use within::slots_share;

@@ -2,20 +2,11 @@
 -- Assumes nothing.
 use native.Mathlib.Omega.{arith}
 use mathlib.Core.Path.{◌≡◌, refl, sym, ap, ◌∙◌}
-use mathlib.Core.Bool.{Bool, true, false, not}
+use mathlib.Core.Bool.{Bool, true, false}
 use mathlib.Core.List.{List, [], ◌∷◌}
-use mathlib.Core.Option.{Option}
+use mathlib.Core.Option.{Option, none, some}
 use lib.ListN.{length}
-use Rattle.seqs.specs.Tables.{shown}
-use Rattle.seqs.proofs.Tables.{shown-length}
-use Rattle.forms.specs.Bytes.{Bytes}
-use Rattle.forms.specs.Places.{Decoded}
-use Rattle.forms.specs.declared.batch.Entry.{Entry}
-use Rattle.forms.specs.declared.batch.Entries.{Entries}
-use Rattle.forms.proofs.DecodeLaws.{decoded-bad, decoded-good}
-use Rattle.rules.specs.declared.answers.Answer.{Answer}
-use Rattle.rules.specs.declared.answers.Answer.TheVariants.{Accepted, No, Held}
-use Rattle.rules.specs.Answers.{◌▸◌, need}
+use Rattle.rules.specs.Answers.{Answer, Accepted, No, Held, ◌▸◌, need}
 use Rattle.rules.specs.Box.{Box}
 use Rattle.rules.specs.Calls.{Done, settle, of_batch, non_empty}
 use Rattle.laws.proofs.StepLaws.{then-assoc}
@@ -60,26 +51,23 @@ none_of : {A : Type 0} (xs : List A) → length xs ≡ 0 → non_empty xs ≡ fa
 none_of [] e = refl
 none_of (x ∷ xs) e = absurd (omega arith)
 
-module _ {A : Type 0} {item : Entry → A} {s : Bytes} {o : Option (List A)} {r : Entries} (d : Decoded item s o r) (steps : List A → Box → Answer) (new : List A → Box → Box) (b : Box) where
+module _ {A : Type 0} (steps : List A → Box → Answer) (new : List A → Box → Box) (b : Box) where
   abbrev pub batch_call : List A → Box → Done
   batch_call xs c = settle (need (non_empty xs) 5 ▸ steps xs c) (new xs c) c
 
   -- "batch not in form"
-  pub bad-batch : not r.ok ≡ true → of_batch o batch_call b ≡ record { answer = No 6; box = b }
-  bad-batch n = of_batch-none o batch_call b (decoded-bad d n)
+  pub bad-batch : {o : Option (List A)} → o ≡ none → of_batch o batch_call b ≡ record { answer = No 6; box = b }
+  bad-batch {o} n = of_batch-none o batch_call b n
 
-  module _ (good : not r.ok ≡ false) where
-    abbrev xs : List A
-    xs = shown item r.count r.list
-
+  module _ {o : Option (List A)} (xs : List A) (is : o ≡ some xs) where
     by_count : {t : Bool} → non_empty xs ≡ t → of_batch o batch_call b ≡ settle (need t 5 ▸ steps xs b) (new xs b) b
-    by_count e = of_batch-some o batch_call b xs (decoded-good d good) ∙ ap (λ (t : Bool). settle (need t 5 ▸ steps xs b) (new xs b) b) e
+    by_count e = of_batch-some o batch_call b xs is ∙ ap (λ (t : Bool). settle (need t 5 ▸ steps xs b) (new xs b) b) e
 
     -- "empty batch where one entry is needed"
-    pub empty-batch : r.count ≡ 0 → of_batch o batch_call b ≡ record { answer = No 5; box = b }
+    pub empty-batch : length xs ≡ 0 → of_batch o batch_call b ≡ record { answer = No 5; box = b }
     unfolding need ◌▸◌ settle
-    empty-batch z = by_count (none_of xs (shown-length d.listed item ∙ z))
+    empty-batch z = by_count (none_of xs z)
 
-    pub full-batch : (r.count ≡ 0 → ⊥) → of_batch o batch_call b ≡ settle (steps (shown item r.count r.list) b) (new (shown item r.count r.list) b) b
+    pub full-batch : (length xs ≡ 0 → ⊥) → of_batch o batch_call b ≡ settle (steps xs b) (new xs b) b
     unfolding need ◌▸◌
-    full-batch n = by_count (some_of xs (λ e. n (sym (shown-length d.listed item) ∙ e)))
+    full-batch n = by_count (some_of xs n)

@@ -7,10 +7,8 @@ use native.Mathlib.Nat.{mul-le-mul_right, suc-mul}
 use mathlib.Core.Path.{◌≡◌, refl, sym, ap, ◌∙◌}
 use mathlib.Core.List.{List, [], ◌∷◌}
 use lib.ListN.{length}
-use Rattle.rules.specs.declared.answers.Answer.{Answer}
-use Rattle.rules.specs.declared.answers.Answer.TheVariants.{Accepted}
+use Rattle.rules.specs.Answers.{Answer, Accepted, ◌▸◌}
 use Rattle.rules.specs.declared.room.Load.{Load}
-use Rattle.rules.specs.Answers.{◌▸◌}
 use Rattle.rules.specs.Box.{Box}
 use Rattle.laws.specs.Adds.{no_load, plus, sum_loads}
 use Rattle.laws.proofs.LoadLaws.{load_fields, plus_none, none-plus, plus_assoc}

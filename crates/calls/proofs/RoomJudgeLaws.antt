@@ -3,17 +3,20 @@
 -- Assumes nothing.
 use Prim.Native.Nat.{◌+◌, ◌≤◌, ◌<◌}
 use native.Mathlib.Omega.{arith}
-use mathlib.Core.Path.{◌≡◌, refl, sym, ap, ◌∙◌, subst}
-use mathlib.Core.Bool.{Bool, true, false, not, ◌&&◌, false≢true}
+use mathlib.Core.Path.{◌≡◌, refl, sym, ap, ◌∙◌}
+use mathlib.Core.Bool.{Bool, true, false, ◌&&◌, false≢true}
 use mathlib.Core.List.{List, [], ◌∷◌}
 use lib.Dec.{ltb}
-use borrow.Author.Tests.{not-true, not-false, ltb-true, ltb-false}
+use borrow.Author.Tests.{ltb-true, ltb-false}
 use Rattle.forms.specs.Key.{Key}
 use Rattle.forms.specs.Batch.{ascend}
-use Rattle.rules.specs.declared.answers.Answer.{Answer}
-use Rattle.rules.specs.declared.answers.Answer.TheVariants.{Accepted, No}
+use Rattle.rules.specs.Answers.{Answer, Accepted, ◌▸◌, need}
+use Rattle.std.specs.Prelude.{Ok, Err}
+use Rattle.rules.specs.declared.answers.Refusal.{Refusal}
+use Rattle.rules.specs.declared.answers.Refusal.TheVariants.{NoRoom}
+use Rattle.rules.specs.Outcomes.{refusal}
+use Rattle.rules.proofs.OutcomeLaws.{refusal-not, refusal-first}
 use Rattle.rules.specs.declared.room.Load.{Load}
-use Rattle.rules.specs.Answers.{◌▸◌, need}
 use Rattle.rules.specs.Box.{Box, in_order}
 use Rattle.rules.specs.Room.{load_of, fits, room_for, Fits}
 use Rattle.laws.specs.Adds.{plus, sum_loads}
@@ -22,24 +25,21 @@ use Rattle.laws.proofs.LoadLaws.{load-eq, load_fields}
 use Rattle.laws.proofs.BatchLaws.{check_all, apply_all}
 use Rattle.store.specs.Made.{Tallied}
 use Rattle.calls.specs.Settled.{is_accepted}
-use Rattle.calls.specs.Weights.{LeftAsks, Steps, AllChecked}
-use Rattle.calls.specs.Passes.{left_by, RoomJudged, refused_by, Judged}
+use Rattle.calls.specs.Weights.{LeftAsks, Steps, checked, AllChecked}
+use Rattle.calls.specs.Passes.{BatchVerdict, verdict, left_by, RoomJudged, Judged}
 use Rattle.calls.specs.declared.weights.Weight.{Weight}
-use Rattle.calls.specs.declared.judged.BatchVerdict.{BatchVerdict}
-use Rattle.calls.proofs.SettledLaws.{is-accepted, is-refusal, then-refused, step-out}
+use Rattle.calls.proofs.SettledLaws.{is-accepted}
 use Rattle.calls.proofs.ApplyAllLaws.{Changes, Applying}
 
 -- ---- a refusal
 
-refused-judged : {A : Type 0} {late : Answer} {check : Box → A → Answer} {apply : A → Box → Box} {b : Box} {xs : List A} {t : Answer} → (t ≡ Accepted → ⊥)
-    → t ≡ late ▸ check_all check b xs ▸ need (room_for (apply_all apply xs b)) 11 → {v : BatchVerdict} → v ≡ refused_by t → Judged late check apply b xs v
-refused-judged {late = late} {check} {apply} {b} {xs} n is e =
-    subst (Judged late check apply b xs) (sym e) (record { answer_is = is; stays = λ _ p. absurd (n p); passes = λ z. absurd (false≢true z); moves = λ z _. false≢true z })
+refused-judged : {A : Type 0} {late : Answer} {check : Box → A → Answer} {apply : A → Box → Box} {b : Box} {xs : List A} (why : Refusal)
+    → refusal why ≡ late ▸ check_all check b xs ▸ need (room_for (apply_all apply xs b)) 11 → Judged late check apply b xs (verdict (Err why))
+refused-judged why is = record { answer_is = is; stays = λ _ p. absurd (refusal-not why p); passes = λ z. absurd (false≢true z); moves = λ z _. false≢true z }
 
 -- 14
-pub late-judged : {A : Type 0} {late : Answer} {check : Box → A → Answer} {apply : A → Box → Box} {b : Box} {xs : List A} {t : Answer} → t ≡ late → {u : Bool} → u ≡ is_accepted t → not u ≡ true → {v : BatchVerdict}
-    → v ≡ refused_by t → Judged late check apply b xs v
-late-judged {t = t} is q x e = refused-judged (is-refusal t q x) (step-out _ is q x) e
+pub late-judged : {A : Type 0} {late : Answer} {check : Box → A → Answer} {apply : A → Box → Box} {b : Box} {xs : List A} (why : Refusal) → refusal why ≡ late → Judged late check apply b xs (verdict (Err why))
+late-judged {check = check} {apply} {b} {xs} why e = refused-judged why (sym (refusal-first why _) ∙ ap (λ (x : Answer). x ▸ check_all check b xs ▸ need (room_for (apply_all apply xs b)) 11) e)
 
 -- ---- what an entry adds and frees
 
@@ -85,8 +85,8 @@ module _ {A : Type 0} {c : Steps A} {key : A → Key} {apply : A → Box → Box
         omega (arith, p.lines, p.locks, q.lines, q.locks, all-locks xs b)
 
     -- an entry is refused
-    pub all-refused : {t : Answer} {s : Weight} → AllChecked c b xs (record { answer = t; weight = s }) → (t ≡ Accepted → ⊥) → {v : BatchVerdict} → v ≡ refused_by t → Judged late c.check apply b xs v
-    all-refused {t} r n e = refused-judged n (then-refused t _ n ∙ ap (λ (x : Answer). x ▸ need (room_for (apply_all apply xs b)) 11) r.answer_is ∙ after _) e
+    pub all-refused : (why : Refusal) → AllChecked c b xs (checked (Err why)) → Judged late c.check apply b xs (verdict (Err why))
+    all-refused why r = refused-judged why (sym (refusal-first why _) ∙ ap (λ (x : Answer). x ▸ need (room_for (apply_all apply xs b)) 11) r.answer_is ∙ after _)
 
     -- all pass
     module _ {s : Weight} (r : AllChecked c b xs (record { answer = Accepted; weight = s })) where
@@ -139,10 +139,10 @@ module _ (sum : Weight) (load : Load) {l : Load} (q : l ≡ left_by load sum) {f
   room-is : need f 11 ≡ need (fits (left_by load sum)) 11
   room-is = ap (λ (b : Bool). need b 11) (g ∙ ap fits q)
 
-  pub judge-full : not f ≡ true → RoomJudged sum load (record { answer = No 11; moves = false })
+  pub judge-full : f ≡ false → RoomJudged sum load (verdict (Err NoRoom))
   unfolding need
-  judge-full x = record { answer_is = ap (λ (b : Bool). need b 11) (sym (not-true f x)) ∙ room-is; moves_is = refl }
+  judge-full x = record { answer_is = ap (λ (b : Bool). need b 11) (sym x) ∙ room-is; moves_is = refl }
 
-  pub judge-passed : not f ≡ false → RoomJudged sum load (record { answer = Accepted; moves = ltb 0 sum.added.lines })
+  pub judge-passed : f ≡ true → RoomJudged sum load (verdict (Ok (ltb 0 sum.added.lines)))
   unfolding need
-  judge-passed x = record { answer_is = ap (λ (b : Bool). need b 11) (sym (not-false f x)) ∙ room-is; moves_is = refl }
+  judge-passed x = record { answer_is = ap (λ (b : Bool). need b 11) (sym x) ∙ room-is; moves_is = refl }

@@ -1,16 +1,23 @@
 -- The promise of a changing call, made by its ways out: nothing has changed, or the box is another one.
 -- Assumes nothing.
 use mathlib.Core.Bool.{Bool, true, false, not, false≢true}
-use mathlib.Core.Path.{◌≡◌, refl, sym, ◌∙◌, ap, subst}
+use mathlib.Core.Path.{◌≡◌, refl, sym, ◌∙◌, ap}
 use Rattle.forms.specs.Bytes.{Bytes}
-use Rattle.rules.specs.declared.answers.Answer.{Answer}
-use Rattle.rules.specs.declared.answers.Answer.TheVariants.{Accepted, No, Held}
-use Rattle.rules.specs.Answers.{◌▸◌}
+use Rattle.rules.specs.Answers.{Answer, Accepted, No, Held, ◌▸◌}
+use Rattle.rules.specs.declared.answers.Refusal.{Refusal}
+use Rattle.rules.specs.Outcomes.{refusal}
+use Rattle.rules.proofs.OutcomeLaws.{of-refusals, refusal-first}
+use denote.Enum.Bare.{sameb}
+use Rattle.rules.specs.contracts.records.Kind.{the_type}
+use Rattle.rules.specs.declared.records.Kind.{Kind}
+use Rattle.rules.specs.declared.records.Kind.TheVariants.{Put, Delete, Rollback}
+use Rattle.rules.specs.Box.{eq_kind}
 use Rattle.rules.specs.Calls.{Done}
 use Rattle.laws.proofs.StepLaws.{answered}
 use Rattle.store.specs.declared.table.Store.{Store}
 use Rattle.store.specs.View.{box_of}
 use Rattle.store.specs.Made.{Made}
+pub use Rattle.rules.proofs.OutcomeLaws.{handed-is, handed}
 use Rattle.calls.specs.Settled.{is_accepted, Untouched, Settled}
 
 -- ---- accepted, or a refusal
@@ -31,14 +38,27 @@ then-refused Accepted v n = absurd (n refl)
 then-refused (No k) v n = refl
 then-refused (Held o) v n = refl
 
--- a call's answer is a step: its refusal is the answer, or the steps after it are
-module _ {a s : Answer} (v : Answer) (e : a ≡ s) {t : Bool} (q : t ≡ is_accepted a) where
-  pub step-out : not t ≡ true → a ≡ s ▸ v
-  step-out n = then-refused a v (is-refusal a q n) ∙ ap (λ (x : Answer). x ▸ v) e
+-- ---- kinds, compared
 
-  pub step-on : not t ≡ false → {b : Answer} → b ≡ v → b ≡ s ▸ v
-  unfolding ◌▸◌
-  step-on n p = p ∙ sym (ap (λ (x : Answer). x ▸ v) (sym e ∙ is-accepted a q n))
+pub same-kind : (j k : Kind) → sameb the_type j k ≡ eq_kind j k
+same-kind Put Put = refl
+same-kind Put Delete = refl
+same-kind Put Rollback = refl
+same-kind Delete Put = refl
+same-kind Delete Delete = refl
+same-kind Delete Rollback = refl
+same-kind Rollback Put = refl
+same-kind Rollback Delete = refl
+same-kind Rollback Rollback = refl
+
+-- ---- a refusal
+
+pub refused-not : (r : Refusal) → is_accepted (refusal r) ≡ false
+refused-not r = of-refusals (λ (a : Answer). is_accepted a ≡ false) (λ n. refl) (λ h. refl) r
+
+-- and so it is the answer of the steps that follow
+pub first-out : (r : Refusal) {s : Answer} (v : Answer) → refusal r ≡ s → refusal r ≡ s ▸ v
+first-out r v e = sym (refusal-first r v) ∙ ap (λ (x : Answer). x ▸ v) e
 
 -- ---- the promise
 
@@ -55,11 +75,6 @@ settled_same {st} {area} {d} m e = record {
   refused = λ n. untouched;
   unchanged = λ s. untouched;
 }
-
-pub settled-still : {st r : Store} {area area' : Bytes} {d : Done} {a : Answer} → Untouched st area r area' → Made st area → d ≡ record { answer = a; box = box_of st area } → Settled st area d (record { store = r; answer = a }) area'
-settled-still {st} {r} {area} {area'} {d} {a} u m e =
-    subst (λ (x : Store). Settled st area d (record { store = x; answer = a }) area') (sym u.store_is)
-    (subst (λ (y : Bytes). Settled st area d (record { store = st; answer = a }) y) (sym u.area_is) (settled_same m e))
 
 -- the box is the definition's, and another one than it was
 pub settled-new : {st : Store} {area : Bytes} {d : Done} {r : Store} {area' : Bytes} → Made r area' → r.floor ≡ st.floor → d ≡ record { answer = Accepted; box = box_of r area' } → (box_of r area' ≡ box_of st area → ⊥)

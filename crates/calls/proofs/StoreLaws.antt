@@ -1,6 +1,7 @@
 -- What a built store keeps at a key, as the checks of the calls need it: a pair has one line at most, a lock has the row that its kind asks,
 -- and what goes with a lock is little. So the definitions pass where no store can fail.
 -- Assumes nothing.
+use Rattle.std.specs.Prelude.{None, Some}
 use Prim.Native.Nat.{ℕ, ◌≤◌}
 use native.Mathlib.Omega.{arith}
 use mathlib.Core.Path.{◌≡◌, refl, sym, ap, ap₂, ◌∙◌}
@@ -25,15 +26,13 @@ use Rattle.rules.specs.Commit.{with_start}
 use Rattle.laws.specs.Adds.{plus, lock_load, of_lock, of_row}
 use Rattle.laws.proofs.StepLaws.{and_left, and_right, not-true}
 use Rattle.laws.proofs.LoadLaws.{load-eq}
-use Rattle.lookups.specs.declared.lookup.Locked.{Locked}
-use Rattle.lookups.specs.declared.lookup.Locked.TheVariants.{Nobody, By}
 use Rattle.lookups.specs.declared.lookup.KeyState.{KeyState}
 use Rattle.store.specs.declared.table.Store.{Store}
 use Rattle.store.specs.declared.views.LockView.{LockView}
 use Rattle.store.specs.View.{row_if, box_of}
 use Rattle.store.specs.Made.{good_line, good_row, Built}
 use Rattle.store.specs.Views.{lock_in}
-use Rattle.lookups.specs.KeyStates.{locked_by, LockThere, IntentThere, KeyStateAt}
+use Rattle.lookups.specs.KeyStates.{Locked, locked_by, LockThere, IntentThere, KeyStateAt}
 use Rattle.forms.proofs.WriterLaws.{bytes-long}
 use Rattle.store.proofs.MemberLaws.{lock-found, row-found}
 use Rattle.store.proofs.KeySoundLaws.{good-in}
@@ -108,16 +107,16 @@ module _ {st : Store} {area : Bytes} (b : Built st area) (key : Key) where
     freed_asks = go seen.lock f.lock_there
       where
         go : (o : Locked) → LockThere st.top area ds key o → FreedAsks o (length key)
-        go Nobody t = tt
-        go (By i) t = omega (arith, t.primary_in, t.row.within, b.top_in)
+        go None t = tt
+        go (Some i) t = omega (arith, t.primary_in, t.row.within, b.top_in)
 
     -- a key twice, a primary and a row, each in a part of 255 bytes
     pub freed-few : AddedBy 1 1020 (freed_by seen.lock (length key))
     freed-few = go seen.lock f.lock_is f.lock_there
       where
         go : (o : Locked) → locked_by area o ≡ box.lock_of key es → LockThere st.top area ds key o → AddedBy 1 1020 (freed_by o (length key))
-        go Nobody q t = omega arith
-        go (By i) q t = lock-few q t short
+        go None q t = omega arith
+        go (Some i) q t = lock-few q t short
 
     -- "Room that was freed": the key's lock goes, which is of this start, and its row
     pub freed_is : Owned start seen.lock → (box.lock_of key (box_of st area).lines ≡ none → box.row_of key start (box_of st area).defaults ≡ none)
@@ -127,5 +126,5 @@ module _ {st : Store} {area : Bytes} (b : Built st area) (key : Key) where
       where
         go : (o : Locked) → locked_by area o ≡ box.lock_of key es → LockThere st.top area ds key o → Owned start o
             → freed_by o (length key) ≡ plus (of_lock key (box.lock_of key es)) (of_row key (box.row_of key start ds))
-        go Nobody q t w = rw (← q, none_row (sym q))
-        go (By i) q t w = lock-frees q t ∙ ap (λ (m : ℕ). plus (of_lock key (box.lock_of key es)) (of_row key (box.row_of key m ds))) w
+        go None q t w = rw (← q, none_row (sym q))
+        go (Some i) q t w = lock-frees q t ∙ ap (λ (m : ℕ). plus (of_lock key (box.lock_of key es)) (of_row key (box.row_of key m ds))) w

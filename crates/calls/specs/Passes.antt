@@ -1,16 +1,15 @@
 -- A call over the entries of a batch, for every check and every change of one entry: what the checks come to, what the applying pass asks
 -- and leaves, and the whole of it.
 -- Assumes nothing.
-use Rattle.std.specs.Prelude.{ℕ, ◌+◌, ◌≤◌, ◌<◌, ◌≡◌, true, false, ◌&&◌, List, [], ◌∷◌, ltb}
-use Rattle.seqs.specs.Tables.{shown}
+use Rattle.std.specs.Prelude.{ℕ, ◌+◌, ◌≤◌, ◌<◌, ◌≡◌, Bool, true, false, ◌&&◌, List, [], ◌∷◌, length, ltb, Result}
 use Rattle.forms.specs.Bytes.{Bytes}
 use Rattle.forms.specs.Key.{Key}
-use Rattle.forms.specs.Places.{key_at, mutation_of, EntryIn, Listed}
+use Rattle.forms.specs.Places.{key_at, mutation_of, given_part, EntryIn, Listed}
 use Rattle.forms.specs.declared.batch.Entry.{Entry}
-use Rattle.rules.specs.declared.answers.Answer.{Answer}
-use Rattle.rules.specs.declared.answers.Answer.TheVariants.{Accepted}
+use Rattle.rules.specs.Answers.{Answer, Accepted, ◌▸◌, need}
+use Rattle.rules.specs.declared.answers.Refusal.{Refusal}
+use Rattle.rules.specs.Outcomes.{outcome, value_or}
 use Rattle.rules.specs.declared.room.Load.{Load}
-use Rattle.rules.specs.Answers.{◌▸◌, need}
 use Rattle.rules.specs.Box.{Box}
 use Rattle.rules.specs.Room.{fits, room_for}
 use Rattle.rules.specs.Calls.{Done, settle}
@@ -25,10 +24,17 @@ use Rattle.changes.specs.Changes.{entry_for, changed, ChangeAsks}
 use Rattle.actions.specs.declared.action.Action.{Action}
 use Rattle.actions.specs.EntryAsks.{Applied}
 use Rattle.actions.specs.Actions.{most_of, apply_of, EntryAsks, StartsAbove}
-use Rattle.calls.specs.Entries.{row_at}
 use Rattle.calls.specs.Settled.{is_accepted, Untouched}
 use Rattle.calls.specs.declared.weights.Weight.{Weight}
-use Rattle.calls.specs.declared.judged.BatchVerdict.{BatchVerdict}
+
+-- what the checks of all entries come to: the answer, and whether the box becomes another one
+pub record BatchVerdict : Type 0 where
+  pub answer : Answer
+  pub moves : Bool
+
+-- a refusal moves nothing
+abbrev pub verdict : Result Bool Refusal → BatchVerdict
+verdict r = record { answer = outcome r; moves = value_or false r }
 
 -- the load of the box that the call would leave
 abbrev pub left_by : Load → Weight → Load
@@ -62,39 +68,42 @@ apply_entry d primary s e = apply_of d primary (mutation_of s e)
 
 -- a store that shows the box, with place for the entry's bytes, has what its change asks
 abbrev pub EntryReady : Action → Key → Bytes → Entry → Box → Type 0
-EntryReady d primary s e b = (st : Store) (area : Bytes) → Built st area → box_of st area ≡ b → st.top + most_of d ≤ 131072 → EntryAsks d primary st area (key_at s e) e.put (row_at s e)
+EntryReady d primary s e b = (st : Store) (area : Bytes) → Built st area → box_of st area ≡ b → st.top + most_of d ≤ 131072 → EntryAsks d primary st area (key_at s e) (given_part s e.row)
 
 -- so it is of the store as it stands, for an entry of the batch
 pub record EntryAt (d : Action) (primary : Key) (st : Store) (area s : Bytes) (e : Entry) : Type 0 where
   pub built : Built st area
   pub inside : EntryIn s e
-  pub asks : EntryAsks d primary st area (key_at s e) e.put (row_at s e)
+  pub asks : EntryAsks d primary st area (key_at s e) (given_part s e.row)
 
 -- the change in numbers, and what making it leaves
 abbrev pub EntryChanged : Action → Key → Store → Bytes → Bytes → Entry → Change → Bytes → Type 0
 EntryChanged d primary st area s e r area' =
-    (ChangeAsks st r) × (Applied st area (apply_of d primary (entry_for (key_at s e) e.put (row_at s e)) (box_of st area)) (st.top + most_of d) (changed st r) area')
+    (ChangeAsks st r) × (Applied st area (apply_of d primary (entry_for (key_at s e) (given_part s e.row)) (box_of st area)) (st.top + most_of d) (changed st r) area')
 
 -- so it is for each entry in its turn
 unfoldable pub Ready : Action → Key → Bytes → List Entry → Box → Type 0
 Ready d primary s [] b = Unit {0}
 Ready d primary s (e ∷ es) b = (EntryReady d primary s e b) × (Ready d primary s es (apply_entry d primary s e b))
 
--- the entries that count
-abbrev pub counted : ℕ → List Entry → List Entry
-counted n es = shown (λ (e : Entry). e) n es
+-- so many bytes have place, in a store that shows the same box; where no bytes are to come nothing has changed
+pub record Roomy (st : Store) (area : Bytes) (need : ℕ) (r : Store) (area' : Bytes) : Type 0 where
+  pub made : Made r area'
+  pub shown : box_of r area' ≡ box_of st area
+  pub floor_is : r.floor ≡ st.floor
+  pub room : r.top + need ≤ 131072
+  pub still : need ≡ 0 → Untouched st area r area'
 
-pub record ApplyAsks (d : Action) (primary : Key) (st : Store) (area s : Bytes) (n : ℕ) (es : List Entry) : Type 0 where
+pub record ApplyAsks (d : Action) (primary : Key) (st : Store) (area s : Bytes) (es : List Entry) : Type 0 where
   pub made : Made st area
-  pub count_fits : n ≤ 32
-  pub listed : 0 < n → Listed s n es
-  pub ready : Ready d primary s (counted n es) (box_of st area)
-  pub above : 0 < n → StartsAbove st.floor d
+  pub listed : Listed s es
+  pub ready : Ready d primary s es (box_of st area)
+  pub above : 0 < length es → StartsAbove st.floor d
 
 -- the box is the definition's, on the same floor, and each lock starts above it; without entries nothing has changed
-pub record AllApplied (d : Action) (primary : Key) (st : Store) (area s : Bytes) (n : ℕ) (es : List Entry) (r : Store) (area' : Bytes) : Type 0 where
+pub record AllApplied (d : Action) (primary : Key) (st : Store) (area s : Bytes) (es : List Entry) (r : Store) (area' : Bytes) : Type 0 where
   pub built : Built r area'
-  pub shown : box_of r area' ≡ apply_all (apply_entry d primary s) (counted n es) (box_of st area)
+  pub shown : box_of r area' ≡ apply_all (apply_entry d primary s) es (box_of st area)
   pub floor_is : r.floor ≡ st.floor
   pub above : LocksAbove r.floor (box_of r area')
-  pub still : n ≡ 0 → Untouched st area r area'
+  pub still : length es ≡ 0 → Untouched st area r area'

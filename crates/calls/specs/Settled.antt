@@ -2,19 +2,21 @@
 -- Assumes nothing.
 use Rattle.std.specs.Prelude.{◌≡◌, Bool, true, false}
 use Rattle.forms.specs.Bytes.{Bytes}
-use Rattle.rules.specs.declared.answers.Answer.{Answer}
-use Rattle.rules.specs.declared.answers.Answer.TheVariants.{Accepted, No, Held}
-use Rattle.rules.specs.Answers.{Answered}
+use Rattle.rules.specs.Answers.{Answer, Accepted, No, Held, Answered}
 use Rattle.rules.specs.Calls.{Done, Ended}
 use Rattle.store.specs.declared.table.Store.{Store}
 use Rattle.store.specs.View.{box_of, state_shown}
 use Rattle.store.specs.Made.{Made}
-use Rattle.calls.specs.declared.changed.Changed.{Changed}
 
 abbrev pub is_accepted : Answer → Bool
 is_accepted Accepted = true
 is_accepted (No n) = false
 is_accepted (Held h) = false
+
+-- what a changing call gives: the store after it, and its answer
+pub record Changed : Type 0 where
+  pub store : Store
+  pub answer : Answer
 
 -- nothing has changed: the store is the same value, and the area has the same bytes
 pub record Untouched (st : Store) (area : Bytes) (r : Store) (area' : Bytes) : Type 0 where

@@ -4,9 +4,7 @@ use Rattle.std.specs.Prelude.{ℕ}
 use Rattle.std.proofs.Math.Option.{Option, none, some}
 use Rattle.forms.specs.Key.{key_form}
 use Rattle.forms.specs.Batch.{Mutation}
-use Rattle.rules.specs.declared.answers.Answer.{Answer}
-use Rattle.rules.specs.declared.answers.Answer.TheVariants.{Accepted}
-use Rattle.rules.specs.Answers.{◌▸◌, need, need_own}
+use Rattle.rules.specs.Answers.{Answer, Accepted, ◌▸◌, need, need_own}
 use Rattle.rules.specs.Box.{Lock, holder_of}
 use Rattle.rules.specs.Calls.{owns, row_argument}
 

@@ -1,15 +1,15 @@
 -- What entries add and free, what the check of an entry, or of all entries, says of a box, and the room that is left.
 -- Assumes nothing.
-use Rattle.std.specs.Prelude.{ℕ, ◌*◌, ◌≤◌, ◌≡◌, List}
-use Rattle.rules.specs.declared.answers.Answer.{Answer}
-use Rattle.rules.specs.declared.answers.Answer.TheVariants.{Accepted}
+use Rattle.std.specs.Prelude.{ℕ, ◌*◌, ◌≤◌, ◌≡◌, List, Result}
+use Rattle.rules.specs.Answers.{Answer, Accepted}
+use Rattle.rules.specs.declared.answers.Refusal.{Refusal}
+use Rattle.rules.specs.Outcomes.{outcome, value_or}
 use Rattle.rules.specs.declared.room.Load.{Load}
 use Rattle.rules.specs.Box.{Box}
 use Rattle.laws.specs.Adds.{no_load, plus, sum_loads}
 use Rattle.laws.proofs.BatchLaws.{check_all}
 use Rattle.changes.specs.Loads.{Small, Within}
 use Rattle.calls.specs.declared.weights.Weight.{Weight}
-use Rattle.calls.specs.declared.weights.Checked.{Checked}
 
 abbrev pub no_weight : Weight
 no_weight = record { added = no_load; freed = no_load }
@@ -48,9 +48,14 @@ pub record Steps (A : Type 0) : Type 0 where
   pub add : ℕ
   pub free : ℕ
 
-pub record Refused (answer : Answer) (r : Checked) : Type 0 where
-  pub answer_is : r.answer ≡ answer
-  pub weight_is : r.weight ≡ no_weight
+-- what the check of an entry, or of all entries, says: the answer, and what would be added and freed
+pub record Checked : Type 0 where
+  pub answer : Answer
+  pub weight : Weight
+
+-- a refusal adds and frees nothing
+abbrev pub checked : Result Weight Refusal → Checked
+checked r = record { answer = outcome r; weight = value_or no_weight r }
 
 -- the answer is the definition's; where it passes, so is what the entry adds and frees
 pub record EntryChecked {A : Type 0} (c : Steps A) (b : Box) (x : A) (r : Checked) : Type 0 where

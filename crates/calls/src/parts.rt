@@ -1,36 +1,16 @@
-// The key and the row of an entry, as parts of the batch.
+// The row of an entry, as a part of the batch.
 ghost use Rattle.std.specs.Prelude.{◌≡◌};
-ghost use Rattle.forms.specs.Places.{EntryIn, key_at};
-ghost use Rattle.calls.specs.Entries.{only_if, row_at};
+ghost use Rattle.forms.specs.Places.{EntryIn, given_part};
+ghost use Rattle.forms.specs.Readers.{given};
 
 use forms::Entry;
 
-pub fn key_of(batch: &[u8], e: Entry) -> &[u8]
+pub fn row_of(batch: &[u8], e: Entry) -> Option<&[u8]>
     requires { EntryIn batch.now e }
-    ensures { result.now ≡ key_at batch.now e }
+    ensures { given result ≡ given_part batch.now e.row }
 {
-    let at = e.at;
-    let end = at + e.len;
-    &batch[at..end]
-}
-
-// As many where it is so, else none: how long an entry's row is, since a Delete has none; how many entries are applied, since a refusal
-// applies none.
-pub fn only_if(so: bool, n: usize) -> usize
-    ensures { result ≡ only_if so n }
-{
-    if so {
-        return n;
+    match e.row {
+        Some(row) => Some(row.of(batch)),
+        None => None,
     }
-    0
-}
-
-pub fn row_of(batch: &[u8], e: Entry) -> &[u8]
-    requires { EntryIn batch.now e }
-    ensures { result.now ≡ row_at batch.now e }
-{
-    let at = e.rowat;
-    let size = only_if(e.put, e.rowlen);
-    let end = at + size;
-    &batch[at..end]
 }

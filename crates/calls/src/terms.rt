@@ -1,20 +1,18 @@
 // The steps that a commit and a one-step batch make on their terms.
 ghost use Rattle.std.specs.Prelude.{◌≡◌};
 ghost use Rattle.rules.specs.Commit.{commit_terms_step};
+ghost use Rattle.rules.specs.Outcomes.{outcome};
 
-use crate::steps::{accepted, floor_step, zero_step};
-use rules::{Answer, CommitTerms};
+use crate::steps::{floor_step, zero_step};
+use rules::{CommitTerms, Refusal};
 
 // "3": "zero transaction, start ..; commit not above start"; "after the last 3" 14, a start at or below the floor
-pub fn commit_terms_step(floor: u64, terms: CommitTerms) -> Answer
-    ensures { result ≡ commit_terms_step floor terms }
+pub fn commit_terms_step(floor: u64, terms: CommitTerms) -> Result<(), Refusal>
+    ensures { outcome result ≡ commit_terms_step floor terms }
 {
-    let zero = zero_step(terms.txn, terms.start);
-    if !accepted(zero) {
-        return zero;
-    }
+    zero_step(terms.txn, terms.start)?;
     if terms.commit <= terms.start {
-        return Answer::No(3);
+        return Err(Refusal::Argument);
     }
     floor_step(floor, terms.start)
 }

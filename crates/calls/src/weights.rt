@@ -1,10 +1,10 @@
-// What entries would add to a store and free in it, and what the check of an entry, or of all entries, says.
+// What entries would add to a store and free in it.
 ghost use Rattle.std.specs.Prelude.{◌≡◌};
 ghost use Rattle.laws.specs.Adds.{plus, minus};
-ghost use Rattle.calls.specs.Weights.{no_weight, Sums, LeftAsks, Refused};
+ghost use Rattle.calls.specs.Weights.{Sums, LeftAsks};
 
 use changes::{less, more};
-use rules::{Answer, Load};
+use rules::Load;
 
 // What an entry, or all of them, would add and free.
 #[derive(Clone, Copy)]
@@ -13,52 +13,21 @@ pub struct Weight {
     pub freed: Load,
 }
 
-// The answer, and what would be added and freed.
-#[derive(Clone, Copy)]
-pub struct Checked {
-    pub answer: Answer,
-    pub weight: Weight,
-}
-
-pub fn no_weight() -> Weight
-    ensures { result ≡ no_weight }
-{
-    let none = Load {
-        lines: 0,
-        locks: 0,
-        defaults: 0,
-        bytes: 0,
+impl Weight {
+    // Of a replay, which adds nothing and frees nothing.
+    pub const NONE: Weight = Weight {
+        added: Load::NONE,
+        freed: Load::NONE,
     };
-    Weight {
-        added: none,
-        freed: none,
-    }
-}
-
-// "A refusal changes nothing"
-pub fn refusal(answer: Answer) -> Checked
-    ensures { Refused answer result }
-{
-    let none = no_weight();
-    Checked {
-        answer: answer,
-        weight: none,
-    }
 }
 
 pub fn plus_weight(a: Weight, b: Weight) -> Weight
     requires { Sums a b }
     ensures { (result.added ≡ plus a.added b.added) × (result.freed ≡ plus a.freed b.freed) }
 {
-    let aa = a.added;
-    let ba = b.added;
-    let added = more(aa, ba);
-    let af = a.freed;
-    let bf = b.freed;
-    let freed = more(af, bf);
     Weight {
-        added: added,
-        freed: freed,
+        added: more(a.added, b.added),
+        freed: more(a.freed, b.freed),
     }
 }
 
@@ -67,8 +36,6 @@ pub fn left_load(load: Load, w: Weight) -> Load
     requires { LeftAsks load w }
     ensures { result ≡ minus (plus load w.added) w.freed }
 {
-    let added = w.added;
-    let freed = w.freed;
-    let all = more(load, added);
-    less(all, freed)
+    let all = more(load, w.added);
+    less(all, w.freed)
 }

@@ -6,7 +6,7 @@ use mathlib.Core.List.{◌++◌}
 use lib.ListN.{length, take, drop}
 use Rattle.forms.specs.Bytes.{Bytes, bytes_at, piece_bytes}
 use Rattle.forms.specs.Writers.{Laid, PieceAsks}
-use Rattle.forms.proofs.WriterLaws.{laid_as, laid_then}
+use Rattle.forms.proofs.WriterLaws.{laid_as, laid_then, bytes-long}
 use Rattle.rules.specs.Box.{start_of}
 use Rattle.rules.specs.Written.{lock_bytes}
 use Rattle.rules.specs.Capture.{default_bytes, record_bytes}
@@ -20,8 +20,7 @@ use Rattle.store.specs.View.{eight_at, place_of, row_len, line_in, past, key_of,
 use Rattle.store.specs.Views.{view_in, view_of, lock_in, record_in}
 use Rattle.store.specs.Stretches.{StretchAsks}
 use Rattle.store.proofs.StretchLaws.{stretch, stretch-long, stretch-laid}
-use Rattle.forms.proofs.WriterLaws.{bytes-long}
-use Rattle.picks.specs.Lines.{line_bytes, entry_bytes, row_at, ShortLine, SlotIn}
+use Rattle.picks.specs.Lines.{line_bytes, entry_bytes, row_at, ShortLine}
 use Rattle.captures.specs.Asks.{EntryAsks}
 use Rattle.picks.proofs.CaptureLineLaws.{key_in, key-some, row-in, row_short, start_is}
 use Rattle.picks.proofs.EntrySizeLaws.{default-long, entry-long}

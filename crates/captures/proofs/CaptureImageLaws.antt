@@ -4,7 +4,7 @@ use Prim.Native.Nat.{ℕ, suc, ◌+◌, ◌-◌, ◌≤◌, ◌<◌}
 use native.Mathlib.Omega.{arith}
 use mathlib.Core.Path.{◌≡◌, refl, sym, ap, ◌∙◌, subst}
 use mathlib.Core.Bool.{Bool, true, false, ◌&&◌, not}
-use mathlib.Core.List.{List, [], ◌∷◌, ◌++◌, append_assoc}
+use mathlib.Core.List.{List, [], ◌∷◌, ◌++◌, map, append_assoc}
 use lib.Dec.{leb}
 use lib.ListN.{length, take, drop, length-append}
 use borrow.Author.Tests.{le-leb, lt-leb, eq-eqb, ne_eqb}
@@ -16,7 +16,7 @@ use Rattle.forms.specs.Numbers.{digits}
 use Rattle.forms.specs.Writers.{Laid}
 use Rattle.forms.proofs.NumberLaws.{length_digits}
 use Rattle.forms.proofs.WriterLaws.{laid-front, laid_as, laid_then, laid-lent, rest-long}
-use Rattle.rules.specs.declared.answers.Answer.TheVariants.{Accepted, No}
+use Rattle.rules.specs.Answers.{Accepted, No}
 use Rattle.rules.specs.Box as box
 use Rattle.rules.specs.Read.{keep_if, those}
 use Rattle.rules.specs.Page.{locks_of}
@@ -27,7 +27,7 @@ use Rattle.laws.proofs.StepLaws.{answered}
 use Rattle.store.specs.declared.table.Slot.{Slot}
 use Rattle.store.specs.declared.table.Store.{Store}
 use Rattle.store.specs.View.{line_of, box_of}
-use Rattle.rules.specs.declared.written.Wrote.{Wrote}
+use Rattle.rules.specs.Outcomes.{Wrote}
 use Rattle.picks.specs.declared.slots.Section.TheVariants.{Locks, Writes}
 use Rattle.picks.specs.declared.sizes.Sizes.{Sizes}
 use Rattle.picks.specs.Lines.{in_section, belongs, entry_bytes, lines_in, rows_in, lines_bytes, entries_in}
@@ -72,25 +72,25 @@ module _ (t : ℕ) where
 
 -- ---- the sections in their order
 
-module _ (floor : ℕ) {lines : List Slot} {n : ℕ} {area : Bytes} {t : ℕ} {z : Sizes} (sizes : SizesAre lines n area t z) where
+module _ (floor : ℕ) {slots : List Slot} {area : Bytes} {t : ℕ} {z : Sizes} (sizes : SizesAre slots area t z) where
   abbrev rows_of : Bytes
-  rows_of = all_bytes default_bytes (rows_in lines n area t)
+  rows_of = all_bytes default_bytes (rows_in slots area t)
 
   abbrev locks_in : Bytes
-  locks_in = all_bytes entry_bytes (lines_in lines n area t Locks)
+  locks_in = all_bytes entry_bytes (lines_in slots area t Locks)
 
   abbrev writes_in : Bytes
-  writes_in = all_bytes entry_bytes (lines_in lines n area t Writes)
+  writes_in = all_bytes entry_bytes (lines_in slots area t Writes)
 
   -- as they are written
   abbrev flat : Bytes
   flat = digits 4 t ++ (digits 8 floor ++ (digits 2 z.defaults ++ (rows_of ++ (digits 2 z.locks ++ (locks_in ++ (digits 2 z.writes ++ writes_in))))))
 
-  flat-is : flat ≡ image_bytes (entries_in floor lines n area t)
+  flat-is : flat ≡ image_bytes (entries_in floor slots area t)
   unfolding image_bytes section_bytes entries_of part_of
   flat-is =
-      let l = locks-are t (shown (line_of area) n lines) in
-      let w = writes_are t (shown (line_of area) n lines) in
+      let l = locks-are t (map (line_of area) slots) in
+      let w = writes_are t (map (line_of area) slots) in
       rw (sizes.defaults, sizes.locks ∙ l.1, sizes.writes ∙ w.1, l.0, w.0) (simp append_assoc)
 
   flat-long : length flat ≡ z.bytes + 18
@@ -112,27 +112,27 @@ module _ (floor : ℕ) {lines : List Slot} {n : ℕ} {area : Bytes} {t : ℕ} {z
         length_digits 2 z.writes,
       )
 
-  pub image-long : length (image_bytes (entries_in floor lines n area t)) ≡ z.bytes + 18
+  pub image-long : length (image_bytes (entries_in floor slots area t)) ≡ z.bytes + 18
   image-long = ap length (sym flat-is) ∙ flat-long
 
 -- ---- one section after the other
 
-module _ {lines : List Slot} {n : ℕ} {area : Bytes} {t : ℕ} {z : Sizes} {s : Bytes} (q : ImageAsks lines n area t z s) (floor : ℕ) {a c b : ℕ} {u x v : Bytes} (one : Laid 0 4 (digits 4 t) s a u)
+module _ {slots : List Slot} {area : Bytes} {t : ℕ} {z : Sizes} {s : Bytes} (q : ImageAsks slots area t z s) (floor : ℕ) {a c b : ℕ} {u x v : Bytes} (one : Laid 0 4 (digits 4 t) s a u)
     (floored : Laid a 8 (digits 8 floor) u c x) (two : Laid c 2 (digits 2 z.defaults) x b v) where
-  module _ {k d : ℕ} {part w : Bytes} (three : Laid 0 (length (all_bytes default_bytes (rows_in lines n area t))) (all_bytes default_bytes (rows_in lines n area t)) (take (length v - b) (drop b v)) k part)
+  module _ {k d : ℕ} {part w : Bytes} (three : Laid 0 (length (all_bytes default_bytes (rows_in slots area t))) (all_bytes default_bytes (rows_in slots area t)) (take (length v - b) (drop b v)) k part)
       (four : Laid (b + k) 2 (digits 2 z.locks) (put_mid b (length v - b) v part) d w) where
-    rows-laid : Laid b (length (all_bytes default_bytes (rows_in lines n area t))) (all_bytes default_bytes (rows_in lines n area t)) v (b + k) (put_mid b (length v - b) v part)
+    rows-laid : Laid b (length (all_bytes default_bytes (rows_in slots area t))) (all_bytes default_bytes (rows_in slots area t)) v (b + k) (put_mid b (length v - b) v part)
     rows-laid = laid-lent v b (omega (arith, two.within, two.length_is)) three
 
-    pub lines-asked : LinesAsk lines n area t z.held z.writes (take (length w - d) (drop d w))
+    pub lines-asked : LinesAsk slots area t z.held z.writes (take (length w - d) (drop d w))
     lines-asked = record {
       lined = q.lined;
       place = q.sizes.held;
       room = omega (arith, q.room, q.sizes.held, q.sizes.bytes, one.next, one.length_is, floored.next, floored.length_is, two.next, two.length_is, rows-laid.next, rows-laid.length_is, four.next, four.length_is, rest-long w d);
     }
 
-    module _ {k2 : ℕ} {part2 : Bytes} (five : Laid 0 (length (lines_bytes lines n area t z.writes)) (lines_bytes lines n area t z.writes) (take (length w - d) (drop d w)) k2 part2) where
-      pub image-laid : Laid 0 (length (image_bytes (entries_in floor lines n area t))) (image_bytes (entries_in floor lines n area t)) s (d + k2) (put_mid d (length w - d) w part2)
+    module _ {k2 : ℕ} {part2 : Bytes} (five : Laid 0 (length (lines_bytes slots area t z.writes)) (lines_bytes slots area t z.writes) (take (length w - d) (drop d w)) k2 part2) where
+      pub image-laid : Laid 0 (length (image_bytes (entries_in floor slots area t))) (image_bytes (entries_in floor slots area t)) s (d + k2) (put_mid d (length w - d) w part2)
       image-laid = laid_as (laid_then one (laid_then floored (laid_then two (laid_then rows-laid (laid_then four (laid-lent w d (omega (arith, four.within, four.length_is)) five)))))) (flat-is floor q.sizes)
 
       pub image-fits : d + k2 ≤ 2097170
@@ -148,9 +148,9 @@ module _ (st : Store) (area : Bytes) (t : ℕ) (out : Bytes) where
       subst (λ (b : Bool). WroteAs (capture_if (not b) (image_of st.floor t (box_of st area)) out) r out) (sym (eq-eqb t 0 e))
       (record { answer_is = answered (ap (λ (x : Wrote). x.answer) p); count_is = ap (λ (x : Wrote). x.count) p; out_is = refl })
 
-  module _ (h : t ≡ 0 → ⊥) {z : Sizes} (sizes : SizesAre st.lines st.load.lines area t z) where
+  module _ (h : t ≡ 0 → ⊥) {z : Sizes} (sizes : SizesAre (take st.load.lines st.lines) area t z) where
     length_is : length (image_of st.floor t (box_of st area)) ≡ z.bytes + 18
-    unfolding image_of
+    unfolding image_of shown
     length_is = image-long st.floor sizes
 
     by : (b : Bool) → leb (length (image_of st.floor t (box_of st area))) (length out) ≡ b → {r : Wrote} {out' : Bytes} → WroteAs (write_if b (image_of st.floor t (box_of st area)) out) r out' → WroteAs (capture_image st.floor t (box_of st area) out) r out'
@@ -167,16 +167,16 @@ module _ (st : Store) (area : Bytes) (t : ℕ) (out : Bytes) where
         (record { answer_is = answered (ap (λ (x : Wrote). x.answer) p); count_is = ap (λ (x : Wrote). x.count) p; out_is = refl })
 
     -- what is written is the image
-    pub put_front : {m : ℕ} {out' : Bytes} → Laid 0 (length (image_bytes (entries_in st.floor st.lines st.load.lines area t))) (image_bytes (entries_in st.floor st.lines st.load.lines area t)) out m out' → take m out' ≡ image_of st.floor t (box_of st area)
-    unfolding image_of
+    pub put_front : {m : ℕ} {out' : Bytes} → Laid 0 (length (image_bytes (entries_in st.floor (take st.load.lines st.lines) area t))) (image_bytes (entries_in st.floor (take st.load.lines st.lines) area t)) out m out' → take m out' ≡ image_of st.floor t (box_of st area)
+    unfolding image_of shown
     put_front x = laid-front x
 
-    pub captured-put : z.bytes + 18 ≤ length out → {m : ℕ} {out' : Bytes} → Laid 0 (length (image_bytes (entries_in st.floor st.lines st.load.lines area t))) (image_bytes (entries_in st.floor st.lines st.load.lines area t)) out m out'
+    pub captured-put : z.bytes + 18 ≤ length out → {m : ℕ} {out' : Bytes} → Laid 0 (length (image_bytes (entries_in st.floor (take st.load.lines st.lines) area t))) (image_bytes (entries_in st.floor (take st.load.lines st.lines) area t)) out m out'
         → WroteAs (capture_image st.floor t (box_of st area) out) (record { answer = Accepted; count = m }) out'
-    unfolding write_if image_of
+    unfolding write_if image_of shown
     captured-put l {m} x =
         by true (le-leb (length (image_of st.floor t (box_of st area))) (length out) (omega (arith, length_is)))
         (record { answer_is = answered refl; count_is = all; out_is = x.is ∙ ap (λ (k : ℕ). image_of st.floor t (box_of st area) ++ drop k out) all })
       where
-        all : m ≡ length (image_bytes (entries_in st.floor st.lines st.load.lines area t))
+        all : m ≡ length (image_bytes (entries_in st.floor (take st.load.lines st.lines) area t))
         all = omega (arith, x.next)

@@ -9,7 +9,7 @@ use lib.Dec.{eqb}
 use lib.ListN.{length, get_or, take}
 use lib.Seq.{get_or-take, length-take-le}
 use borrow.Author.Tests.{eqb-false}
-use Rattle.seqs.specs.Tables.{All}
+use Rattle.seqs.specs.Tables.{All, shown}
 use Rattle.seqs.proofs.Tables.{table-long, shown-at, shown-length}
 use Rattle.forms.specs.Bytes.{Bytes, bytes_at}
 use Rattle.forms.specs.Key.{key_form}
@@ -104,14 +104,11 @@ module _ {st : Store} {area : Bytes} (b : Built st area) where
       starts = sound-start (line_of area (slot i)).line (and_right (key_form (key_of area (slot i))) _ line-good);
     }
 
-  pub built-lined : Lined st.lines st.load.lines area
+  pub built-lined : Lined (take st.load.lines st.lines) area
+  unfolding shown
   built-lined = record {
-    table = record {
-      length_is = b.lines.length_is;
-      count_fits = b.lines.count_fits;
-      holds = all_from (SlotIn area) no_slot (take st.load.lines st.lines) (λ i l. let h : i < st.load.lines = omega (arith, l, length-take-le st.load.lines st.lines (table-long b.lines)) in subst (SlotIn area) (sym (get_or-take st.load.lines st.lines i no_slot h)) (slot-good i h));
-      rest = b.lines.rest;
-    };
+    few = omega (arith, length-take-le st.load.lines st.lines (table-long b.lines), b.lines.count_fits);
+    holds = all_from (SlotIn area) no_slot (take st.load.lines st.lines) (λ i l. let h : i < st.load.lines = omega (arith, l, length-take-le st.load.lines st.lines (table-long b.lines)) in subst (SlotIn area) (sym (get_or-take st.load.lines st.lines i no_slot h)) (slot-good i h));
     sorted = order-lines (box_of st area) b.kept.sorted;
     once = b.kept.once;
   }

@@ -1,7 +1,7 @@
 -- Document 02's sentence on a written image, carried to stores: of a made store, whose area holds bytes, it restores to the table's part and the
 -- floor.
 -- Assumes nothing.
-use Prim.Native.Nat.{ℕ, zero, suc, ◌+◌, ◌<◌}
+use Prim.Native.Nat.{ℕ, ◌+◌}
 use native.Mathlib.Omega.{arith}
 use mathlib.Core.Path.{◌≡◌, sym, ap, ◌∙◌, subst}
 use mathlib.Core.Bool.{Bool, true, false, true≢false}
@@ -10,13 +10,13 @@ use lib.ListN.{length, take, drop, length-take}
 use Rattle.seqs.specs.Tables.{All, shown}
 use Rattle.forms.specs.Bytes.{Bytes, bytes_at, AllBytes}
 use Rattle.forms.proofs.NumberLaws.{power_pos, below_word, number-below, bytes_take, bytes_drop}
-use Rattle.rules.specs.declared.answers.Answer.TheVariants.{Accepted, No}
+use Rattle.rules.specs.Answers.{Accepted, No}
 use Rattle.rules.specs.declared.records.Kind.{Kind}
 use Rattle.rules.specs.declared.records.Kind.TheVariants.{Put, Delete, Rollback}
 use Rattle.rules.specs.Box as box
 use Rattle.rules.specs.Box.{start_of, kind_in, put_in, insert_by}
 use Rattle.rules.specs.Room.{Fits, load_of, room_for}
-use Rattle.rules.specs.declared.written.Wrote.{Wrote}
+use Rattle.rules.specs.Outcomes.{Wrote}
 use Rattle.rules.specs.Calls.{State}
 use Rattle.rules.specs.Restore.{restore}
 use Rattle.rules.specs.Capture.{part_of, image_of, Word, LineWords, Words}

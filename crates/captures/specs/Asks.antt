@@ -20,17 +20,17 @@ pub record EntryAsks (area : Bytes) (s : Slot) (bytes : Bytes) (at : ℕ) (out :
   pub room : at + length bytes ≤ length out
 
 -- the bytes of a section's entries
-pub record SectionAsks (lines : List Slot) (n : ℕ) (area bytes out : Bytes) : Type 0 where
-  pub lined : Lined lines n area
+pub record SectionAsks (slots : List Slot) (area bytes out : Bytes) : Type 0 where
+  pub lined : Lined slots area
   pub room : length bytes ≤ length out
 
 -- the locks end at w, and the writes have room past it
-pub record LinesAsk (lines : List Slot) (n : ℕ) (area : Bytes) (t w writes : ℕ) (out : Bytes) : Type 0 where
-  pub lined : Lined lines n area
-  pub place : w ≡ length (all_bytes entry_bytes (lines_in lines n area t Locks))
-  pub room : w + (2 + length (all_bytes entry_bytes (lines_in lines n area t Writes))) ≤ length out
+pub record LinesAsk (slots : List Slot) (area : Bytes) (t w writes : ℕ) (out : Bytes) : Type 0 where
+  pub lined : Lined slots area
+  pub place : w ≡ length (all_bytes entry_bytes (lines_in slots area t Locks))
+  pub room : w + (2 + length (all_bytes entry_bytes (lines_in slots area t Writes))) ≤ length out
 
-pub record ImageAsks (lines : List Slot) (n : ℕ) (area : Bytes) (t : ℕ) (z : Sizes) (out : Bytes) : Type 0 where
-  pub lined : Lined lines n area
-  pub sizes : SizesAre lines n area t z
+pub record ImageAsks (slots : List Slot) (area : Bytes) (t : ℕ) (z : Sizes) (out : Bytes) : Type 0 where
+  pub lined : Lined slots area
+  pub sizes : SizesAre slots area t z
   pub room : z.bytes + 18 ≤ length out

@@ -2,8 +2,8 @@
 -- table's part of the store", of the bytes that it wrote, with the floor that stands in them. Assumes nothing.
 use Rattle.std.specs.Prelude.{ℕ, ◌≡◌, take}
 use Rattle.forms.specs.Bytes.{Bytes}
-use Rattle.rules.specs.declared.answers.Answer.TheVariants.{Accepted}
-use Rattle.rules.specs.declared.written.Wrote.{Wrote}
+use Rattle.rules.specs.Answers.{Accepted}
+use Rattle.rules.specs.Outcomes.{Wrote}
 use Rattle.rules.specs.Box.{Box}
 use Rattle.rules.specs.Written.{WroteAs}
 use Rattle.rules.specs.Calls.{State}

@@ -19,8 +19,7 @@ fn put_key(out: &mut [u8], at: usize, area: &[u8], s: Slot) -> usize
     ensures { Laid at (s.len + 1) (piece_bytes (key_of area.now s)) out.old result out.new }
 {
     let p = place_of(s);
-    let e = p + s.len as usize;
-    put_piece(out, at, &area[p..e])
+    put_piece(out, at, &area[p..p + s.len as usize])
 }
 
 // A line's key, and its lock or its record.
@@ -33,12 +32,11 @@ pub(crate) fn put_line(out: &mut [u8], at: usize, area: &[u8], s: Slot) -> usize
     match line {
         LineView::Standing(l) => put_intent(out, a, area, l),
         LineView::Finished(w) => {
-            let kind = w.kind;
             let said = Record {
                 stamp: w.stamp,
                 start: w.start,
                 commit: w.stamp,
-                kind: kind,
+                kind: w.kind,
             };
             put_record(out, a, said)
         }

@@ -7,10 +7,9 @@ use mathlib.Core.Path.{◌≡◌, refl}
 use mathlib.Core.Bool.{Bool, true, false, ◌&&◌, true≢false, false≢true}
 use mathlib.Core.List.{List, [], ◌∷◌, ◌++◌}
 use Rattle.forms.specs.Key.{Key}
-use Rattle.rules.specs.declared.answers.Answer.TheVariants.{No}
+use Rattle.rules.specs.Answers.{No, number, ◌▸◌, need}
 use Rattle.rules.specs.declared.records.Kind.{Kind}
 use Rattle.rules.specs.declared.records.Kind.TheVariants.{Put, Delete, Rollback}
-use Rattle.rules.specs.Answers.{number, ◌▸◌, need}
 use Rattle.rules.specs.Box.{Default, fresh}
 use Rattle.rules.specs.Room.{room_for}
 use Rattle.rules.specs.Page.{KeyLock}

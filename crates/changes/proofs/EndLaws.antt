@@ -1,5 +1,6 @@
 -- `end_lock`: the record of a commit takes the place of the key's lock, and carries its row.
 -- Assumes nothing.
+use Rattle.std.specs.Prelude.{None, Some}
 use Prim.Native.Nat.{ℕ, ◌+◌, ◌≤◌, ◌<◌}
 use native.Mathlib.Omega.{arith}
 use mathlib.Core.Path.{◌≡◌, refl, sym, ap, ◌∙◌, subst}
@@ -24,7 +25,6 @@ use Rattle.laws.proofs.StepLaws.{and_left, and_right}
 use Rattle.laws.proofs.Sorted.{ordered-first, ordered-rest, after-in}
 use Rattle.laws.proofs.BoxOrder.{row_before-trans, row_before-irrefl, order-defaults}
 use Rattle.laws.proofs.KeyLaws.{insert-first, pair-after, drop_row-none}
-use Rattle.lookups.specs.declared.lookup.Locked.TheVariants.{Nobody, By}
 use Rattle.lookups.specs.declared.lookup.KeyState.{KeyState}
 use Rattle.store.specs.declared.views.LockView.{LockView}
 use Rattle.store.specs.declared.table.Store.{Store}
@@ -90,13 +90,13 @@ sound-ended x commit s h =
 -- ---- the call
 
 module _ {st : Store} {area : Bytes} {seen : KeyState} {key : Key} {start commit : ℕ} (asks : EndAsks st area seen key start commit) where
-  pub end-nobody : seen.lock ≡ Nobody → Leaves (commit_to commit (box_of st area) key none (box.lock_of key (box_of st area).lines)) (st.top + 320) st area
+  pub end-nobody : seen.lock ≡ None → Leaves (commit_to commit (box_of st area) key none (box.lock_of key (box_of st area).lines)) (st.top + 320) st area
   unfolding commit_to
   end-nobody q =
       let f : box.lock_of key (box_of st area).lines ≡ none = sym asks.looked.lock_is ∙ ap (locked_by area) q in
       record { built = asks.built; shown = rw f; top_most = omega arith }
 
-  module _ {i : LockView} (q : seen.lock ≡ By i) where
+  module _ {i : LockView} (q : seen.lock ≡ Some i) where
     abbrev x : box.Lock
     x = lock_in area i
 

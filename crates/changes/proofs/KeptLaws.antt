@@ -1,17 +1,16 @@
 -- A box in order and sound, with its tallies, after a lock or a record came.
 -- Assumes nothing.
-use Prim.Native.Nat.{ℕ, ◌-◌, ◌≤◌}
+use Prim.Native.Nat.{ℕ, ◌≤◌}
 use native.Mathlib.Omega.{arith}
 use mathlib.Core.Path.{◌≡◌, refl, sym, ap, ap₂, ◌∙◌}
 use mathlib.Core.Bool.{Bool, true, false, ◌&&◌, not}
 use mathlib.Core.List.{List, [], ◌∷◌}
-use mathlib.Core.Option.{none}
+use mathlib.Core.Option.{Option, none, some}
 use lib.Dec.{eqb}
 use lib.ListN.{length}
 use Rattle.forms.specs.Key.{Key, key_form}
 use Rattle.forms.specs.Row.{Row}
 use Rattle.forms.specs.Bytes.{eq_bytes}
-use Rattle.forms.specs.Readers.{when}
 use Rattle.forms.proofs.RowLaws.{row-bounds}
 use Rattle.rules.specs.declared.records.Kind.{Kind}
 use Rattle.rules.specs.declared.records.Kind.TheVariants.{Put, Delete, Rollback}
@@ -38,7 +37,7 @@ use Rattle.store.specs.View.{if_put, row_if, add_if}
 use Rattle.store.specs.Made.{LeanRow, good_line, good_row, Tallied}
 use Rattle.store.proofs.StoredLaws.{pair-sym, once-insert, once-fewer}
 use Rattle.changes.specs.Loads.{row_size, lock_size, record_size, Within}
-use Rattle.changes.specs.Changes.{entry_for, RowFits, record_over}
+use Rattle.changes.specs.Changes.{entry_for, row_bytes, RowFits, record_over}
 
 -- ---- a line's row
 
@@ -60,15 +59,15 @@ row-size Put key r = refl
 row-size Delete key r = refl
 row-size Rollback key r = refl
 
-row-if : (put : Bool) (r : Row) → when put r ≡ row_if (kind_of (when put r)) r
-row-if true r = refl
-row-if false r = refl
+row-if : (row : Option Row) → row ≡ row_if (kind_of row) (row_bytes row)
+row-if (some r) = refl
+row-if none = refl
 
-pub lock-size : (key primary : Key) (put : Bool) (r : Row) → lock_size (kind_of (when put r)) (length key) (length primary) (length r) ≡ plus (lock_load key primary) (of_row key (when put r))
-lock-size key primary put r =
-    let e : of_row key (when put r) ≡ row_size (kind_of (when put r)) (length key) (length r) = ap (of_row key) (row-if put r) ∙ row-size (kind_of (when put r)) key r in
+pub lock-size : (key primary : Key) (row : Option Row) → lock_size (kind_of row) (length key) (length primary) (length (row_bytes row)) ≡ plus (lock_load key primary) (of_row key row)
+lock-size key primary row =
+    let e : of_row key row ≡ row_size (kind_of row) (length key) (length (row_bytes row)) = ap (of_row key) (row-if row) ∙ row-size (kind_of row) key (row_bytes row) in
     let q = load_fields e in
-    let z = no_lines (kind_of (when put r)) (length key) (length r) in
+    let z = no_lines (kind_of row) (length key) (length (row_bytes row)) in
     load-eq _ _ (omega arith)
   where
     no_lines : (k : Kind) (a b : ℕ) → ((row_size k a b).lines ≡ 0) × ((row_size k a b).locks ≡ 0)
@@ -98,34 +97,34 @@ none-pair k y (e ∷ es) n w = go e.line (eq_bytes k e.key) n w (none-pair k y e
 
 -- ---- a lock comes
 
-module _ {b : box.Box} {l : Load} (k : Tallied b l) (h : PrewriteTerms) (key : Key) (put : Bool) (row : Row) where
+module _ {b : box.Box} {l : Load} (k : Tallied b l) (h : PrewriteTerms) (key : Key) (row : Option Row) where
   abbrev e : box.KeyLine
-  e = record { key = key; line = box.Standing (lock_for h (kind_of (when put row))) }
+  e = record { key = key; line = box.Standing (lock_for h (kind_of row)) }
 
-  pub kept-lock : box.lock_of key b.lines ≡ none → box.row_of key h.start b.defaults ≡ none → none_like like_line (record { key = key; line = box.Standing (lock_for h (kind_of (when put row))) }) b.lines ≡ true
-      → key_form key ≡ true → RowFits (kind_of (when put row)) row → sound_lock (lock_for h (kind_of (when put row))) ≡ true
-      → Tallied (lock_line h (entry_for key put row) b) (plus l (lock_size (kind_of (when put row)) (length key) (length h.primary) (length row)))
+  pub kept-lock : box.lock_of key b.lines ≡ none → box.row_of key h.start b.defaults ≡ none → none_like like_line (record { key = key; line = box.Standing (lock_for h (kind_of row)) }) b.lines ≡ true
+      → key_form key ≡ true → RowFits (kind_of row) (row_bytes row) → sound_lock (lock_for h (kind_of row)) ≡ true
+      → Tallied (lock_line h (entry_for key row) b) (plus l (lock_size (kind_of row) (length key) (length h.primary) (length (row_bytes row))))
   unfolding lock_line prewrite_adds unless_locked store_if
   kept-lock free norow once form fits sound = record {
     load_is =
-        ap₂ plus k.load_is (lock-size key h.primary put row)
-        ∙ sym (ap load_of (sym (prewrite-new h (entry_for key put row) b free)) ∙ prewrite-load h (entry_for key put row) b ∙ ap (plus (load_of b)) adds);
-    sorted = in_order_lem _ _ (ordered-lock key (lock_for h (kind_of (when put row))) b.lines free (order-lines b k.sorted)) (rows-order put);
+        ap₂ plus k.load_is (lock-size key h.primary row)
+        ∙ sym (ap load_of (sym (prewrite-new h (entry_for key row) b free)) ∙ prewrite-load h (entry_for key row) b ∙ ap (plus (load_of b)) adds);
+    sorted = in_order_lem _ _ (ordered-lock key (lock_for h (kind_of row)) b.lines free (order-lines b k.sorted)) (rows-order row);
     good = all_insert box.before e good_line b.lines (and_both (key_form key) _ form sound) k.good;
-    rows = rows-good put fits;
+    rows = rows-good row fits;
     once = once-insert like_line pair-sym box.before e b.lines once k.once;
   }
     where
-      adds : prewrite_adds h b (entry_for key put row) ≡ plus (lock_load key h.primary) (of_row key (when put row))
+      adds : prewrite_adds h b (entry_for key row) ≡ plus (lock_load key h.primary) (of_row key row)
       adds = rw free
 
-      rows-order : (t : Bool) → box.ordered box.row_before (store_if key h.start (when t row) b.defaults) ≡ true
-      rows-order true = ordered-default (record { key = key; start = h.start; row = row }) b.defaults norow (order-defaults b k.sorted)
-      rows-order false = order-defaults b k.sorted
+      rows-order : (o : Option Row) → box.ordered box.row_before (store_if key h.start o b.defaults) ≡ true
+      rows-order (some r) = ordered-default (record { key = key; start = h.start; row = r }) b.defaults norow (order-defaults b k.sorted)
+      rows-order none = order-defaults b k.sorted
 
-      rows-good : (t : Bool) → RowFits (kind_of (when t row)) row → all_good good_row (store_if key h.start (when t row) b.defaults) ≡ true
-      rows-good true f = all_insert box.row_before (record { key = key; start = h.start; row = row }) good_row b.defaults f k.rows
-      rows-good false f = k.rows
+      rows-good : (o : Option Row) → RowFits (kind_of o) (row_bytes o) → all_good good_row (store_if key h.start o b.defaults) ≡ true
+      rows-good (some r) f = all_insert box.row_before (record { key = key; start = h.start; row = r }) good_row b.defaults f k.rows
+      rows-good none f = k.rows
 
 -- ---- a record comes, and the key's lock goes, if it has one
 

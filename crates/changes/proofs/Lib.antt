@@ -9,5 +9,4 @@ pub mod KeptLaws
 pub mod PutLockLaws
 pub mod PutRecordLaws
 pub mod EndLaws
-pub mod SlotLaws
 pub mod PackLaws

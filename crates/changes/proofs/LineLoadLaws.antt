@@ -1,13 +1,13 @@
 -- What the functions of `loads` ask and return.
 -- Assumes nothing.
+use Rattle.std.specs.Prelude.{Some}
+use Rattle.lookups.specs.KeyStates.{Locked}
 use Prim.Native.Nat.{ℕ, ◌+◌, ◌≤◌}
 use native.Mathlib.Omega.{arith}
 use mathlib.Core.Path.{◌≡◌, subst}
 use Rattle.rules.specs.declared.records.Kind.{Kind}
 use Rattle.rules.specs.declared.records.Kind.TheVariants.{Put, Delete, Rollback}
 use Rattle.rules.specs.declared.room.Load.{Load}
-use Rattle.lookups.specs.declared.lookup.Locked.{Locked}
-use Rattle.lookups.specs.declared.lookup.Locked.TheVariants.{By}
 use Rattle.store.specs.declared.views.LockView.{LockView}
 use Rattle.laws.specs.Adds.{minus}
 use Rattle.laws.proofs.LoadLaws.{load_fields}
@@ -19,7 +19,7 @@ row-most Put key row = omega arith
 row-most Delete key row = omega arith
 row-most Rollback key row = omega arith
 
-pub freed_asks : {lock : Locked} {i : LockView} (key : ℕ) → FreedAsks lock key → lock ≡ By i → key + i.len + (key + i.rowlen) ≤ 1000000
+pub freed_asks : {lock : Locked} {i : LockView} (key : ℕ) → FreedAsks lock key → lock ≡ Some i → key + i.len + (key + i.rowlen) ≤ 1000000
 freed_asks key a e = subst (λ (l : Locked). FreedAsks l key) e a
 
 -- ---- small ones

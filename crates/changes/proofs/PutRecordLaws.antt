@@ -1,5 +1,6 @@
 -- `put_record`: a record comes, with a Put's row; the key's lock goes, if it has one, and its row.
 -- Assumes nothing.
+use Rattle.std.specs.Prelude.{None, Some}
 use Prim.Native.Nat.{ℕ, ◌+◌, ◌≤◌, ◌<◌}
 use native.Mathlib.Omega.{arith}
 use mathlib.Core.Path.{◌≡◌, refl, sym, ap, ap₂, ◌∙◌, subst}
@@ -27,23 +28,19 @@ use Rattle.laws.specs.Places.{finished_at}
 use Rattle.laws.proofs.KeyLaws.{drop_lock-none, drop_row-none}
 use Rattle.laws.proofs.LinePlaces.{lock-at}
 use Rattle.laws.proofs.LoadLaws.{load-eq}
-use Rattle.lookups.specs.declared.lookup.Locked.{Locked}
-use Rattle.lookups.specs.declared.lookup.Locked.TheVariants.{Nobody, By}
 use Rattle.lookups.specs.declared.lookup.KeyState.{KeyState}
 use Rattle.store.specs.declared.views.LockView.{LockView}
 use Rattle.store.specs.declared.table.Line.TheVariants.{Finished}
 use Rattle.store.specs.declared.table.Slot.{Slot}
 use Rattle.store.specs.declared.table.Store.{Store}
 use Rattle.store.specs.View.{Pairs, row_if, line_of, row_in, carries, default_in, add_if, stored, box_of, no_slot}
-use Rattle.store.specs.Made.{SlotBelow, Tallied, store_of}
+use Rattle.store.specs.Made.{SlotBelow, Tallied}
 use Rattle.store.specs.Views.{lock_in}
-use Rattle.lookups.specs.KeyStates.{locked_by, LockThere, IntentThere}
+use Rattle.lookups.specs.KeyStates.{Locked, locked_by, LockThere, IntentThere}
 use Rattle.store.proofs.StoredLaws.{row-none, row_out}
 use Rattle.forms.proofs.WriterLaws.{bytes-long}
 use Rattle.store.proofs.BuiltLaws.{lines-order}
-use Rattle.store.proofs.FloorLaws.{built-on}
 use Rattle.store.proofs.NeedLaws.{counted}
-use Rattle.lookups.proofs.LookUpLaws.{looked-on}
 use Rattle.changes.specs.declared.change.NewSlot.{NewSlot}
 use Rattle.changes.specs.declared.change.Change.{Change}
 use Rattle.changes.specs.declared.change.Change.TheVariants.{Inserts}
@@ -86,7 +83,7 @@ module _ {st : Store} {area : Bytes} {seen : KeyState} {key : Key} {start stamp 
 
   -- ---- the key has no lock
 
-  module _ (q : seen.lock ≡ Nobody) where
+  module _ (q : seen.lock ≡ None) where
     free : box.lock_of key es ≡ none
     free = sym asks.looked.lock_is ∙ ap (locked_by area) q
 
@@ -102,7 +99,7 @@ module _ {st : Store} {area : Bytes} {seen : KeyState} {key : Key} {start stamp 
 
   -- ---- the lock goes
 
-  module _ {i : LockView} (q : seen.lock ≡ By i) where
+  module _ {i : LockView} (q : seen.lock ≡ Some i) where
     abbrev x : box.Lock
     x = lock_in area i
 
@@ -142,21 +139,6 @@ module _ {st : Store} {area : Bytes} {seen : KeyState} {key : Key} {start stamp 
         ∙ row_out (line_of area) (row_in area) (take n st.lines) seen.first no_slot (omega (arith, length-take-le n st.lines (table-long asks.built.lines), first-in)) asks.built.kept.once
         ∙ ap stored (map-remove (default_in area) seen.first (take n st.lines))
 
-  -- the floor is none of it
-  pub asks-on : (floor : ℕ) → RecordAsks (store_of st.lines st.load st.top floor) area seen key start stamp kind row
-  asks-on floor = record {
-    built = built-on floor asks.built;
-    looked = looked-on floor asks.looked;
-    own = asks.own;
-    fresh = asks.fresh;
-    free = asks.free;
-    form = asks.form;
-    row_fits = asks.row_fits;
-    sound = asks.sound;
-    slot_free = asks.slot_free;
-    area_room = asks.area_room;
-  }
-
   -- ---- what goes
 
   abbrev freed : Load
@@ -164,8 +146,8 @@ module _ {st : Store} {area : Bytes} {seen : KeyState} {key : Key} {start stamp 
 
   freed_is : (o : Locked) → seen.lock ≡ o → freed_by o (length key) ≡ freed
   unfolding of_lock of_row
-  freed_is Nobody q = rw (free q, no_row q)
-  freed_is (By i) q =
+  freed_is None q = rw (free q, no_row q)
+  freed_is (Some i) q =
       let p : length (bytes_at area i.at i.len) ≡ i.len = bytes-long area i.at i.len (omega (arith, (there q).primary_in, asks.built.top_in, asks.built.area_long)) in
       let r : length (bytes_at area i.rowat i.rowlen) ≡ i.rowlen = bytes-long area i.rowat i.rowlen (omega (arith, (there q).row.within, asks.built.top_in, asks.built.area_long)) in
       let t : box.row_of key start ds ≡ row_if i.kind (bytes_at area i.rowat i.rowlen) = ap (λ (m : ℕ). box.row_of key m ds) (sym (own q)) ∙ (there q).row.is in
@@ -197,8 +179,8 @@ module _ {st : Store} {area : Bytes} {seen : KeyState} {key : Key} {start stamp 
   }
     where
       small : (o : Locked) → seen.lock ≡ o → FreedAsks o (length key)
-      small Nobody q = tt
-      small (By i) q = omega (arith, key-few, (there q).primary_in, (there q).row.within, asks.built.top_in)
+      small None q = tt
+      small (Some i) q = omega (arith, key-few, (there q).primary_in, (there q).row.within, asks.built.top_in)
 
   -- ---- what comes
 
@@ -223,8 +205,8 @@ module _ {st : Store} {area : Bytes} {seen : KeyState} {key : Key} {start stamp 
   coming at o = record { to = seen.place; slot = comes at; load = load' o; top = top at }
 
   asked : (at : ℕ) (o : Locked) → seen.lock ≡ o → ChangeAsks st (change_for o seen.first (coming at o))
-  asked at Nobody q = record { low = place-few; room = asks.slot_free q; length_is = asks.built.lines.length_is }
-  asked at (By i) q = record { before = before q; low = omega (arith, place-few, asks.built.lines.count_fits); length_is = asks.built.lines.length_is }
+  asked at None q = record { low = place-few; room = asks.slot_free q; length_is = asks.built.lines.length_is }
+  asked at (Some i) q = record { before = before q; low = omega (arith, place-few, asks.built.lines.count_fits); length_is = asks.built.lines.length_is }
 
   module _ {at : ℕ} (near : Pairs st.top at) {area' : Bytes} {end : ℕ} (v : RecordStands area (at + at) key stamp start row end area') where
     below : SlotBelow (top at) (comes at)
@@ -234,18 +216,18 @@ module _ {st : Store} {area : Bytes} {seen : KeyState} {key : Key} {start stamp 
     line = ap₂ (λ (k : Key) (y : box.Line). record { key = k; line = y }) v.key_is (v.line-is kind)
 
     placed : (o : Locked) → seen.lock ≡ o → Leaves b' (top at) (changed st (change_for o seen.first (coming at o))) area'
-    placed Nobody q =
-        subst (λ (v : List box.KeyLine). Leaves (record { lines = box.insert_line e v; defaults = b'.defaults }) (top at) (changed st (Inserts (coming at Nobody))) area') (sym (same_lines q))
+    placed None q =
+        subst (λ (v : List box.KeyLine). Leaves (record { lines = box.insert_line e v; defaults = b'.defaults }) (top at) (changed st (Inserts (coming at None))) area') (sym (same_lines q))
         (line-in asks.built (past-lower v.past near.holds) (omega (arith, near.holds)) (record-room near) below line v.row_is (omega arith) place-few (asks.slot_free q) (once-free q)
         (record-in-place key w es ordered asks.free ∙ ap (λ (i : ℕ). insert_at i e es) (sym asks.looked.place_is))
         (ap (add_if (carries e row)) (sym (drop_row-none key start ds (no_row q))))
-        (subst (λ (v : List box.KeyLine). Tallied (record { lines = box.insert_line e v; defaults = b'.defaults }) (load' Nobody)) (same_lines q) (kept Nobody q)))
-    placed (By i) q =
+        (subst (λ (v : List box.KeyLine). Tallied (record { lines = box.insert_line e v; defaults = b'.defaults }) (load' None)) (same_lines q) (kept None q)))
+    placed (Some i) q =
         line-over asks.built (past-lower v.past near.holds) (omega (arith, near.holds)) (record-room near) below line v.row_is (omega (arith, first-in q)) (before q) place-few
         (subst (λ (v : List box.KeyLine). none_like like_line e v ≡ true) (gone q) once)
         (ended-in-place key (x q) es ordered (held q) w asks.free ∙ ap₂ (λ (i j : ℕ). move_to i j e es) (sym asks.looked.first_is) (sym asks.looked.place_is))
         (ap (add_if (carries e row)) (sym (row-gone q)))
-        (kept (By i) q)
+        (kept (Some i) q)
 
     pub record-put : {r : Change} → r ≡ slot_change at st.load seen (length key) kind (length row) end
         → (ChangeAsks st r) × (Leaves (record_over key (record_for start stamp kind) row (box_of st area)) (st.top + 1 + length key + 8 + 8 + length row) (changed st r) area')

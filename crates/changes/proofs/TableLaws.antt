@@ -1,15 +1,16 @@
--- A slot comes to its place: the loop that makes place for it, and the one that closes up where another goes.
+-- A slot comes to its place: what the copy that makes place for it leaves, and the one that closes up where another goes.
 -- Assumes nothing.
-use Prim.Native.Nat.{ℕ, ◌+◌, ◌-◌, ◌≤◌, ◌<◌}
+use Prim.Native.Nat.{ℕ, suc, ◌+◌, ◌-◌, ◌≤◌, ◌<◌}
 use native.Mathlib.Omega.{arith}
 use mathlib.Core.Path.{◌≡◌, refl, sym, ap, ap₂, ◌∙◌, subst}
-use mathlib.Core.List.{List}
-use lib.ListN.{length, get_or, set}
-use Rattle.seqs.specs.Tables.{inserted}
-use Rattle.seqs.proofs.Shifts.{Shifted, shift-start, shift-more, shift-end, Slid, slide-start, slide-more, slide-end}
+use mathlib.Core.List.{List, [], ◌∷◌, ◌++◌, append_assoc}
+use native.Mathlib.Numerals.{add-one}
+use lib.ListN.{length, length-append, get_or, take, drop, set}
+use lib.Seq.{paste, slice, set_at, take-suc, drop-cons, length-take-le, length-slice}
+use Rattle.std.proofs.lemmas.List.{drop-take}
+use Rattle.seqs.specs.Tables.{inserted, move_to}
 use Rattle.store.specs.declared.table.Slot.{Slot}
 use Rattle.store.specs.declared.table.Store.{Store}
-use Rattle.store.specs.View.{no_slot}
 use Rattle.changes.specs.declared.change.NewSlot.{NewSlot}
 use Rattle.changes.specs.declared.change.Change.{Change}
 use Rattle.changes.specs.declared.change.Change.TheVariants.{Stays, Inserts, Replaces}
@@ -21,52 +22,54 @@ changed-floor st Stays = refl
 changed-floor st (Inserts n) = refl
 changed-floor st (Replaces i n) = refl
 
-pub record MakingPlace (st : Store) (i k : ℕ) (l : Store) : Type 0 where
-  pub least : i ≤ k
-  pub count_fits : k < 1024
-  pub shifted : Shifted no_slot st.lines st.load.lines k l.lines
-  pub floor_is : l.floor ≡ st.floor
+-- those from place i on have moved by one, and x stands there
+copied-in : {A : Type 0} (l : List A) (i n : ℕ) (x : A) → i ≤ n → n < length l → set (paste l (i + 1) (drop i l) (n - i)) i x ≡ inserted i n x l
+unfolding inserted
+copied-in l i n x h g =
+    let tail : List _ = take (n - i) (drop i l) ++ drop (i + 1 + (n - i)) l in
+    let a : i < length l = omega arith in
+    let b : i ≤ length l = omega arith in
+    let e : i + (n - i) ≡ n = omega arith in
+    let f : i + 1 + (n - i) ≡ suc n = omega arith in
+    ap (λ (v : List _). set v i x) (append_assoc (take (i + 1) l) (take (n - i) (drop i l)) (drop (i + 1 + (n - i)) l))
+    ∙ ap (λ (v : List _). set (v ++ tail) i x) (ap (λ (m : ℕ). take m l) (add-one i) ∙ take-suc l i x a)
+    ∙ ap (λ (v : List _). set v i x) (append_assoc (take i l) (get_or l i x ∷ []) tail)
+    ∙ set_at (take i l) (get_or l i x) tail x i (length-take-le i l b)
+    ∙ ap₂ (λ (v w : List _). take i l ++ x ∷ (v ++ w)) (sym (drop-take i (n - i) l) ∙ ap (λ (m : ℕ). drop i (take m l)) e) (ap (λ (m : ℕ). drop m l) f)
 
-pub inserts : {st : Store} {c : Change} {n : NewSlot} → c ≡ Inserts n → ChangeAsks st c → InsertAsks st n.to
+-- those between the places i and j have closed up, and x stands before place j
+copied-over : {A : Type 0} (l : List A) (i j : ℕ) (x : A) → i < j → j ≤ length l → set (paste l i (drop (i + 1) l) (j - (i + 1))) (j - 1) x ≡ move_to i j x l
+unfolding move_to
+copied-over l i j x h g =
+    let a : j - 1 < length l = omega arith in
+    let b : i ≤ length l = omega arith in
+    let e : i + (j - (i + 1)) ≡ j - 1 = omega arith in
+    let f : i + 1 + (j - (i + 1)) ≡ j = omega arith in
+    let k : suc (j - 1) ≡ j = omega arith in
+    let between : take (j - (i + 1)) (drop (i + 1) l) ≡ slice (suc i) j l = sym (drop-take (i + 1) (j - (i + 1)) l) ∙ ap₂ (λ (m t : ℕ). drop m (take t l)) (add-one i) f in
+    let len : length (take i l ++ slice (suc i) j l) ≡ j - 1 = omega (arith, length-append (take i l) (slice (suc i) j l), length-take-le i l b, length-slice (suc i) j l g) in
+    ap (λ (v : List _). set (take i l ++ v ++ drop (i + (j - (i + 1))) l) (j - 1) x) between
+    ∙ ap (λ (v : List _). set (take i l ++ slice (suc i) j l ++ v) (j - 1) x) (ap (λ (m : ℕ). drop m l) e ∙ drop-cons l (j - 1) x a ∙ ap (λ (m : ℕ). get_or l (j - 1) x ∷ drop m l) k)
+    ∙ set_at (take i l ++ slice (suc i) j l) (get_or l (j - 1) x) (drop j l) x (j - 1) len
+
+inserts : {st : Store} {c : Change} {n : NewSlot} → c ≡ Inserts n → ChangeAsks st c → InsertAsks st n.to
 inserts {st} p asks = subst (ChangeAsks st) p asks
 
-module _ {st : Store} {c : Change} {n : NewSlot} (p : c ≡ Inserts n) (asks : InsertAsks st n.to) where
-  room : st.load.lines < length st.lines
-  room = omega (arith, asks.room, asks.length_is)
-
-  pub making-start : MakingPlace st n.to st.load.lines st
-  making-start = record { least = asks.low; count_fits = asks.room; shifted = shift-start room; floor_is = refl }
-
-  pub making-more : {k : ℕ} {l : Store} → MakingPlace st n.to k l → n.to < k → MakingPlace st n.to (k - 1) (record { lines = set l.lines k (get_or l.lines (k - 1) no_slot); load = l.load; top = l.top; floor = l.floor })
-  making-more m h = record { least = omega arith; count_fits = omega (arith, m.count_fits); shifted = shift-more room m.shifted (omega arith); floor_is = m.floor_is }
-
-  pub making-end : {k : ℕ} {l : Store} → MakingPlace st n.to k l → k ≤ n.to → ◌≡◌ {A = Store} (record { lines = set l.lines n.to n.slot; load = n.load; top = n.top; floor = l.floor }) (changed st c)
-  making-end {k} {l} m h =
-      let e : k ≡ n.to = omega (arith, m.least) in
-      ap₂ (λ (v : List Slot) (f : ℕ). record { lines = v; load = n.load; top = n.top; floor = f })
-      (subst (λ (i : ℕ). set l.lines i n.slot ≡ inserted i st.load.lines n.slot st.lines) e (shift-end room m.shifted n.slot)) m.floor_is
-      ∙ sym (ap (changed st) p)
-
-pub record ClosingUp (st : Store) (i j k : ℕ) (l : Store) : Type 0 where
-  pub most : k + 1 ≤ j
-  pub count_fits : j ≤ 1024
-  pub slid : Slid st.lines i k l.lines
-  pub floor_is : l.floor ≡ st.floor
-
-pub replaces : {st : Store} {c : Change} {i : ℕ} {n : NewSlot} → c ≡ Replaces i n → ChangeAsks st c → ReplaceAsks st i n.to
+replaces : {st : Store} {c : Change} {i : ℕ} {n : NewSlot} → c ≡ Replaces i n → ChangeAsks st c → ReplaceAsks st i n.to
 replaces {st} p asks = subst (ChangeAsks st) p asks
 
-module _ {st : Store} {c : Change} {i : ℕ} {n : NewSlot} (p : c ≡ Replaces i n) (asks : ReplaceAsks st i n.to) where
-  length_is : n.to ≤ length st.lines
-  length_is = omega (arith, asks.low, asks.length_is)
+-- the change that it makes of the table
+module _ (st : Store) {c : Change} {n : NewSlot} where
+  pub inserted-is : c ≡ Inserts n → ChangeAsks st c → {v : List Slot} → v ≡ paste st.lines (n.to + 1) (drop n.to st.lines) (st.load.lines - n.to)
+      → ◌≡◌ {A = Store} (record { lines = set v n.to n.slot; load = n.load; top = n.top; floor = st.floor }) (changed st c)
+  inserted-is p asks e =
+      let a = inserts p asks in
+      ap (λ (l : List Slot). record { lines = l; load = n.load; top = n.top; floor = st.floor }) (ap (λ (l : List Slot). set l n.to n.slot) e ∙ copied-in st.lines n.to st.load.lines n.slot a.low (omega (arith, a.room, a.length_is)))
+      ∙ sym (ap (changed st) p)
 
-  pub closing-start : ClosingUp st i n.to i st
-  closing-start = record { most = omega (arith, asks.before); count_fits = asks.low; slid = slide-start; floor_is = refl }
-
-  pub closing-more : {k : ℕ} {l : Store} → ClosingUp st i n.to k l → k + 1 < n.to → ClosingUp st i n.to (k + 1) (record { lines = set l.lines k (get_or l.lines (k + 1) no_slot); load = l.load; top = l.top; floor = l.floor })
-  closing-more m h = record { most = omega arith; count_fits = m.count_fits; slid = slide-more m.slid no_slot (omega (arith, length_is)); floor_is = m.floor_is }
-
-  pub closing_end : {k : ℕ} {l : Store} → ClosingUp st i n.to k l → n.to ≤ k + 1 → ◌≡◌ {A = Store} (record { lines = set l.lines k n.slot; load = n.load; top = n.top; floor = l.floor }) (changed st c)
-  closing_end m h =
-      ap₂ (λ (v : List Slot) (f : ℕ). record { lines = v; load = n.load; top = n.top; floor = f }) (slide-end m.slid n.to n.slot (omega (arith, m.most)) length_is) m.floor_is
+  pub replaced-is : {i : ℕ} → c ≡ Replaces i n → ChangeAsks st c → {v : List Slot} → v ≡ paste st.lines i (drop (i + 1) st.lines) (n.to - (i + 1))
+      → ◌≡◌ {A = Store} (record { lines = set v (n.to - 1) n.slot; load = n.load; top = n.top; floor = st.floor }) (changed st c)
+  replaced-is {i} p asks e =
+      let a = replaces p asks in
+      ap (λ (l : List Slot). record { lines = l; load = n.load; top = n.top; floor = st.floor }) (ap (λ (l : List Slot). set l (n.to - 1) n.slot) e ∙ copied-over st.lines i n.to n.slot a.before (omega (arith, a.low, a.length_is)))
       ∙ sym (ap (changed st) p)

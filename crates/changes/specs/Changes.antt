@@ -1,12 +1,13 @@
 -- What the changes ask, and what they leave: a store that is built and shows the box that the definition makes.
 -- Assumes nothing.
-use Rattle.std.specs.Prelude.{◌≡◌, Bool, true, ℕ, ◌+◌, ◌≤◌, ◌<◌, length}
-use Rattle.std.proofs.Math.Option.{none}
+use Rattle.std.specs.Prelude.{◌≡◌, true, ℕ, ◌+◌, ◌≤◌, ◌<◌, length, None, Some}
+use Rattle.std.specs.Prelude.{Option as Maybe, List, []}
+use Rattle.std.specs.Borrow.{Bor}
+use Rattle.std.proofs.Math.Option.{Option, none, some}
 use Rattle.seqs.specs.Tables.{inserted, move_to}
 use Rattle.forms.specs.Bytes.{Bytes}
 use Rattle.forms.specs.Key.{Key, key_form}
 use Rattle.forms.specs.Row.{Row, row_form}
-use Rattle.forms.specs.Readers.{when}
 use Rattle.forms.specs.Batch.{Mutation}
 use Rattle.rules.specs.declared.records.Kind.{Kind}
 use Rattle.rules.specs.declared.records.Kind.TheVariants.{Put, Delete, Rollback}
@@ -18,15 +19,13 @@ use Rattle.rules.specs.Sound.{sound_lock, sound_record}
 use Rattle.rules.specs.Prewrite.{PrewriteTerms, lock_for}
 use Rattle.rules.specs.Commit.{with_start}
 use Rattle.laws.specs.Places.{finished_at}
-use Rattle.lookups.specs.declared.lookup.Locked.{Locked}
-use Rattle.lookups.specs.declared.lookup.Locked.TheVariants.{Nobody, By}
 use Rattle.lookups.specs.declared.lookup.KeyState.{KeyState}
 use Rattle.store.specs.declared.table.Line.TheVariants.{Standing, Finished}
 use Rattle.store.specs.declared.table.Slot.{Slot}
 use Rattle.store.specs.declared.table.Store.{Store}
 use Rattle.store.specs.View.{carries, add_if, box_of}
 use Rattle.store.specs.Made.{Built}
-use Rattle.lookups.specs.KeyStates.{KeyStateAt}
+use Rattle.lookups.specs.KeyStates.{Locked, KeyStateAt}
 use Rattle.changes.specs.declared.change.NewSlot.{NewSlot}
 use Rattle.changes.specs.declared.change.Change.{Change}
 use Rattle.changes.specs.declared.change.Change.TheVariants.{Stays, Inserts, Replaces}
@@ -73,8 +72,13 @@ RowFits Rollback r = length r ≡ 0
 abbrev pub prewrite_terms_for : ℕ → ℕ → Key → ℕ → PrewriteTerms
 prewrite_terms_for txn start primary ttl = record { txn = txn; start = start; primary = primary; ttl = ttl }
 
-abbrev pub entry_for : Key → Bool → Row → Mutation
-entry_for key put row = record { key = key; row = when put row }
+abbrev pub entry_for : Key → Option Row → Mutation
+entry_for key row = record { key = key; row = row }
+
+-- the bytes of it
+abbrev pub row_bytes : Option Row → Row
+row_bytes none = []
+row_bytes (some r) = r
 
 abbrev pub lock_slot : ℕ → ℕ → ℕ → Kind → ℕ → Slot
 lock_slot at key primary kind row = record { at = at; len = key; used = true; line = Standing (record { plen = primary; rowlen = row; kind = kind }) }
@@ -82,17 +86,17 @@ lock_slot at key primary kind row = record { at = at; len = key; used = true; li
 -- a stretch begins at a pair of bytes, so one byte more may go before it
 
 -- a lock of a key that has none, of a start that the key has no record of; a slot is free, and the area has place
-pub record LockAsks (st : Store) (area : Bytes) (seen : KeyState) (h : PrewriteTerms) (key : Key) (put : Bool) (row : Row) : Type 0 where
+pub record LockAsks (st : Store) (area : Bytes) (seen : KeyState) (h : PrewriteTerms) (key : Key) (row : Option Row) : Type 0 where
   pub built : Built st area
   pub stamp : ℕ
   pub looked : KeyStateAt st area key h.start stamp seen
-  pub nobody : seen.lock ≡ Nobody
+  pub nobody : seen.lock ≡ None
   pub fresh : with_start h.start (box.records_of key (box_of st area).lines) ≡ none
   pub form : key_form key ≡ true
-  pub row_fits : RowFits (kind_of (when put row)) row
-  pub sound : sound_lock (lock_for h (kind_of (when put row))) ≡ true
+  pub row_fits : RowFits (kind_of row) (row_bytes row)
+  pub sound : sound_lock (lock_for h (kind_of row)) ≡ true
   pub slot_free : st.load.lines < 1024
-  pub area_room : st.top + 1 + length key + 8 + 8 + length row + 8 + length h.primary ≤ 131072
+  pub area_room : st.top + 1 + length key + 8 + 8 + length (row_bytes row) + 8 + length h.primary ≤ 131072
 
 -- ---- a record comes
 
@@ -102,8 +106,8 @@ record_over k w r b = record { lines = box.insert_line (finished_at k w) (box.dr
 
 -- the table: a slot comes where none goes, or in the place of the lock
 abbrev pub change_for : Locked → ℕ → NewSlot → Change
-change_for Nobody first c = Inserts c
-change_for (By i) first c = Replaces first c
+change_for None first c = Inserts c
+change_for (Some i) first c = Replaces first c
 
 abbrev pub record_slot : ℕ → ℕ → Kind → ℕ → Slot
 record_slot at key kind row = record { at = at; len = key; used = true; line = Finished (record { rowlen = row; kind = kind }) }
@@ -122,8 +126,8 @@ pub record SlotAsks (at : ℕ) (load : Load) (seen : KeyState) (key : ℕ) (kind
 
 -- the lock, if there is one, is of this start
 abbrev pub Owned : ℕ → Locked → Type 0
-Owned start Nobody = Unit {0}
-Owned start (By i) = i.start ≡ start
+Owned start None = Unit {0}
+Owned start (Some i) = i.start ≡ start
 
 -- the key has no record of this start or of this stamp, and no lock of another start; where no lock goes a slot is free
 pub record RecordAsks (st : Store) (area : Bytes) (seen : KeyState) (key : Key) (start stamp : ℕ) (kind : Kind) (row : Row) : Type 0 where
@@ -135,7 +139,7 @@ pub record RecordAsks (st : Store) (area : Bytes) (seen : KeyState) (key : Key) 
   pub form : key_form key ≡ true
   pub row_fits : RowFits kind row
   pub sound : sound_record (record_for start stamp kind) ≡ true
-  pub slot_free : seen.lock ≡ Nobody → st.load.lines < 1024
+  pub slot_free : seen.lock ≡ None → st.load.lines < 1024
   pub area_room : st.top + 1 + length key + 8 + 8 + length row ≤ 131072
 
 -- ---- a lock becomes a record: it is of this start, which lies before the commit

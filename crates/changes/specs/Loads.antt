@@ -1,12 +1,11 @@
 -- What a line adds to the tallies of a box, by how long its parts are.
 -- Assumes nothing.
-use Rattle.std.specs.Prelude.{ℕ, ◌+◌, ◌≤◌}
+use Rattle.lookups.specs.KeyStates.{Locked}
+use Rattle.std.specs.Prelude.{ℕ, ◌+◌, ◌≤◌, None, Some}
 use Rattle.rules.specs.declared.records.Kind.{Kind}
 use Rattle.rules.specs.declared.records.Kind.TheVariants.{Put, Delete, Rollback}
 use Rattle.rules.specs.declared.room.Load.{Load}
 use Rattle.laws.specs.Adds.{no_load, plus, minus}
-use Rattle.lookups.specs.declared.lookup.Locked.{Locked}
-use Rattle.lookups.specs.declared.lookup.Locked.TheVariants.{Nobody, By}
 
 abbrev pub row_size : Kind → ℕ → ℕ → Load
 row_size Put key row = record { lines = 0; locks = 0; defaults = 1; bytes = key + row }
@@ -21,12 +20,12 @@ record_size kind key row = record { lines = 1; locks = 0; defaults = (row_size k
 
 -- a lock that goes, with its row
 abbrev pub freed_by : Locked → ℕ → Load
-freed_by Nobody key = no_load
-freed_by (By i) key = lock_size i.kind key i.len i.rowlen
+freed_by None key = no_load
+freed_by (Some i) key = lock_size i.kind key i.len i.rowlen
 
 abbrev pub FreedAsks : Locked → ℕ → Type 0
-FreedAsks Nobody key = Unit {0}
-FreedAsks (By i) key = key + i.len + (key + i.rowlen) ≤ 1000000
+FreedAsks None key = Unit {0}
+FreedAsks (Some i) key = key + i.len + (key + i.rowlen) ≤ 1000000
 
 -- ---- sums and differences
 

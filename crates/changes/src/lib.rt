@@ -8,8 +8,8 @@ pub mod loads;
 pub mod packing;
 pub mod writes;
 
-pub use change::{Change, NewSlot};
-pub use entries::{end_lock, kind_for, put_lock, put_record};
+pub use change::{Change, NewSlot, make_change};
+pub use entries::{bytes_of, end_lock, kind_for, put_lock, put_record};
 pub use loads::{freed_by, less, lock_load, more, record_load};
 pub use packing::repack;
 pub use writes::{append_lock, append_record};

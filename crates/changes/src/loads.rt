@@ -3,19 +3,8 @@ ghost use Rattle.std.specs.Prelude.{◌≡◌, ◌+◌, ◌≤◌};
 ghost use Rattle.laws.specs.Adds.{plus, minus};
 ghost use Rattle.changes.specs.Loads.{row_size, lock_size, record_size, freed_by, FreedAsks, Small, Within, LoadAsks, load_after};
 
-use lookups::Locked;
 use rules::{Kind, Load};
-
-fn no_load() -> Load
-    ensures { result ≡ record { lines = 0; locks = 0; defaults = 0; bytes = 0 } }
-{
-    Load {
-        lines: 0,
-        locks: 0,
-        defaults: 0,
-        bytes: 0,
-    }
-}
+use store::LockView;
 
 // "for a default, key plus row"
 fn row_load(kind: Kind, key: usize, row: usize) -> Load
@@ -24,13 +13,11 @@ fn row_load(kind: Kind, key: usize, row: usize) -> Load
 {
     match kind {
         Kind::Put => Load {
-            lines: 0,
-            locks: 0,
             defaults: 1,
             bytes: key + row,
+            ..Load::NONE
         },
-        Kind::Delete => no_load(),
-        Kind::Rollback => no_load(),
+        Kind::Delete | Kind::Rollback => Load::NONE,
     }
 }
 
@@ -63,16 +50,13 @@ pub fn record_load(kind: Kind, key: usize, row: usize) -> Load
 }
 
 // "Room that was freed counts as free at once": a lock that goes, with its row.
-pub fn freed_by(lock: Locked, key: usize) -> Load
+pub fn freed_by(lock: Option<LockView>, key: usize) -> Load
     requires { FreedAsks lock key }
     ensures { result ≡ freed_by lock key }
 {
     match lock {
-        Locked::Nobody => no_load(),
-        Locked::By(l) => {
-            let kind = l.kind;
-            lock_load(kind, key, l.len, l.rowlen)
-        }
+        None => Load::NONE,
+        Some(l) => lock_load(l.kind, key, l.len, l.rowlen),
     }
 }
 
@@ -101,12 +85,10 @@ pub fn less(a: Load, b: Load) -> Load
 }
 
 // A record comes, and its key's lock goes, if it has one.
-pub fn load_after(old: Load, lock: Locked, key: usize, kind: Kind, row: usize) -> Load
+pub fn load_after(old: Load, lock: Option<LockView>, key: usize, kind: Kind, row: usize) -> Load
     requires { LoadAsks old lock key row }
     ensures { result ≡ load_after old lock key kind row }
 {
-    let freed = freed_by(lock, key);
-    let rest = less(old, freed);
-    let added = record_load(kind, key, row);
-    more(rest, added)
+    let rest = less(old, freed_by(lock, key));
+    more(rest, record_load(kind, key, row))
 }

@@ -6,45 +6,33 @@ use forms::put_bytes;
 use store::{Slot, Store, pairs_in, past_key, place_of};
 
 // Each stretch is copied whole, to the next pair of bytes.
-fn pack(store: Store, area: &[u8], into: &mut [u8]) -> Store
-    requires { PackAsks store area.now into.old }
-    ensures { Packed store area.now result into.new }
+fn pack(store: &mut Store, area: &[u8], into: &mut [u8])
+    requires { PackAsks store.old area.now into.old }
+    ensures { Packed store.old area.now store.new into.new }
 {
-    let mut l = store;
-    let load = store.load;
-    let n = load.lines;
+    let n = store.load.lines;
     let mut at: usize = 0;
-    let mut i: usize = 0;
-    while i < n {
-        let s = l.lines[i];
-        let line = s.line;
+    for i in 0..n {
+        let s = store.lines[i];
         let from = place_of(s);
-        let size = s.len as usize + past_key(line);
-        let e = from + size;
-        let to = at + at;
-        let end = put_bytes(into, to, &area[from..e]);
-        let t = Slot {
+        let size = s.len as usize + past_key(s.line);
+        let end = put_bytes(into, at + at, &area[from..from + size]);
+        store.lines[i] = Slot {
             at: at as u16,
-            len: s.len,
             used: true,
-            line: line,
+            ..s
         };
-        l.lines[i] = t;
         at = pairs_in(end);
-        i += 1;
     }
-    l.top = at + at;
-    l
+    store.top = at + at;
 }
 
 // The stretches go into a fresh array, and back.
-pub fn repack(store: Store, area: &mut [u8]) -> Store
-    requires { Made store area.old }
-    ensures { Repacked store area.old result area.new }
+pub fn repack(store: &mut Store, area: &mut [u8])
+    requires { Made store.old area.old }
+    ensures { Repacked store.old area.old store.new area.new }
 {
     let mut into = [0u8; 68608];
-    let l = pack(store, area, &mut into);
-    let top = l.top;
-    put_bytes(area, 0, &into[0..top]);
-    l
+    pack(store, area, &mut into);
+    put_bytes(area, 0, &into[0..store.top]);
 }

@@ -11,10 +11,8 @@ use lib.Seq.{get_or-take, drop-length}
 use borrow.Author.Tests.{le-leb, lt-leb}
 use Rattle.seqs.specs.Tables.{Table, shown}
 use Rattle.forms.specs.Bytes.{Bytes}
-use Rattle.rules.specs.declared.answers.Answer.{Answer}
-use Rattle.rules.specs.declared.answers.Answer.TheVariants.{Accepted, No, Held}
+use Rattle.rules.specs.Answers.{Answer, Accepted, No, Held, ◌▸◌, need}
 use Rattle.rules.specs.declared.room.Load.{Load}
-use Rattle.rules.specs.Answers.{◌▸◌, need}
 use Rattle.rules.specs.Box as box
 use Rattle.rules.specs.Room.{load_of}
 use Rattle.rules.specs.Read.{keep_if}

@@ -8,11 +8,9 @@ use lib.Dec.{ltb}
 use lib.ListN.{take, drop}
 use borrow.Author.Tests.{lt-ltb, le-ltb}
 use Rattle.forms.specs.Bytes.{Bytes, bytes_at, eq_bytes}
-use Rattle.rules.specs.declared.answers.Answer.{Answer}
-use Rattle.rules.specs.declared.answers.Answer.TheVariants.{Accepted, Held}
+use Rattle.rules.specs.Answers.{Answer, Accepted, Held, need_own}
 use Rattle.rules.specs.declared.records.Kind.TheVariants.{Put, Delete, Rollback}
 use Rattle.rules.specs.declared.room.Load.{Load}
-use Rattle.rules.specs.Answers.{need_own}
 use Rattle.rules.specs.Box.{holder_of}
 use Rattle.rules.specs.Collect.{line_above_step}
 use Rattle.store.specs.declared.table.Slot.{Slot}

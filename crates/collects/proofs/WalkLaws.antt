@@ -15,9 +15,7 @@ use Rattle.seqs.specs.Tables.{shown}
 use Rattle.seqs.proofs.Tables.{table-long, drop-map}
 use Rattle.forms.specs.Bytes.{Bytes, bytes_at, eq_bytes}
 use Rattle.forms.specs.Key.{Key, key_form}
-use Rattle.rules.specs.declared.answers.Answer.{Answer}
-use Rattle.rules.specs.declared.answers.Answer.TheVariants.{Accepted}
-use Rattle.rules.specs.Answers.{◌▸◌, need_own}
+use Rattle.rules.specs.Answers.{Answer, Accepted, ◌▸◌, need_own}
 use Rattle.rules.specs.declared.room.Load.{Load}
 use Rattle.rules.specs.Box as box
 use Rattle.rules.specs.Restore.{all_good}

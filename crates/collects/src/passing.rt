@@ -1,12 +1,13 @@
 // One line of the walk over the table, which goes from the last line to the first: whether it stays, and what goes with it.
 ghost use Rattle.std.specs.Prelude.{◌≡◌, ◌+◌, ◌≤◌, length};
 ghost use Rattle.rules.specs.Collect.{line_above_step};
+ghost use Rattle.rules.specs.Outcomes.{outcome};
 ghost use Rattle.store.specs.View.{place_of, past, line_of};
 ghost use Rattle.changes.specs.Loads.{record_size, Small};
-ghost use Rattle.collects.specs.Passes.{nothing_passed, line_kept, record_dropped, record_passed, line_passed, PassAsks};
+ghost use Rattle.collects.specs.Passes.{nothing_passed, record_dropped, record_passed, line_passed, PassAsks};
 
 use changes::{more, record_load};
-use rules::{Answer, Kind, Load};
+use rules::{Kind, Load, Refusal};
 use store::views::eight_at;
 use store::{Line, LineView, RecordSlot, Slot, held_by, place_of, view_of};
 
@@ -33,44 +34,23 @@ pub fn nothing_passed(n: usize) -> Passed
         len: 0,
         stays: true,
         held: n,
-        freed: Load {
-            lines: 0,
-            locks: 0,
-            defaults: 0,
-            bytes: 0,
-        },
+        freed: Load::NONE,
     }
 }
 
-// The line stays. The first key that counts and the place of the first lock are told, since the line may change them.
-fn keep_line(p: Passed, at: usize, len: usize, held: usize) -> Passed
-    ensures { result ≡ line_kept p at len held }
-{
-    let freed = p.freed;
-    Passed {
-        at: at,
-        len: len,
-        stays: true,
-        held: held,
-        freed: freed,
-    }
-}
-
-// "drop the rest with their rows": a record goes, whose key has `size` bytes, with the row of a Put.
+// "drop the rest with their rows": a record goes, whose key has `size` bytes, with the row of a Put. The first key that counts is told, since the
+// record may be it.
 fn drop_record(p: Passed, at: usize, len: usize, w: RecordSlot, size: usize) -> Passed
     requires { (Small p.freed) × (size ≤ 255) }
     ensures { result ≡ record_dropped p at len (record_size w.kind size w.rowlen) }
 {
-    let kind = w.kind;
-    let load = record_load(kind, size, w.rowlen as usize);
-    let old = p.freed;
-    let freed = more(old, load);
+    let load = record_load(w.kind, size, usize::from(w.rowlen));
     Passed {
-        at: at,
-        len: len,
+        at,
+        len,
         stays: false,
-        held: p.held,
-        freed: freed,
+        freed: more(p.freed, load),
+        ..p
     }
 }
 
@@ -81,21 +61,22 @@ fn pass_record(p: Passed, s: Slot, w: RecordSlot, area: &[u8], floor: u64) -> Pa
     ensures { result ≡ record_passed floor area.now p s w }
 {
     let at = place_of(s);
-    let len = s.len as usize;
-    let end = at + len;
-    let stamp = eight_at(area, end);
+    let len = usize::from(s.len);
+    let stamp = eight_at(area, at + len);
     if floor < stamp {
-        return keep_line(p, p.at, p.len, p.held);
+        return Passed { stays: true, ..p };
     }
-    let kind = w.kind;
-    match kind {
+    match w.kind {
         Kind::Put => {
-            let a = p.at;
-            let e = a + p.len;
-            if forms::same(&area[at..end], &area[a..e]) {
+            if forms::same(&area[at..at + len], &area[p.at..p.at + p.len]) {
                 return drop_record(p, at, len, w, len);
             }
-            keep_line(p, at, len, p.held)
+            Passed {
+                at,
+                len,
+                stays: true,
+                ..p
+            }
         }
         Kind::Delete => drop_record(p, at, len, w, len),
         Kind::Rollback => drop_record(p, p.at, p.len, w, len),
@@ -107,33 +88,29 @@ pub fn pass_line(p: Passed, s: Slot, i: usize, area: &[u8], floor: u64) -> Passe
     requires { PassAsks area.now p s }
     ensures { result ≡ line_passed floor area.now p s i }
 {
-    let line = s.line;
-    match line {
+    match s.line {
         Line::Standing(_) => {
-            let at = place_of(s) + s.len as usize;
-            let start = eight_at(area, at + 8);
+            let start = eight_at(area, place_of(s) + usize::from(s.len) + 8);
             if floor < start {
-                return keep_line(p, p.at, p.len, p.held);
+                return Passed { stays: true, ..p };
             }
-            keep_line(p, p.at, p.len, i)
+            Passed {
+                stays: true,
+                held: i,
+                ..p
+            }
         }
         Line::Finished(w) => pass_record(p, s, w, area, floor),
     }
 }
 
 // "a collection with a lock at or below F answers 7"
-pub fn line_step(s: Slot, area: &[u8], floor: u64) -> Answer
+pub fn line_step(s: Slot, area: &[u8], floor: u64) -> Result<(), Refusal>
     requires { place_of s + s.len + past s.line ≤ length area.now }
-    ensures { result ≡ line_above_step floor (line_of area.now s).line }
+    ensures { outcome result ≡ line_above_step floor (line_of area.now s).line }
 {
-    let line = view_of(s, area);
-    match line {
-        LineView::Standing(l) => {
-            if floor < l.start {
-                return Answer::Accepted;
-            }
-            held_by(l)
-        }
-        LineView::Finished(_) => Answer::Accepted,
+    match view_of(s, area) {
+        LineView::Standing(l) if l.start <= floor => Err(held_by(l)),
+        _ => Ok(()),
     }
 }

@@ -8,7 +8,7 @@ use mathlib.Core.List.{List, [], ◌∷◌}
 use mathlib.Core.Option.{Option, none, some}
 use Rattle.forms.specs.Key.{Key}
 use Rattle.forms.specs.Readers.{is_some}
-use Rattle.rules.specs.declared.answers.Answer.TheVariants.{Accepted}
+use Rattle.rules.specs.Answers.{Accepted}
 use Rattle.rules.specs.declared.records.Record.{Record}
 use Rattle.rules.specs.Box.{Box, records_of}
 use Rattle.rules.specs.Room.{load_of}

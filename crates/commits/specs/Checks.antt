@@ -4,17 +4,15 @@ use Rattle.std.specs.Prelude.{◌≡◌, Bool, false, ◌&&◌, ◌||◌, not, L
 use Rattle.std.proofs.Math.Option.{Option, none, some}
 use Rattle.forms.specs.Key.{Key}
 use Rattle.forms.specs.Readers.{is_some}
-use Rattle.rules.specs.declared.answers.Answer.{Answer}
-use Rattle.rules.specs.declared.answers.Answer.TheVariants.{No}
+use Rattle.rules.specs.Answers.{Answer, No, ◌▸◌, need, need_own}
 use Rattle.rules.specs.declared.records.Kind.TheVariants.{Rollback}
 use Rattle.rules.specs.declared.records.Record.{Record}
-use Rattle.rules.specs.Answers.{◌▸◌, need, need_own}
 use Rattle.rules.specs.Box.{Box, Lock, holder_of, records_of, eq_kind}
 use Rattle.rules.specs.Calls.{owns}
 use Rattle.rules.specs.declared.terms.CommitTerms.{CommitTerms}
 use Rattle.rules.specs.Commit.{with_start}
 use Rattle.calls.specs.Settled.{is_accepted}
-use Rattle.calls.specs.declared.judged.BatchVerdict.{BatchVerdict}
+use Rattle.calls.specs.Passes.{BatchVerdict}
 
 -- "Rollback, 8; other commit, 8; equal commit, accepted and unchanged"
 abbrev pub record_steps : CommitTerms → Record → Answer

@@ -1,49 +1,35 @@
 // The checking pass over a batch of keys. Nothing is written before the last key has passed.
-ghost use Rattle.seqs.specs.Tables.{shown};
+ghost use Rattle.std.specs.Prelude.{map};
 ghost use Rattle.forms.specs.Places.{key_at};
 ghost use Rattle.store.specs.View.{box_of};
 ghost use Rattle.calls.specs.Entries.{AllAsks};
+ghost use Rattle.calls.specs.Passes.{verdict};
 ghost use Rattle.commits.specs.Checks.{some_new, Judged};
 ghost use Rattle.commits.specs.Passes.{floor_keys};
 
 use crate::checks::check_key;
-use calls::{BatchVerdict, key_of};
-use forms::{Entry, either};
-use rules::{Answer, CommitTerms};
+use calls::floor_step;
+use forms::Entry;
+use rules::{CommitTerms, Refusal};
 use store::Store;
 
 // 14; "per key: ..": every key on the store before the call, the whole list for one key before the next. Where each key has its record already
-// nothing changes.
+// nothing changes. Whether the box becomes another one, or why the batch is refused.
 pub fn check_all(
-    store: Store,
+    store: &Store,
     area: &[u8],
     terms: CommitTerms,
     batch: &[u8],
-    n: usize,
-    list: [Entry; 32],
-) -> BatchVerdict
-    requires { AllAsks store area.now batch.now n list }
-    ensures { Judged (floor_keys store.floor terms (box_of store area.now) (shown (key_at batch.now) n list)) (some_new terms (box_of store area.now) (shown (key_at batch.now) n list)) result }
+    entries: &[Entry],
+) -> Result<bool, Refusal>
+    requires { AllAsks store.now area.now batch.now entries.now }
+    ensures { Judged (floor_keys store.now.floor terms (box_of store.now area.now) (map (key_at batch.now) entries.now)) (some_new terms (box_of store.now area.now) (map (key_at batch.now) entries.now)) (verdict result) }
 {
-    let late = calls::floor_step(store.floor, terms.start);
-    if !calls::accepted(late) {
-        return calls::refused(late);
-    }
+    floor_step(store.floor, terms.start)?;
     let mut moves = false;
-    let mut i: usize = 0;
-    while i < n {
-        let e = list[i];
-        let key = key_of(batch, e);
-        let v = check_key(store, area, terms, key);
-        let answer = v.answer;
-        if !calls::accepted(answer) {
-            return v;
-        }
-        moves = either(moves, v.moves);
-        i += 1;
+    for e in entries {
+        let key = e.key.of(batch);
+        moves |= check_key(store, area, terms, key)?;
     }
-    BatchVerdict {
-        answer: Answer::Accepted,
-        moves: moves,
-    }
+    Ok(moves)
 }

@@ -18,7 +18,7 @@ use Rattle.forms.specs.Readers.{Read, Reader, just, byte, stretch, piece, times,
 use Rattle.forms.specs.Numbers.{number, digits, number_of}
 use Rattle.forms.specs.Row.{Row, old_row_form, row_form}
 use Rattle.forms.proofs.NumberLaws.{length_digits, power_pos, number-below, bytes_take, bytes_drop}
-use Rattle.rules.specs.declared.answers.Answer.TheVariants.{Accepted, No}
+use Rattle.rules.specs.Answers.{Accepted, No}
 use Rattle.rules.specs.Box.{Default}
 use Rattle.rules.specs.Written.{write_if}
 use Rattle.rules.specs.Image.{Image, default_from, key_lock_from, write_from, sections_from, image_from, old_image_from, image, old_image}

@@ -7,18 +7,17 @@ use mathlib.Core.Bool.{Bool, true, false, not, true≢false, false≢true}
 use mathlib.Core.List.{List, [], ◌∷◌, ◌++◌, map, append_assoc}
 use mathlib.Core.Option.{Option, none, some}
 use lib.ListN.{length, take, drop, length-append, length-map, length-drop}
-use lib.Seq.{drop-drop}
+use lib.Seq.{drop-drop, length-take-le}
 use lib.Dec.{eqb}
 use borrow.Author.Tests.{eq-eqb}
 use Rattle.seqs.proofs.Tests.{and_left, and_right}
-use Rattle.forms.specs.Bytes.{Bytes, bytes_at, piece_bytes}
+use Rattle.forms.specs.Bytes.{Bytes, AllBytes, piece_bytes}
 use Rattle.forms.specs.Readers.{Read, just, times, section}
 use Rattle.forms.specs.Numbers.{number, digits, number_of}
-use Rattle.forms.specs.Places.{found, NumberAt}
+use Rattle.forms.specs.Places.{part_of}
 use Rattle.forms.specs.Writers.{Laid, PieceAsks}
-use Rattle.forms.specs.declared.number.Number.{Number}
 use Rattle.forms.proofs.ReaderLaws.{read_more, times-bad, times_more}
-use Rattle.forms.proofs.NumberLaws.{length_digits, number-value}
+use Rattle.forms.proofs.NumberLaws.{length_digits, digits_number, bytes_take}
 use Rattle.forms.proofs.WriterLaws.{bytes-long, laid_as, laid_none, laid_then}
 use Rattle.rules.specs.Box.{Default}
 use Rattle.rules.specs.Written.{all_bytes}
@@ -27,7 +26,7 @@ use Rattle.rules.specs.Restore.{all_good}
 use Rattle.rules.specs.Capture.{default_bytes, section_bytes}
 use Rattle.rules.specs.Convert.{with_count, front_from, front_bytes, converted_bytes, growing}
 use Rattle.laws.proofs.ImageBackLaws.{then-reads}
-use Rattle.images.specs.Entries.{raw_of, EntryAt}
+use Rattle.images.specs.Entries.{entry_from, raw_of, Lies, EntryIs}
 use Rattle.images.specs.declared.entries.Section.TheVariants as sections
 use Rattle.images.specs.declared.entries.ImageEntry.{ImageEntry}
 use Rattle.images.specs.Good.{default_of}
@@ -119,36 +118,17 @@ module _ (s : Bytes) (e : ImageEntry) where
   abbrev one : Default
   one = with_count (default_of (raw_of s e))
 
-  one-long : e.at + e.len ≤ length s → e.pieceat + e.piecelen ≤ length s → length (default_bytes (with_count (default_of (raw_of s e)))) ≡ e.len + e.piecelen + 11
-  one-long k p =
-      omega (arith, default-long one, length-append (bytes_at s e.pieceat e.piecelen) (0 ∷ []), bytes-long s e.at e.len k, bytes-long s e.pieceat e.piecelen p)
+  one-long : Lies s e → length (default_bytes (with_count (default_of (raw_of s e)))) ≡ e.key.len + e.piece.len + 11
+  one-long v =
+      omega (arith, default-long one, length-append (part_of s e.piece) (0 ∷ []), bytes-long s e.key.at e.key.len v.key.within, bytes-long s e.piece.at e.piece.len v.piece.within)
 
--- a part of the image, as it is cut out of it
-pub cut : (s : Bytes) (a n : ℕ) → take (a + n - a) (drop a s) ≡ bytes_at s a n
-cut s a n = let z : a + n - a ≡ n = omega arith in ap (λ (m : ℕ). take m (drop a s)) z
-
-module _ {s : Bytes} {e : ImageEntry} {at : ℕ} {out : Bytes} (v : DefaultAsks s e at out) {k : Bytes} (ke : k ≡ bytes_at s e.at e.len) where
-  key-long : length k ≡ e.len
-  key-long = ap length ke ∙ bytes-long s e.at e.len v.key_in
-
-  pub piece-asks : PieceAsks k (length k + 1) at out
-  piece-asks = record { short = omega (arith, key-long, v.key_small); room = omega (arith, key-long, v.room) }
-
+module _ {s : Bytes} {e : ImageEntry} {at : ℕ} {out : Bytes} (v : DefaultAsks s e at out) {k : Bytes} (ke : k ≡ part_of s e.key) where
   module _ {p : ℕ} {o₁ : Bytes} (x : Laid at (length k + 1) (piece_bytes k) out p o₁) where
-    pub digits-room : p + 8 ≤ length o₁
-    digits-room = omega (arith, key-long, v.room, x.next, x.length_is)
-
-    module _ {q : ℕ} {o₂ : Bytes} (y : Laid p 8 (digits 8 e.first) o₁ q o₂) {r : Bytes} (re : r ≡ bytes_at s e.pieceat e.piecelen) where
-      row-length : length r ≡ e.piecelen
-      row-length = ap length re ∙ bytes-long s e.pieceat e.piecelen v.row-in
-
-      pub row-asks : RowAsks r q o₂
-      row-asks = record { short = omega (arith, row-length, v.row_small); room = omega (arith, row-length, key-long, v.room, x.next, x.length_is, y.next, y.length_is) }
-
-      pub laid-default : {n : ℕ} {o₃ : Bytes} → Laid q (length r + 2) (piece_bytes (r ++ (0 ∷ []))) o₂ n o₃ → Laid at (e.len + e.piecelen + 11) (default_bytes (with_count (default_of (raw_of s e)))) out n o₃
+    module _ {q : ℕ} {o₂ : Bytes} (y : Laid p 8 (digits 8 e.first) o₁ q o₂) {r : Bytes} (re : r ≡ part_of s e.piece) where
+      pub laid-default : {n : ℕ} {o₃ : Bytes} → Laid q (length r + 2) (piece_bytes (r ++ (0 ∷ []))) o₂ n o₃ → Laid at (e.key.len + e.piece.len + 11) (default_bytes (with_count (default_of (raw_of s e)))) out n o₃
       unfolding default_bytes
       laid-default {n} {o₃} z =
-          subst (λ (m : ℕ). Laid at m (default_bytes (with_count (default_of (raw_of s e)))) out n o₃) (one-long s e v.key_in v.row-in)
+          subst (λ (m : ℕ). Laid at m (default_bytes (with_count (default_of (raw_of s e)))) out n o₃) (one-long s e v.lies)
           (laid_as (laid_then x (laid_then y z)) (ap₂ (λ (a b : Bytes). piece_bytes a ++ (digits 8 e.first ++ piece_bytes (b ++ (0 ∷ [])))) ke re))
 
 -- ---- the walk
@@ -161,8 +141,9 @@ pub record Growing (s : Bytes) (count first : ℕ) (old : Bytes) (from at left :
   pub laid : Laid first (length done) done old at out
   pub from_in : from ≤ length s
 
-pub growing-start : {s old : Bytes} {count first : ℕ} → RowsAsk s count first old → Growing s count first old 6 first count old
-growing-start {old = old} {first = first} v = record { done = []; rows = v.rows; is = refl; laid = laid_none old first (omega (arith, v.room)); from_in = v.long }
+pub growing-start : {s old : Bytes} {count first left : ℕ} → count ≡ left → RowsAsk s count first old → Growing s count first old 6 first left old
+growing-start {s} {old} {count} {first} e v =
+    subst (λ (n : ℕ). Growing s count first old 6 first n old) e (record { done = []; rows = v.rows; is = refl; laid = laid_none old first (omega (arith, v.room)); from_in = v.long })
 
 -- the next of the rows left, and the others
 abbrev Next : Bytes → ℕ → ℕ → ImageEntry → Type 0
@@ -173,59 +154,55 @@ unfolding all_good all_bytes
 one_more d none h = absurd (false≢true h)
 one_more d (some q) h = (and_left _ _ h, and_right (growing d) _ h, append_assoc (default_bytes (with_count d)) (all_bytes default_bytes (map with_count q.got)) q.rest)
 
-next_row : (s : Bytes) (from left : ℕ) {e : ImageEntry} → EntryAt sections.Default s from e → 0 < left → growable (rows_from s from left) ≡ true → Next s from left e
-next_row s from left {e} v m g = go e.ok refl
-  where
-    again : left ≡ suc (left - 1)
-    again = omega arith
+module _ (s : Bytes) (from left : ℕ) (m : 0 < left) (g : growable (rows_from s from left) ≡ true) where
+  begun : rows_from s from left ≡ times (suc (left - 1)) default_from (drop from s)
+  begun = let again : left ≡ suc (left - 1) = omega arith in ap (λ (n : ℕ). times n default_from (drop from s)) again
 
-    begun : rows_from s from left ≡ times (suc (left - 1)) default_from (drop from s)
-    begun = ap (λ (n : ℕ). times n default_from (drop from s)) again
+  next_row : {e : ImageEntry} → EntryIs sections.Default s from e → Next s from left e
+  next_row {e} v =
+      let r : rows_from s from left ≡ read_more (default_of (raw_of s e)) (rows_from s e.next (left - 1)) = begun ∙ times_more default_from (left - 1) (drop from s) (default-same (drop from s) ∙ ap (map_read default_of) v.read.is) in
+      let t = one_more (default_of (raw_of s e)) (rows_from s e.next (left - 1)) (sym (ap growable r) ∙ g) in
+      (t.0, t.1, ap grown r ∙ t.2)
 
-    read : (b : Bool) → e.ok ≡ b → default_from (drop from s) ≡ map_read default_of (found s b (raw_of s e) e.next)
-    read b h = default-same (drop from s) ∙ ap (map_read default_of) (v.is ∙ ap (λ (c : Bool). found s c (raw_of s e) e.next) h)
-
-    go : (b : Bool) → e.ok ≡ b → Next s from left e
-    go true h =
-        let r : rows_from s from left ≡ read_more (default_of (raw_of s e)) (rows_from s e.next (left - 1)) = begun ∙ times_more default_from (left - 1) (drop from s) (read true h) in
-        let t = one_more (default_of (raw_of s e)) (rows_from s e.next (left - 1)) (sym (ap growable r) ∙ g) in
-        (t.0, t.1, ap grown r ∙ t.2)
-    go false h = absurd (false≢true (sym (ap growable (begun ∙ times-bad default_from (left - 1) (drop from s) (read false h))) ∙ g))
+  row-stands : entry_from sections.Default (drop from s) ≡ none → ⊥
+  row-stands h = false≢true (sym (ap growable (begun ∙ times-bad default_from (left - 1) (drop from s) (default-same (drop from s) ∙ ap (map_read default_of) h))) ∙ g)
 
 module _ {s old out : Bytes} {count first from at left : ℕ} (a : RowsAsk s count first old) (v : Growing s count first old from at left out) where
-  module _ {e : ImageEntry} (u : EntryAt sections.Default s from e) (m : 0 < left) where
+  pub growing-stands : 0 < left → entry_from sections.Default (drop from s) ≡ none → ⊥
+  growing-stands m = row-stands s from left m v.rows
+
+  module _ {e : ImageEntry} (u : EntryIs sections.Default s from e) (m : 0 < left) where
     abbrev nx : Next s from left e
-    nx = next_row s from left u m v.rows
+    nx = next_row s from left m v.rows u
 
     pub growing-asks : DefaultAsks s e at out
     growing-asks =
         let n = nx in
-        let k = bytes-long s e.pieceat e.piecelen u.piece_in in
-        let w : (e.piecelen ≡ 255 → ⊥) = λ h. true≢false (sym n.0 ∙ ap not (eq-eqb _ 255 (k ∙ h))) in
+        let k = bytes-long s e.piece.at e.piece.len u.lies.piece.within in
+        let w : (e.piece.len ≡ 255 → ⊥) = λ h. true≢false (sym n.0 ∙ ap not (eq-eqb _ 255 (k ∙ h))) in
         let z : length (grown (rows_from s 6 count)) ≡ length v.done + length (grown (rows_from s from left)) = ap length v.is ∙ length-append v.done (grown (rows_from s from left)) in
         let y : length (grown (rows_from s from left)) ≡ length (default_bytes (with_count (default_of (raw_of s e)))) + length (grown (rows_from s e.next (left - 1))) = ap length n.2 ∙ length-append (default_bytes (with_count (default_of (raw_of s e)))) (grown (rows_from s e.next (left - 1))) in
-        let x = one-long s e u.key_in u.piece_in in
+        let x = one-long s e u.lies in
         record {
-          key_in = u.key_in;
-          row-in = u.piece_in;
-          key_small = u.key_small;
-          row_small = below e.piecelen u.piece_small w;
+          lies = u.lies;
+          row_small = below e.piece.len u.lies.piece.small w;
           room = omega (arith, a.room, v.laid.next, v.laid.length_is);
         }
       where
         below : (n : ℕ) → n ≤ 255 → (n ≡ 255 → ⊥) → n ≤ 254
         below n h w = omega (arith, w)
 
-    pub growing-more : {r : ℕ} {out' : Bytes} → Laid at (e.len + e.piecelen + 11) (default_bytes (with_count (default_of (raw_of s e)))) out r out' → Growing s count first old e.next r (left - 1) out'
-    growing-more {r} {out'} l =
+    pub growing-more : {next r : ℕ} → left - 1 ≡ next → {out' : Bytes} → Laid at (e.key.len + e.piece.len + 11) (default_bytes (with_count (default_of (raw_of s e)))) out r out' → Growing s count first old e.next r next out'
+    growing-more {next} {r} f {out'} l =
         let n = nx in
-        record {
+        subst (λ (m : ℕ). Growing s count first old e.next r m out') f
+        (record {
           done = v.done ++ default_bytes (with_count (default_of (raw_of s e)));
           rows = n.1;
           is = v.is ∙ ap (λ (t : Bytes). v.done ++ t) n.2 ∙ sym (append_assoc v.done (default_bytes (with_count (default_of (raw_of s e)))) (grown (rows_from s e.next (left - 1))));
           laid = laid_as (laid_then v.laid l) refl;
-          from_in = u.next_in;
-        }
+          from_in = u.read.within;
+        })
 
   -- the end: what follows is copied as it stands
   module _ (z : left ≤ 0) where
@@ -259,7 +236,12 @@ module _ {s out : Bytes} {count : ℕ} (v : PutAsks s count out) where
   pub put-rows-ask : {out' : Bytes} {b : ℕ} → length out' ≡ length out → b ≡ 14 → RowsAsk s count b out'
   put-rows-ask e f = record { long = v.long; rows = v.rows; room = omega (arith, put-room) }
 
-  pub put_all : {t : Number} {a f b r : ℕ} {o₁ o₂ o₃ o₄ : Bytes} → NumberAt 4 s 0 t → Laid 0 4 (digits 4 t.value) out a o₁ → Laid a 8 (digits 8 0) o₁ f o₂ → Laid f 2 (digits 2 count) o₂ b o₃
+  pub table-long : length (take 4 s) ≡ 4
+  table-long = length-take-le 4 s (omega (arith, v.long))
+
+  pub put_all : AllBytes s → {a f b r : ℕ} {o₁ o₂ o₃ o₄ : Bytes} → Laid 0 (length (take 4 s)) (take 4 s) out a o₁ → Laid a 8 (digits 8 0) o₁ f o₂ → Laid f 2 (digits 2 count) o₂ b o₃
       → Laid b (length (grown (rows_from s 6 count))) (grown (rows_from s 6 count)) o₃ r o₄ → Laid 0 (length (converted_bytes s)) (converted_bytes s) out r o₄
-  put_all {t} n x w y z =
-      laid_as (laid_then x (laid_then w (laid_then y z))) (ap (λ (k : ℕ). digits 4 k ++ (digits 8 0 ++ (digits 2 count ++ rows))) (number-value n (omega (arith, v.long))) ∙ sym v.is)
+  put_all g x w y z = laid_as (laid_then x (laid_then w (laid_then y z))) (ap (λ (t : Bytes). t ++ (digits 8 0 ++ (digits 2 count ++ rows))) table ∙ sym v.is)
+    where
+      table : take 4 s ≡ digits 4 (number (take 4 s))
+      table = sym (ap (λ (n : ℕ). digits n (number (take 4 s))) (sym table-long) ∙ digits_number (take 4 s) (bytes_take 4 s g))

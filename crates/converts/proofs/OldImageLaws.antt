@@ -3,9 +3,13 @@
 use Prim.Native.Nat.{ℕ, ◌+◌, ◌≤◌, ◌<◌}
 use native.Mathlib.Omega.{arith}
 use mathlib.Core.Path.{◌≡◌, refl, sym, ◌∙◌, ap, ap₂}
-use mathlib.Core.Bool.{Bool, true, false, not, ◌&&◌, and-true, and-false, and_assoc, true≢false}
+use mathlib.Core.Bool.{Bool, true, false, not, ◌&&◌, and-true, and-false, and_assoc, true≢false, false≢true}
 use mathlib.Core.List.{List, [], ◌∷◌, ◌++◌, map, map-map}
-use mathlib.Core.Option.{Option, none, some}
+use mathlib.Core.Option.{none, some}
+use mathlib.Core.Option as maths
+use Rattle.std.specs.Prelude.{Option, Some, None}
+use Rattle.rules.specs.declared.records.Kind.{Kind}
+use Rattle.rules.specs.declared.records.Kind.TheVariants.{Put, Delete, Rollback}
 use lib.Dec.{eqb}
 use lib.ListN.{length, get_or, take, length-map, get_or-map}
 use lib.Seq.{length-take-le}
@@ -18,13 +22,13 @@ use Rattle.rules.specs.Box.{Default, at_pair, row_of, row_before, ordered}
 use Rattle.rules.specs.Image.{Image, KeyRecord, old_image}
 use Rattle.rules.specs.Restore.{of_table, all_good, no_second, good_default_by, good_lock, good_write, like_default, like_lock, like_write, kind_has_default, has_default}
 use Rattle.rules.specs.Convert.{growing, convertible}
-use Rattle.images.specs.Entries.{Raw, raw_at, raw_of, EntryAt}
+use Rattle.images.specs.Entries.{Raw, is_put, raw_at, raw_of, Stood}
 use Rattle.images.specs.declared.entries.Section.TheVariants as sections
 use Rattle.images.specs.declared.entries.ImageEntry.{ImageEntry}
 use Rattle.images.specs.declared.checks.Form.TheVariants.{Old}
 use Rattle.images.specs.declared.sections.Sections.{Sections}
-use Rattle.images.specs.Good.{kind_by, kind_of, key_record_of, default_of, form_of}
-use Rattle.images.specs.Sections.{is_good, image_of, row_at, Listed, SectionsAt}
+use Rattle.images.specs.Good.{kind_of, key_record_of, default_of, form_of}
+use Rattle.images.specs.Sections.{is_good, image_of, row_at, Listed, SectionsAre}
 use Rattle.images.proofs.TestLaws.{fails, holds}
 use Rattle.orders.specs.Finds.{rows_at, key_inside, place_of, PlaceAsks}
 use Rattle.orders.specs.Marks.{before_at}
@@ -35,7 +39,7 @@ use Rattle.pairs.specs.Puts.{raw_pair}
 use Rattle.pairs.proofs.SortedLaws.{and-cross, sorted-once}
 use Rattle.pairs.proofs.SortedPlaceLaws.{likes-rows, rows-in-order, rows-once, lines_once}
 use Rattle.pairs.proofs.EntryPairLaws.{any-sorted, good-same, row-found}
-use Rattle.converts.specs.Judged.{write_at, entry_has, writes_have, InOrder, OldJudged}
+use Rattle.converts.specs.Judged.{write_at, entry_has, writes_have, InOrder, Convertible, OldJudged}
 
 -- ---- `has_default`
 
@@ -43,17 +47,15 @@ module _ {s : Bytes} {ds : List ℕ} {e : ImageEntry} (a : PlaceAsks s ds e) whe
   abbrev found : Bool
   found = is_some (row_of (key_inside s e) e.second (rows_at s ds))
 
-  pub has_other : (e.kind ≡ 1 → ⊥) → true ≡ entry_has s ds e
-  has_other h = sym (go (eqb e.kind 1) (eqb e.kind 2) (ne_eqb e.kind 1 h))
-    where
-      go : (x y : Bool) → x ≡ false → kind_has_default (kind_by x y) found ≡ true
-      go true y q = absurd (true≢false q)
-      go false true q = refl
-      go false false q = refl
-
-  module _ (put : e.kind ≡ 1) {i : ℕ} (j : i ≡ place_of s ds (key_inside s e) e.second) where
+  module _ (put : is_put e.kind ≡ true) {i : ℕ} (j : i ≡ place_of s ds (key_inside s e) e.second) where
     by_row : entry_has s ds e ≡ found
-    by_row = ap (λ (n : ℕ). kind_has_default (kind_of n) found) put
+    by_row = go e.kind put
+      where
+        go : (k : Option Kind) → is_put k ≡ true → kind_has_default (kind_of k) found ≡ found
+        go None q = absurd (false≢true q)
+        go (Some Put) q = refl
+        go (Some Delete) q = absurd (false≢true q)
+        go (Some Rollback) q = absurd (false≢true q)
 
     pub has-none : length ds ≤ i → false ≡ entry_has s ds e
     has-none h = sym (by_row ∙ row-past (key_inside s e) e.second (row_at s 0) (rows_at s ds) a.sorted (omega (arith, length-map ds (row_at s))))
@@ -65,17 +67,10 @@ module _ {s : Bytes} {ds : List ℕ} {e : ImageEntry} (a : PlaceAsks s ds e) whe
         (by_row ∙ row_told (key_inside s e) e.second (row_at s 0) (rows_at s ds) a.sorted (omega (arith, length-map ds (row_at s)))
         ∙ ap (at_pair (key_inside s e) e.second) (ap (λ (n : ℕ). get_or (rows_at s ds) n (row_at s 0)) (sym j) ∙ get_or-map (row_at s) ds i 0))
 
--- ---- `puts_have`
+-- ---- `write_has`
 
-module _ {s : Bytes} (ds : List ℕ) {p : ℕ} {e : ImageEntry} (r : EntryAt sections.Write s p e) {b : Bool} (q : b ≡ entry_has s ds e) where
-  told : has_default (rows_at s ds) (write_at s p) ≡ b
-  told = ap (λ (x : Raw). has_default (rows_at s ds) (key_record_of x)) (sym r.raw) ∙ sym q
-
-  pub write-lacks : not b ≡ true → has_default (rows_at s ds) (write_at s p) ≡ false
-  write-lacks h = told ∙ not-true b h
-
-  pub write-has : not b ≡ false → has_default (rows_at s ds) (write_at s p) ≡ true
-  write-has h = told ∙ not-false b h
+pub told : {s : Bytes} (ds : List ℕ) {p : ℕ} {e : ImageEntry} → Stood sections.Write s p e → {b : Bool} → b ≡ entry_has s ds e → b ≡ has_default (rows_at s ds) (write_at s p)
+told {s} ds r q = q ∙ ap (λ (x : Raw). has_default (rows_at s ds) (key_record_of x)) r.raw
 
 -- ---- `entries_good`
 
@@ -146,7 +141,7 @@ rows_both t (d ∷ ds) =
     ap₂ ◌&&◌ (sym (and_assoc (of_table t d.key && not (eqb d.start 0)) (old_row_form d.row) (growing d))) (rows_both t ds)
     ∙ and-cross (good_default_by old_row_form t d) (growing d) (all_good (good_default_by old_row_form t) ds) (all_good growing ds)
 
-pub good-converts : (o : Option Image) → is_good (form_of Old) o ≡ convertible o
+pub good-converts : (o : maths.Option Image) → is_good (form_of Old) o ≡ convertible o
 unfolding convertible
 good-converts none = refl
 good-converts (some i) =
@@ -170,21 +165,23 @@ good-converts (some i) =
 
 -- ---- `judge_in`
 
-module _ {s : Bytes} {i : Sections} {ds ls ws : List ℕ} (v : SectionsAt Old s i ds ls ws) where
-  pub judged-none : not i.ok ≡ true → OldJudged s (record { ok = false; defaults = 0 })
-  judged-none h = record { bad = λ g. sym (good-converts (old_image s)) ∙ v.bad h; good = λ g. absurd (true≢false g) }
+pub judged-none : (s : Bytes) → is_good (form_of Old) (old_image s) ≡ false → OldJudged s None
+judged-none s h = sym (good-converts (old_image s)) ∙ h
 
-  pub judged : not i.ok ≡ false → {b : Bool} → b ≡ is_good (form_of Old) (old_image s) → OldJudged s (record { ok = b; defaults = i.defaults })
-  judged ok {b} q =
-      let w = v.good ok in
-      let e : b ≡ convertible (old_image s) = q ∙ good-converts (old_image s) in
+module _ {s : Bytes} {i : Sections} {ds ls ws : List ℕ} (v : SectionsAre Old s i ds ls ws) {b : Bool} (q : b ≡ is_good (form_of Old) (old_image s)) where
+  abbrev e : b ≡ convertible (old_image s)
+  e = q ∙ good-converts (old_image s)
+
+  pub judged-bad : not b ≡ true → OldJudged s None
+  judged-bad g = sym e ∙ not-true b g
+
+  pub judged : not b ≡ false → Convertible s i.defaults
+  judged g =
+      let w = v.listed in
       record {
-        bad = λ g. sym e ∙ not-true b g;
-        good = λ g. record {
-          img = image_of s w.table i.floor (take i.defaults ds) (take i.locks ls) (take i.writes ws);
-          is = w.is;
-          good = sym (ap convertible w.is) ∙ sym e ∙ not-false b g;
-          count_is =
-              length-map (map (raw_at sections.Default s) (take i.defaults ds)) default_of ∙ length-map (take i.defaults ds) (raw_at sections.Default s) ∙ length-take-le i.defaults ds v.few_defaults;
-        };
+        img = image_of s w.table i.floor (take i.defaults ds) (take i.locks ls) (take i.writes ws);
+        is = w.is;
+        good = sym (ap convertible w.is) ∙ sym e ∙ not-false b g;
+        count_is =
+            length-map (map (raw_at sections.Default s) (take i.defaults ds)) default_of ∙ length-map (take i.defaults ds) (raw_at sections.Default s) ∙ length-take-le i.defaults ds v.few_defaults;
       }

@@ -11,6 +11,7 @@ use Rattle.rules.specs.Image.{default_from}
 use Rattle.rules.specs.Restore.{all_good}
 use Rattle.rules.specs.Capture.{default_bytes}
 use Rattle.rules.specs.Convert.{with_count, growing, converted_bytes}
+use Rattle.images.specs.Entries.{Lies}
 use Rattle.images.specs.declared.entries.ImageEntry.{ImageEntry}
 
 -- n defaults at a place, and what follows them
@@ -35,11 +36,9 @@ pub record RowAsks (row : Bytes) (at : ℕ) (out : Bytes) : Type 0 where
   pub room : at + (length row + 2) ≤ length out
 
 pub record DefaultAsks (s : Bytes) (e : ImageEntry) (at : ℕ) (out : Bytes) : Type 0 where
-  pub key_in : e.at + e.len ≤ length s
-  pub row-in : e.pieceat + e.piecelen ≤ length s
-  pub key_small : e.len ≤ 255
-  pub row_small : e.piecelen ≤ 254
-  pub room : at + (e.len + e.piecelen + 11) ≤ length out
+  pub lies : Lies s e
+  pub row_small : e.piece.len ≤ 254
+  pub room : at + (e.key.len + e.piece.len + 11) ≤ length out
 
 pub record RowsAsk (s : Bytes) (count at : ℕ) (out : Bytes) : Type 0 where
   pub long : 6 ≤ length s

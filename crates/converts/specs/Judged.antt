@@ -1,6 +1,6 @@
 -- An old image judged whole: document 01's checks, with its own rows.
 -- Assumes nothing.
-use Rattle.std.specs.Prelude.{ℕ, ◌≡◌, Bool, true, false, not, List, map, length}
+use Rattle.std.specs.Prelude.{ℕ, ◌≡◌, Bool, true, false, List, map, length, Option, Some, None}
 use Rattle.std.proofs.Math.Option.{some}
 use Rattle.forms.specs.Bytes.{Bytes}
 use Rattle.forms.specs.Readers.{is_some}
@@ -13,7 +13,6 @@ use Rattle.images.specs.declared.entries.Section.TheVariants.{Write}
 use Rattle.images.specs.Entries.{raw_at}
 use Rattle.images.specs.Good.{kind_of, key_record_of}
 use Rattle.orders.specs.Finds.{rows_at, key_inside}
-use Rattle.converts.specs.declared.judge.OldImage.{OldImage}
 
 -- the write at a place
 abbrev pub write_at : Bytes → ℕ → KeyRecord
@@ -38,6 +37,6 @@ pub record Convertible (s : Bytes) (count : ℕ) : Type 0 where
   pub good : convertible (some img) ≡ true
   pub count_is : length img.defaults ≡ count
 
-pub record OldJudged (s : Bytes) (r : OldImage) : Type 0 where
-  pub bad : not r.ok ≡ true → convertible (old_image s) ≡ false
-  pub good : not r.ok ≡ false → Convertible s r.defaults
+abbrev pub OldJudged : Bytes → Option ℕ → Type 0
+OldJudged s None = convertible (old_image s) ≡ false
+OldJudged s (Some n) = Convertible s n

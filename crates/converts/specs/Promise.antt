@@ -3,8 +3,8 @@
 use Rattle.std.specs.Prelude.{◌≡◌, take}
 use Rattle.std.proofs.Math.Option.{some}
 use Rattle.forms.specs.Bytes.{Bytes}
-use Rattle.rules.specs.declared.answers.Answer.TheVariants.{Accepted}
-use Rattle.rules.specs.declared.written.Wrote.{Wrote}
+use Rattle.rules.specs.Answers.{Accepted}
+use Rattle.rules.specs.Outcomes.{Wrote}
 use Rattle.rules.specs.Written.{WroteAs}
 use Rattle.rules.specs.Image.{Image, image, old_image}
 use Rattle.rules.specs.Convert.{converted, convert_image}

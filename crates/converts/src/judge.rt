@@ -12,14 +12,8 @@ use images::Form;
 use images::sections::{Sections, sections_of};
 use orders::{By, order, order_both};
 
-// Whether the image can be converted, and how many defaults it has.
-#[derive(Clone, Copy)]
-pub struct OldImage {
-    pub ok: bool,
-    pub defaults: usize,
-}
-
-// "no second default or write for one key and stamp, no second lock for a key; every write Put has its default"
+// "no second default or write for one key and stamp, no second lock for a key; every write Put has its default". Each test stands by itself: it
+// reads what the one before it sorted, which a chain of `&&` does not carry on.
 fn entries_good(
     s: &[u8],
     i: Sections,
@@ -32,17 +26,17 @@ fn entries_good(
     requires { AlikeAsk Old s.now i ds.old ls.now ws.now ps.old room.old }
     ensures { result ≡ is_good (form_of Old) (old_image s.now) }
 {
-    let writesat = i.writesat;
     if !order(s, By::Rows, ds, room) {
         return false;
     }
-    if !order_both(s, By::Lines(writesat), ls, ws, ps, room) {
+    if !order_both(s, By::Lines(i.writesat), ls, ws, ps, room) {
         return false;
     }
     puts_have(s, ds, ws)
 }
 
-// With room for the places of each section, and for those of all lines.
+// How many defaults an image has that can be converted; with room for the places of each section, and for those of all lines. The five lists stay
+// apart, as in `faults`: each is cut to what was found.
 fn judge_in(
     s: &[u8],
     ds: &mut [u32],
@@ -50,30 +44,28 @@ fn judge_in(
     ws: &mut [u32],
     ps: &mut [u32],
     room: &mut [u32],
-) -> OldImage
+) -> Option<usize>
     requires { JudgeAsk s.now ds.old ls.old ws.old ps.old room.old }
     ensures { OldJudged s.now result }
 {
-    let i = sections_of(s, Form::Old, ds, ls, ws);
-    let d = i.defaults;
-    if !i.ok {
-        return OldImage {
-            ok: false,
-            defaults: 0,
-        };
+    let i = sections_of(s, Form::Old, ds, ls, ws)?;
+    let (d, l, w) = (i.defaults, i.locks, i.writes);
+    if !entries_good(
+        s,
+        i,
+        &mut ds[..d],
+        &ls[..l],
+        &ws[..w],
+        &mut ps[..l + w],
+        room,
+    ) {
+        return None;
     }
-    let l = i.locks;
-    let w = i.writes;
-    let n = l + w;
-    let ok = entries_good(s, i, &mut ds[..d], &ls[..l], &ws[..w], &mut ps[..n], room);
-    OldImage {
-        ok: ok,
-        defaults: d,
-    }
+    Some(d)
 }
 
 // A section has at most 65,535 entries.
-pub(crate) fn old_image(s: &[u8]) -> OldImage
+pub(crate) fn old_image(s: &[u8]) -> Option<usize>
     ensures { OldJudged s.now result }
 {
     let mut ds = [0u32; 65536];

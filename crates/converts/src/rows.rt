@@ -8,7 +8,7 @@ ghost use Rattle.images.specs.Entries.{raw_of};
 ghost use Rattle.images.specs.Good.{default_of};
 ghost use Rattle.converts.specs.Grown.{rows_from, grown, RowAsks, DefaultAsks, RowsAsk, PutAsks};
 
-use forms::{Width, number_at, put_byte, put_bytes, put_digits, put_piece};
+use forms::{Width, put_byte, put_bytes, put_digits, put_piece};
 use images::{ImageEntry, Section, entry_at};
 
 // "adds a zero count to each row"
@@ -25,15 +25,11 @@ fn put_row(out: &mut [u8], at: usize, row: &[u8]) -> usize
 // "key length, key, 8-byte start, row length, row"
 fn put_default(out: &mut [u8], at: usize, s: &[u8], e: ImageEntry) -> usize
     requires { DefaultAsks s.now e at out.old }
-    ensures { Laid at (e.len + e.piecelen + 11) (default_bytes (with_count (default_of (raw_of s.now e)))) out.old result out.new }
+    ensures { Laid at (e.key.len + e.piece.len + 11) (default_bytes (with_count (default_of (raw_of s.now e)))) out.old result out.new }
 {
-    let a = e.at;
-    let b = a + e.len;
-    let p = put_piece(out, at, &s[a..b]);
+    let p = put_piece(out, at, e.key.of(s));
     let q = put_digits(out, p, Width::Eight, e.first);
-    let c = e.pieceat;
-    let d = c + e.piecelen;
-    put_row(out, q, &s[c..d])
+    put_row(out, q, e.piece.of(s))
 }
 
 // The defaults, which begin at 6, and after them the bytes of locks and writes as they stand.
@@ -43,12 +39,12 @@ fn put_rows(out: &mut [u8], first: usize, s: &[u8], count: usize) -> usize
 {
     let mut from: usize = 6;
     let mut at = first;
-    let mut left = count;
-    while 0 < left {
-        let e = entry_at(s, from, Section::Default);
+    for _ in 0..count {
+        let Some(e) = entry_at(s, from, Section::Default) else {
+            unreachable!()
+        };
         at = put_default(out, at, s, e);
         from = e.next;
-        left -= 1;
     }
     put_bytes(out, at, &s[from..])
 }
@@ -58,8 +54,7 @@ pub(crate) fn put_converted(out: &mut [u8], s: &[u8], count: usize) -> usize
     requires { PutAsks s.now count out.old }
     ensures { Laid 0 (length (converted_bytes s.now)) (converted_bytes s.now) out.old result out.new }
 {
-    let t = number_at(s, 0, Width::Four);
-    let a = put_digits(out, 0, Width::Four, t.value);
+    let a = put_bytes(out, 0, &s[..4]);
     let f = put_digits(out, a, Width::Eight, 0);
     let b = put_digits(out, f, Width::Two, count as u64);
     put_rows(out, b, s, count)

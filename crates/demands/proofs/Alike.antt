@@ -26,16 +26,13 @@ use Rattle.store.specs.declared.table.Store.{Store}
 use Rattle.store.specs.declared.table.Slot.{Slot}
 use Rattle.store.specs.View.{box_of, state_shown, no_slot}
 use Rattle.store.specs.Made.{Made, FreshStore, store_of}
-use Rattle.calls.specs.declared.changed.Changed.{Changed}
-use Rattle.calls.specs.Settled.{Untouched, Settled, Replaced}
+use Rattle.calls.specs.Settled.{Changed, Untouched, Settled, Replaced}
 use Rattle.collects.specs.Promise.{CollectedAs}
-use Rattle.reads.specs.declared.seen.RowSeen.{RowSeen}
-use Rattle.reads.specs.declared.seen.LockSeen.{LockSeen}
+use Rattle.reads.specs.Seen.{RowSeen, LockSeen}
 use Rattle.reads.proofs.PartLaws.{one-reply, one-row, one-lock, one-primary}
-use Rattle.rules.specs.declared.written.Wrote.{Wrote}
+use Rattle.rules.specs.Outcomes.{Wrote}
 use Rattle.pages.proofs.PageLaws.{one_answer, one-count, one-buffer}
-use Rattle.demands.specs.Calls.{starting, calling, handing_row, handing_primary}
-use Rattle.demands.specs.Calls.{Sort, Lent, state_in, Given, started, seen, pointed, handed, paged, changed, stepped, counted, marked, boned, summed, row_in, lock_in, bone_in, bones_in, chains, highest, answer_in, count_in, shown_in, part_in, after, Same, Once, OneOutcome, OneRefusal}
+use Rattle.demands.specs.Calls.{starting, calling, handing_row, handing_primary, Sort, Lent, state_in, Given, started, seen, pointed, handed, paged, changed, stepped, counted, marked, boned, summed, row_in, lock_in, bone_in, bones_in, chains, highest, answer_in, count_in, shown_in, part_in, after, Same, Once, OneOutcome, OneRefusal}
 use Rattle.demands.proofs.Refusals.{refusals}
 
 -- the parts of `Same`; one answer has one number and one holder

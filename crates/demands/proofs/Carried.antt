@@ -7,7 +7,7 @@ use mathlib.Core.Option as option
 use mathlib.Core.Option.{Option, some}
 use lib.ListN.{length}
 use Rattle.forms.specs.Bytes.{Bytes}
-use Rattle.rules.specs.declared.answers.Answer.TheVariants.{Accepted}
+use Rattle.rules.specs.Answers.{Accepted}
 use Rattle.rules.specs.declared.room.Load.{Load}
 use Rattle.rules.specs.Box.{Box}
 use Rattle.rules.specs.Room.{load_of}
@@ -24,8 +24,7 @@ use Rattle.ledger.proofs.Demand3.{demand3}
 use Rattle.ledger.proofs.Restored.{demand3-restored}
 use Rattle.store.specs.declared.table.Store.{Store}
 use Rattle.store.specs.View.{state_shown}
-use Rattle.calls.specs.declared.changed.Changed.{Changed}
-use Rattle.calls.specs.Settled.{Settled}
+use Rattle.calls.specs.Settled.{Changed, Settled}
 use Rattle.demands.specs.Calls as calls
 use Rattle.demands.specs.Calls.{a_store, a_change, starting, calling, gives, Lent, box_in, state_in, Given, started, changed, stepped, answer_in, Kept}
 use Rattle.demands.specs.Demands as demands

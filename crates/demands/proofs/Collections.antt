@@ -9,10 +9,8 @@ use lib.Dec.{leb}
 use borrow.Author.Tests.{leb-true}
 use Rattle.forms.specs.Bytes.{Bytes}
 use Rattle.forms.specs.Key.{Key}
-use Rattle.rules.specs.declared.answers.Answer.{Answer}
-use Rattle.rules.specs.declared.answers.Answer.TheVariants.{Accepted}
-use Rattle.rules.specs.declared.written.Wrote.{Wrote}
-use Rattle.rules.specs.Answers.{Reply, answer_of}
+use Rattle.rules.specs.Answers.{Answer, Accepted, Reply, answer_of}
+use Rattle.rules.specs.Outcomes.{Wrote}
 use Rattle.rules.specs.Box.{in_order}
 use Rattle.rules.specs.Read.{Examined, examine, read}
 use Rattle.rules.specs.Intent.{intent_at}
@@ -36,7 +34,7 @@ use Rattle.ledger.proofs.CollectCalls.{calls-as-before}
 use Rattle.ledger.proofs.Tidiness.{collected-since}
 use Rattle.store.specs.declared.table.Store.{Store}
 use Rattle.store.proofs.TidyLaws.{built-tidy}
-use Rattle.calls.specs.declared.changed.Changed.{Changed}
+use Rattle.calls.specs.Settled.{Changed}
 use Rattle.demands.specs.Calls.{a_row, a_lock, a_change, calling, gives, Lent, box_in, floor_in, state_in, Given, seen, pointed, paged, changed, stepped, row_in, lock_in, answer_in, count_in, shown_in, after, Kept, Same}
 use Rattle.demands.specs.Demands.{changing, Ran, Shows}
 use Rattle.demands.specs.Collections.{Collects, left, CollectionSays, SeenAsBefore, AsBefore, CallAbove, ChangesAsBefore, SecondCollection}

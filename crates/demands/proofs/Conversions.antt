@@ -9,8 +9,8 @@ use lib.Dec.{leb, eqb}
 use Rattle.seqs.proofs.Tests.{and_left, and_right}
 use Rattle.forms.specs.Bytes.{Bytes}
 use Rattle.forms.specs.Row.{old_row_form, bones_of}
-use Rattle.rules.specs.declared.answers.Answer.TheVariants.{Accepted, No}
-use Rattle.rules.specs.declared.written.Wrote.{Wrote}
+use Rattle.rules.specs.Answers.{Accepted, No}
+use Rattle.rules.specs.Outcomes.{Wrote}
 use Rattle.rules.specs.Calls.{Ended}
 use Rattle.rules.specs.Image.{Image, old_image}
 use Rattle.rules.specs.Restore.{all_good, good_default_by, good_image_by, restore}
@@ -23,7 +23,7 @@ use Rattle.captures.specs.Promise.{image_in}
 use Rattle.converts.proofs.ReadApartLaws.{sectioned}
 use Rattle.converts.proofs.GrownLaws.{converted-long}
 use Rattle.converts.proofs.Converted.{rows-in-form, sound-converts, converts-once}
-use Rattle.calls.specs.declared.changed.Changed.{Changed}
+use Rattle.calls.specs.Settled.{Changed}
 use Rattle.demands.specs.Calls.{calling, Lent, state_in, changed, after, Kept}
 use Rattle.demands.specs.Conversions.{BonesSummed, BonePast, Converts, RowsConverted, SoundConverted, ConvertedOnce, FormlessRefused, UnconvertedRefused}
 use Rattle.demands.proofs.Refusals.{refusals}

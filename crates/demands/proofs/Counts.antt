@@ -1,8 +1,7 @@
 -- Document 02, CR 6, carried to the store: the count of a read is what the request says of it. Assumes nothing.
 use Prim.Native.Nat.{ℕ}
 use mathlib.Core.Path.{sym, subst}
-use Rattle.rules.specs.declared.answers.Answer.{Answer}
-use Rattle.rules.specs.Answers.{answer_of}
+use Rattle.rules.specs.Answers.{Answer, answer_of}
 use Rattle.rules.specs.Examined.{CountTold}
 use Rattle.rules.specs.Read.{examine}
 use Rattle.rules.proofs.ExaminedLaws.{count-told}

@@ -1,7 +1,7 @@
 -- Document 02, CR 9, carried to the store: what a public call answered is what the definition answers, whose holder proofs/HolderSays of `ledger` tells.
 -- Assumes nothing.
 use mathlib.Core.Path.{◌≡◌, refl, sym, subst}
-use Rattle.rules.specs.declared.answers.Answer.{Answer}
+use Rattle.rules.specs.Answers.{Answer}
 use Rattle.rules.specs.Read.{read}
 use Rattle.rules.specs.Call.{Changing, Call, perform}
 use Rattle.ledger.specs.Holders.{Bars, HolderSays, answer_to}

@@ -9,38 +9,28 @@ use lib.Dec.{leb, eqb}
 use Rattle.forms.specs.Bytes.{Bytes}
 use Rattle.forms.specs.Key.{Key}
 use Rattle.forms.specs.Row.{Row, bone, row_form, bones_of, count_below}
-use Rattle.rules.specs.declared.answers.Answer.{Answer}
-use Rattle.rules.specs.declared.answers.Answer.TheVariants.{Accepted, No, Held}
+use Rattle.rules.specs.Answers.{Answer, Accepted, No, Held, Reply, answer_of, count_if, need}
 use Rattle.rules.specs.Answers as answers
-use Rattle.rules.specs.Answers.{Reply, answer_of, count_if, need}
 use Rattle.rules.specs.Box.{Box}
 use Rattle.rules.specs.Read.{examine}
-use Rattle.rules.specs.Page.{Page}
+use Rattle.rules.specs.Page.{Page, page, intent_page, conflict_page}
 use Rattle.rules.specs.Written.{Written, page_bytes, write_if, written, key_row_bytes, key_lock_bytes, scan_page, scan_intent_page, scan_conflicting_intents, WroteAs}
-use Rattle.rules.specs.Page.{page, intent_page, conflict_page}
 use Rattle.rules.specs.Call.{Changing, Call}
 use Rattle.rules.specs.Capture.{image_of, capture_if, capture_image}
 use Rattle.rules.specs.Image.{old_image}
 use Rattle.rules.specs.Convert.{converted_bytes, convertible, convert_if, convert_image}
-use Rattle.rules.specs.Bones.{Tells, bone_steps, shown_if, bone_shown, bones_shown}
+use Rattle.rules.specs.Bones.{Tells, bone_steps, shown_if, bone_shown, bones_shown, BoneShown, BonesShown}
 use Rattle.laws.proofs.SettleLaws.{one_step-refused}
 use Rattle.ledger.proofs.Unmet.{read_count}
 use Rattle.store.specs.declared.table.Store.{Store}
 use Rattle.store.proofs.TidyLaws.{built-tidy}
-use Rattle.calls.specs.declared.changed.Changed.{Changed}
-use Rattle.calls.specs.Settled.{Untouched}
-use Rattle.reads.specs.declared.seen.RowSeen.{RowSeen}
-use Rattle.reads.specs.declared.seen.RowSeen.TheVariants as reads
+use Rattle.calls.specs.Settled.{Changed, Untouched}
+use Rattle.reads.specs.Seen.{RowSeen, LockSeen, seen_in, ReadAs}
+use Rattle.std.specs.Prelude.{Some, None, Ok, Err}
 use Rattle.reads.specs.declared.seen.Reading.{Reading}
-use Rattle.reads.specs.declared.seen.LockSeen.{LockSeen}
-use Rattle.reads.specs.declared.seen.LockSeen.TheVariants as points
-use Rattle.reads.specs.Seen.{seen_in, ReadAs}
 use Rattle.reads.specs.Parts.{row_part, RowPart, PrimaryPart}
-use Rattle.rules.specs.declared.written.Wrote.{Wrote}
-use Rattle.bones.specs.declared.shown.BoneShown.{BoneShown}
-use Rattle.bones.specs.declared.shown.BonesShown.{BonesShown}
-use Rattle.demands.specs.Calls.{Lent, box_in, floor_in, started, seen, pointed, handed, paged, changed, stepped, counted, marked, boned, summed, nothing, row_in, bone_in, bones_in, answer_in, Unchanged, Refusals}
-use Rattle.demands.specs.Calls.{starting, calling, handing_row, handing_primary}
+use Rattle.rules.specs.Outcomes.{Wrote}
+use Rattle.demands.specs.Calls.{Lent, box_in, floor_in, started, seen, pointed, handed, paged, changed, stepped, counted, marked, boned, summed, nothing, row_in, bone_in, bones_in, answer_in, Unchanged, Refusals, starting, calling, handing_row, handing_primary}
 
 -- ---- a page, and an image
 
@@ -107,9 +97,9 @@ module _ (w : Lent) where
   -- ---- a read, and an intent at a point: the store is as it was by their types, and no row is shown
 
   no_row : (s : RowSeen) → (answer_of (seen_in w.area s) ≡ Accepted → ⊥) → (row_in (seen_in w.area s) ≡ nothing) × (row_part w.area s ≡ [])
-  no_row reads.Nothing n = absurd (n refl)
-  no_row (reads.Row at len) n = absurd (n refl)
-  no_row (reads.Refused a) n = (refl, refl)
+  no_row (Ok None) n = absurd (n refl)
+  no_row (Ok (Some p)) n = absurd (n refl)
+  no_row (Err r) n = (refl, refl)
 
   -- what a made store refuses it refuses before its first record
   read_left : (k : Key) (m : ℕ) (r : Reading) (part : Bytes) → ReadAs (examine (floor_in w) k m (box_in w)) w.area r → RowPart w.area r.seen part → (answer_in w (seen r part) ≡ Accepted → ⊥) → Unchanged w (seen r part)
@@ -124,9 +114,9 @@ module _ (w : Lent) where
       }
 
   intent-left : (s : LockSeen) (part : Bytes) → PrimaryPart w.area s part → (answer_in w (pointed s part) ≡ Accepted → ⊥) → Unchanged w (pointed s part)
-  intent-left points.Nothing part p n = absurd (n refl)
-  intent-left (points.Lock i) part p n = absurd (n refl)
-  intent-left (points.Refused a) part p n = record { left = refl; box = refl; count = λ _. refl; shown = refl; part = p.is }
+  intent-left (Ok None) part p n = absurd (n refl)
+  intent-left (Ok (Some i)) part p n = absurd (n refl)
+  intent-left (Err r) part p n = record { left = refl; box = refl; count = λ _. refl; shown = refl; part = p.is }
 
 -- ---- bones: refused, a question tells `false` or 0
 

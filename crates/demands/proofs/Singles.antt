@@ -13,10 +13,8 @@ use Rattle.forms.specs.Key.{Key, key_form}
 use Rattle.forms.specs.Row.{Row}
 use Rattle.forms.specs.Batch.{Mutation, mutations, keys}
 use Rattle.forms.specs.Ones.{one_mutation, one_key}
-use Rattle.rules.specs.declared.answers.Answer.{Answer}
-use Rattle.rules.specs.declared.answers.Answer.TheVariants.{Accepted, No}
+use Rattle.rules.specs.Answers.{Answer, Accepted, No, ◌▸◌, need}
 use Rattle.rules.specs.declared.terms.CommitTerms.{CommitTerms}
-use Rattle.rules.specs.Answers.{◌▸◌, need}
 use Rattle.rules.specs.Calls.{Done}
 use Rattle.rules.specs.Prewrite.{PrewriteTerms, prewrite_terms_step, prewrite}
 use Rattle.rules.specs.Commit.{commit_terms_step, commit_batch, commit}
@@ -25,8 +23,7 @@ use Rattle.rules.specs.Call.{Changing}
 use Rattle.laws.specs.Singles.{commit_alone, rollback_alone}
 use Rattle.laws.proofs.StepLaws.{then-right}
 use Rattle.laws.proofs.Singles.{refused, mutation-fits, key-fits, prewrite-one, prewrite-single, prewrite-long-key, prewrite-row-too-long, prewrite-named, commit-one, commit-single, commit-long-key, commit-named, rollback-one, rollback-single, rollback-long-key, rollback-named}
-use Rattle.calls.specs.declared.changed.Changed.{Changed}
-use Rattle.calls.specs.Settled.{Settled}
+use Rattle.calls.specs.Settled.{Changed, Settled}
 use Rattle.demands.specs.Calls.{a_change, Lent, box_in, floor_in, Given, changed, Kept, Same}
 use Rattle.demands.specs.Demands.{changing}
 use Rattle.demands.specs.Singles.{EndsAs, RefusedAs, SinglePrewrite, SinglePrewrites, SingleKey, SingleCommits, SingleRollbacks}

@@ -1,7 +1,6 @@
 -- A made store stays made, whatever the public call. Assumes nothing.
 use Rattle.rules.specs.Call.{Changing, Call}
-use Rattle.demands.specs.Calls.{started, seen, pointed, handed, paged, changed, stepped, counted, marked, boned, summed, StaysMade, StartsMade}
-use Rattle.demands.specs.Calls.{starting, calling, handing_row, handing_primary}
+use Rattle.demands.specs.Calls.{started, seen, pointed, handed, paged, changed, stepped, counted, marked, boned, summed, StaysMade, StartsMade, starting, calling, handing_row, handing_primary}
 
 -- `fresh` and `open`, with an area of 131,072 bytes
 pub starts-made : StartsMade

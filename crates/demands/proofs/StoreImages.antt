@@ -7,8 +7,8 @@ use lib.ListN.{length, take, drop}
 use lib.Seq.{take_at}
 use lib.Dec.{leb, eqb}
 use Rattle.forms.specs.Bytes.{Bytes}
-use Rattle.rules.specs.declared.answers.Answer.TheVariants.{Accepted, No}
-use Rattle.rules.specs.declared.written.Wrote.{Wrote}
+use Rattle.rules.specs.Answers.{Accepted, No}
+use Rattle.rules.specs.Outcomes.{Wrote}
 use Rattle.rules.specs.Box.{Box, in_order}
 use Rattle.rules.specs.Calls.{State, Ended}
 use Rattle.rules.specs.Written.{Written, write_if, WroteAs}

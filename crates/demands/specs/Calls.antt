@@ -5,12 +5,10 @@
 use Rattle.std.specs.Prelude.{ℕ, zero, suc, ◌≡◌, Bool, true, false, []}
 use Rattle.forms.specs.Bytes.{Bytes}
 use Rattle.forms.specs.Row.{Row}
-use Rattle.rules.specs.declared.answers.Answer.{Answer}
-use Rattle.rules.specs.declared.answers.Answer.TheVariants.{Accepted, No, Held}
+use Rattle.rules.specs.Answers.{Answer, Accepted, No, Held, Answered, Reply, answer_of}
 use Rattle.rules.specs.declared.figures.Stats.{Stats}
 use Rattle.rules.specs.declared.figures.Marks.{Marks}
 use Rattle.rules.specs.Answers as answers
-use Rattle.rules.specs.Answers.{Answered, Reply, answer_of}
 use Rattle.rules.specs.Box.{Box, Lock}
 use Rattle.rules.specs.Read.{examine}
 use Rattle.rules.specs.Intent.{intent_at}
@@ -22,24 +20,18 @@ use Rattle.rules.specs.Rollback.{rollback_batch}
 use Rattle.rules.specs.OneStep.{one_step}
 use Rattle.rules.specs.Restore.{restore}
 use Rattle.rules.specs.Calls.{State}
-use Rattle.rules.specs.Bones.{Tells, bone_shown, bones_shown}
+use Rattle.rules.specs.Bones.{Tells, bone_shown, bones_shown, BoneShown, BonesShown}
 use Rattle.rules.specs.Figures.{stats, marks}
 use Rattle.store.specs.declared.table.Store.{Store}
 use Rattle.store.specs.View.{box_of, state_shown}
 use Rattle.store.specs.Made.{Made, FreshStore}
-use Rattle.calls.specs.declared.changed.Changed.{Changed}
-use Rattle.calls.specs.Settled.{Settled, Replaced}
+use Rattle.calls.specs.Settled.{Changed, Settled, Replaced}
 use Rattle.collects.specs.Promise.{CollectedAs}
-use Rattle.reads.specs.declared.seen.RowSeen.{RowSeen}
+use Rattle.reads.specs.Seen.{RowSeen, LockSeen, seen_in, ReadAs, pointed_in, PointedAs}
 use Rattle.reads.specs.declared.seen.Reading.{Reading}
-use Rattle.reads.specs.declared.seen.LockSeen.{LockSeen}
-use Rattle.reads.specs.Seen.{seen_in, ReadAs, pointed_in, PointedAs}
 use Rattle.reads.specs.Parts.{RowPart, PrimaryPart}
-use Rattle.rules.specs.declared.written.Wrote.{Wrote}
-use Rattle.onesteps.specs.declared.batch.Stepped.{Stepped}
-use Rattle.onesteps.specs.Counts.{Counts}
-use Rattle.bones.specs.declared.shown.BoneShown.{BoneShown}
-use Rattle.bones.specs.declared.shown.BonesShown.{BonesShown}
+use Rattle.rules.specs.Outcomes.{Wrote}
+use Rattle.onesteps.specs.Counts.{Stepped, Counts}
 use Rattle.captures.specs.Promise.{ImageWritten}
 use Rattle.converts.specs.Promise.{ImageConverted}
 

@@ -4,12 +4,12 @@
 use Rattle.std.specs.Prelude.{ℕ, ◌≤◌, ◌<◌, ◌≡◌, List}
 use Rattle.forms.specs.Bytes.{Bytes}
 use Rattle.forms.specs.Key.{Key}
-use Rattle.rules.specs.declared.answers.Answer.TheVariants.{Accepted}
-use Rattle.rules.specs.declared.written.Wrote.{Wrote}
+use Rattle.rules.specs.Answers.{Accepted}
+use Rattle.rules.specs.Outcomes.{Wrote}
 use Rattle.rules.specs.Page.{Bounds, Limits}
 use Rattle.rules.specs.Call.{Changing, Call}
 use Rattle.ledger.specs.Collected.{CollectsTo, SameUnless11}
-use Rattle.calls.specs.declared.changed.Changed.{Changed}
+use Rattle.calls.specs.Settled.{Changed}
 use Rattle.demands.specs.Calls.{a_row, a_lock, a_change, calling, gives, Lent, box_in, floor_in, Given, paged, changed, answer_in, count_in, shown_in, after, Kept, MadeIn, Same}
 use Rattle.demands.specs.Demands.{changing, Ran}
 

@@ -7,17 +7,16 @@ use mathlib.Core.List.{Memᴰ}
 use Rattle.std.proofs.Math.Option.{some}
 use Rattle.forms.specs.Bytes.{Bytes}
 use Rattle.forms.specs.Row.{Row, old_row_form, row_form, bones_of, count_below}
-use Rattle.rules.specs.declared.answers.Answer.TheVariants.{Accepted, No}
-use Rattle.rules.specs.declared.written.Wrote.{Wrote}
+use Rattle.rules.specs.Answers.{Accepted, No}
+use Rattle.rules.specs.Outcomes.{Wrote}
 use Rattle.rules.specs.Box.{Default}
 use Rattle.rules.specs.Image.{Image, image, old_image}
 use Rattle.rules.specs.Restore.{all_good, good_default, good_image_by}
 use Rattle.rules.specs.Convert.{converted, growing}
 use Rattle.rules.specs.Call.{Call}
 use Rattle.captures.specs.Promise.{image_in}
-use Rattle.calls.specs.declared.changed.Changed.{Changed}
-use Rattle.bones.specs.declared.shown.BoneShown.{BoneShown}
-use Rattle.bones.specs.declared.shown.BonesShown.{BonesShown}
+use Rattle.calls.specs.Settled.{Changed}
+use Rattle.rules.specs.Bones.{BoneShown, BonesShown}
 use Rattle.demands.specs.Calls.{calling, Lent, paged, changed, boned, summed, after, Kept}
 
 -- ---- the bones

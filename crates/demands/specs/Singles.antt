@@ -10,10 +10,8 @@ use Rattle.forms.specs.Key.{Key, key_form}
 use Rattle.forms.specs.Row.{Row}
 use Rattle.forms.specs.Batch.{Mutation, mutations, keys}
 use Rattle.forms.specs.Ones.{one_mutation, one_key}
-use Rattle.rules.specs.declared.answers.Answer.{Answer}
-use Rattle.rules.specs.declared.answers.Answer.TheVariants.{Accepted, No}
+use Rattle.rules.specs.Answers.{Answer, Accepted, No, ◌▸◌, need}
 use Rattle.rules.specs.declared.terms.CommitTerms.{CommitTerms}
-use Rattle.rules.specs.Answers.{◌▸◌, need}
 use Rattle.rules.specs.Calls.{Done}
 use Rattle.rules.specs.Prewrite.{PrewriteTerms, prewrite_terms_step}
 use Rattle.rules.specs.Commit.{commit_terms_step}

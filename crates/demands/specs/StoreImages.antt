@@ -5,15 +5,15 @@
 -- Assumes nothing.
 use Rattle.std.specs.Prelude.{ℕ, ◌≡◌, ◌↔◌}
 use Rattle.forms.specs.Bytes.{Bytes}
-use Rattle.rules.specs.declared.answers.Answer.TheVariants.{Accepted}
-use Rattle.rules.specs.declared.written.Wrote.{Wrote}
+use Rattle.rules.specs.Answers.{Accepted}
+use Rattle.rules.specs.Outcomes.{Wrote}
 use Rattle.rules.specs.Calls.{State}
 use Rattle.rules.specs.Call.{Call}
 use Rattle.rules.specs.Capture.{part_of, entries_of, image_of, AscendingImage}
 use Rattle.ledger.specs.BoxImages.{HoldsOnly}
 use Rattle.store.specs.View.{state_shown}
 use Rattle.captures.specs.Promise.{image_in}
-use Rattle.calls.specs.declared.changed.Changed.{Changed}
+use Rattle.calls.specs.Settled.{Changed}
 use Rattle.demands.specs.Calls.{calling, Lent, box_in, floor_in, paged, changed, Kept}
 
 -- a store was asked for the image of a table, and accepted: `count` bytes of the buffer are the image

@@ -2,14 +2,14 @@
 // length, and the answers of all follow one another. Each answer is written as it comes.
 #![tactic(auto)]
 
-ghost use Rattle.std.specs.Prelude.{◌≡◌, length};
 ghost use Rattle.store.specs.Made.{Made};
 
 use inputs::read_full;
-use rules::Answer;
+use rules::Refusal;
 use std::env::Env;
 use std::io::Read;
 use store::{AREA, Store};
+use traces::Calls;
 
 mod streams;
 
@@ -17,54 +17,41 @@ use streams::Next;
 
 // "A trace not in form gives one answer, number 6, with zeros and no payload"
 fn refuse(rt: &impl Print, out: &mut [u8]) -> bool {
-    let n = driving::tell_plain(out, Answer::No(6), 0);
+    let n = traces::put_answer(out, Err(Refusal::BatchForm), 0, &[]);
     rt.write_all(&out[..n]).is_ok()
 }
 
 // "The calls of one trace run in turn on one store"
 fn answer_calls(
     rt: &impl Print,
-    store: Store,
-    trace: &[u8],
+    mut calls: Calls,
+    mut store: Store,
     area: &mut [u8; AREA],
     out: &mut [u8],
 ) -> bool
     requires { Made store area.old }
 {
-    let first = traces::first_call(trace);
-    let mut kept = store;
-    let mut at = first.at;
-    let mut left = first.left;
-    while 0 < left {
-        let c = traces::call_at(trace, at);
-        let b = c.at;
-        let e = b + c.len;
-        let ran = driving::run_call(kept, area, &trace[b..e], out);
-        let n = ran.len;
+    while let Some(call) = calls.next_call() {
+        let n = driving::run_call(&mut store, area, call, out);
         if rt.write_all(&out[..n]).is_err() {
             return false;
         }
-        kept = ran.store;
-        at = e;
-        left -= 1;
     }
     true
 }
 
 // "fresh at the start"; "nothing is run" of a trace that is not in form
 fn answer_trace(rt: &impl Print, trace: &[u8], out: &mut [u8]) -> bool {
-    if !traces::trace_in_form(trace) {
+    let Some(calls) = traces::calls_in(trace) else {
         return refuse(rt, out);
-    }
+    };
     let mut area = [0u8; AREA];
-    let store = store::fresh();
-    answer_calls(rt, store, trace, &mut area, out)
+    answer_calls(rt, calls, store::fresh(), &mut area, out)
 }
 
 // Whether there is more to answer.
 fn answer_next(rt: &impl Print, input: &mut impl Read, trace: &mut [u8], out: &mut [u8]) -> bool {
-    let next = streams::next_trace(input, trace);
-    match next {
+    match streams::next_trace(input, trace) {
         Next::End => false,
         Next::Over => refuse(rt, out),
         Next::Trace(n) => answer_trace(rt, &trace[..n], out),
@@ -72,9 +59,10 @@ fn answer_next(rt: &impl Print, input: &mut impl Read, trace: &mut [u8], out: &m
 }
 
 fn answer_many(rt: &impl Print, input: &mut impl Read, trace: &mut [u8], out: &mut [u8]) {
-    let mut turns = u64::MAX;
-    while turns > 0 && answer_next(rt, input, trace, out) {
-        turns -= 1;
+    for _ in 0..u64::MAX {
+        if !answer_next(rt, input, trace, out) {
+            return;
+        }
     }
 }
 
@@ -87,7 +75,7 @@ fn answer_one(rt: &impl Print, input: &mut impl Read, trace: &mut [u8], out: &mu
 fn asked_many(rt: &impl Env) -> bool {
     let mut word = [0u8; 8];
     match rt.arg(1, &mut word) {
-        Ok(n) => forms::same(&word[..n], b"many"),
+        Ok(n) => &word[..n] == b"many".as_slice(),
         Err(_) => false,
     }
 }

@@ -1,7 +1,6 @@
 // Traces in a stream: "any number of traces, each after a 4-byte length". Nothing is assumed of the input.
 ghost use Rattle.drive.specs.Next.{NextIn};
 
-use forms::Width;
 use inputs::read_full;
 use std::io::Read;
 
@@ -23,8 +22,7 @@ fn pass_over(input: &mut impl Read, len: usize, buffer: &mut [u8]) -> bool {
         }
         left -= n;
     }
-    let n = read_full(input, &mut buffer[..left]);
-    n == left
+    read_full(input, &mut buffer[..left]) == left
 }
 
 // The trace after the next length. One that is longer than the buffer is passed over; one that the input ends in is none.
@@ -32,20 +30,18 @@ pub fn next_trace(input: &mut impl Read, buffer: &mut [u8]) -> Next
     ensures { NextIn result buffer.new }
 {
     let mut head = [0u8; 4];
-    let got = read_full(input, &mut head);
-    if got < 4 {
+    if read_full(input, &mut head) < 4 {
         return Next::End;
     }
-    let number = forms::number_at(&head, 0, Width::Four);
-    let len = number.value as usize;
+    let len = u32::from_be_bytes(head) as usize;
     if buffer.len() < len {
-        if pass_over(input, len, buffer) {
-            return Next::Over;
-        }
-        return Next::End;
+        return if pass_over(input, len, buffer) {
+            Next::Over
+        } else {
+            Next::End
+        };
     }
-    let have = read_full(input, &mut buffer[..len]);
-    if have < len {
+    if read_full(input, &mut buffer[..len]) < len {
         return Next::End;
     }
     Next::Trace(len)

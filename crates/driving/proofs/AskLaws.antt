@@ -1,48 +1,48 @@
 -- The calls that need no store, told: from what each promises to its bytes.
 -- Assumes nothing.
 use Prim.Native.Nat.{ℕ, ◌≤◌, ◌<◌}
-use mathlib.Core.Path.{◌≡◌, sym, subst}
-use mathlib.Core.Bool.{Bool}
+use mathlib.Core.Path.{◌≡◌, sym, ◌∙◌, ap, subst}
 use mathlib.Core.List.{◌++◌}
 use lib.ListN.{length, take, drop}
 use Rattle.forms.specs.Bytes.{Bytes}
 use Rattle.forms.specs.Row.{Row}
-use Rattle.rules.specs.declared.answers.Answer.{Answer}
-use Rattle.rules.specs.declared.written.Wrote.{Wrote}
+use Rattle.rules.specs.Answers.{Answer}
+use Rattle.rules.specs.Outcomes.{outcome, Wrote}
 use Rattle.rules.specs.Calls.{fresh_state}
 use Rattle.rules.specs.Written.{WroteAs}
 use Rattle.rules.specs.Bones.{Due, Tells}
 use Rattle.rules.specs.Convert.{convert_image}
 use Rattle.traces.specs.declared.op.AskOp.{AskOp}
-use Rattle.traces.specs.Payloads.{bone_payload}
 use Rattle.traces.specs.Answers.{answer_bytes}
 use Rattle.showing.specs.Told.{lent, paging, Writes}
-use Rattle.showing.specs.Ran.{ShownTold}
-use Rattle.showing.proofs.PagingLaws.{long-in, converted-long, image-shown}
+use Rattle.showing.specs.Shows.{ShownTold, ShownOf}
+use Rattle.showing.specs.declared.shown.Shown.{Shown}
+use Rattle.showing.proofs.PagingLaws.{long-in, converted-long, lent-shown, lent-room}
 use Rattle.showing.proofs.ShowLaws.{told-as}
 use Rattle.driving.specs.Asks.{due_bytes, asked_bytes, written_bytes}
 
--- a question about a row
-pub due-told : {A : Type 0} (payload : A → Bytes) (d : Due A) {a : Answer} {x : A} {out out' : Bytes} {n : ℕ} → Tells d a x → Writes (answer_bytes a 0 (payload x)) out n out' → Writes (due_bytes payload d) out n out'
-due-told {A} payload d {x = x} {out = out} {out' = out'} {n = n} t w =
-    subst (λ (y : A). Writes (answer_bytes d.answer 0 (payload y)) out n out') t.shown_is
-    (subst (λ (y : Answer). Writes (answer_bytes y 0 (payload x)) out n out') t.answer_is.case_is w)
-
--- whether the bone is shown is known
-pub bone-told : (d : Due Bool) (b : Bool) {a : Answer} {x : Bool} {out out' : Bytes} {n : ℕ} → x ≡ b → Tells d a x → Writes (answer_bytes a 0 (bone_payload b)) out n out' → Writes (due_bytes bone_payload d) out n out'
-bone-told d b {a} {out = out} {out' = out'} {n = n} e t w = due-told bone_payload d t (subst (λ (y : Bool). Writes (answer_bytes a 0 (bone_payload y)) out n out') (sym e) w)
+-- a question about a row: what it answers, and the byte that it tells
+pub due-told : {A : Type 0} (payload : A → Bytes) (d : Due A) {a : Answer} {x : A} → Tells d a x → answer_bytes a 0 (payload x) ≡ due_bytes payload d
+due-told payload d {a} {x} t = ap (λ (y : Answer). answer_bytes y 0 (payload x)) t.answer_is.case_is ∙ ap (λ (p : Bytes). answer_bytes d.answer 0 p) (ap payload t.shown_is)
 
 -- which question is known
-pub by-ask : (o op : AskOp) (r : Row) (k : ℕ) {out out' : Bytes} {n : ℕ} → o ≡ op → Writes (asked_bytes op r k) out n out' → Writes (asked_bytes o r k) out n out'
-by-ask o op r k {out} {out'} {n} e w = subst (λ (x : AskOp). Writes (asked_bytes x r k) out n out') (sym e) w
+pub by-ask : (o op : AskOp) (r : Row) (k : ℕ) {b : Bytes} → o ≡ op → b ≡ asked_bytes op r k → b ≡ asked_bytes o r k
+by-ask o op r k e w = w ∙ ap (λ (x : AskOp). asked_bytes x r k) (sym e)
+
+-- the bytes of an answer are written, whatever says them
+pub writes-as : {b b' out out' : Bytes} {n : ℕ} → b ≡ b' → Writes b out n out' → Writes b' out n out'
+writes-as {out = out} {out' = out'} {n = n} e w = subst (λ (x : Bytes). Writes x out n out') e w
 
 -- the converter: the lent buffer is the front of a longer one
 module _ (i : Bytes) (n : ℕ) {buffer : Bytes} {done : Wrote} {page : Bytes} (Lent-is : buffer ≡ lent 262144) (small : n < 262145) (v : WroteAs (convert_image i (take n buffer)) done page) where
-  converted : ShownTold (paging (convert_image i (lent n)) fresh_state) fresh_state (record { answer = done.answer; count = done.count; len = n }) (page ++ drop n buffer)
-  converted = image-shown (convert_image i) (converted-long i) n 262144 fresh_state Lent-is (long-in n small) v
+  converted : {r : Shown} → ShownOf done n r → ShownTold (paging (convert_image i (lent n)) fresh_state) fresh_state r (page ++ drop n buffer)
+  converted = lent-shown (convert_image i) (converted-long i) n 262144 fresh_state Lent-is (long-in n small) v
 
-  pub convert-front : n ≤ length (page ++ drop n buffer)
-  convert-front = converted.told.within
+  pub convert-room : length (page ++ drop n buffer) ≡ 262144
+  convert-room = lent-room (convert_image i) (converted-long i) n 262144 fresh_state Lent-is (long-in n small) v
 
-  pub convert-told : {out out' : Bytes} {k : ℕ} → Writes (answer_bytes done.answer done.count (take n (page ++ drop n buffer))) out k out' → Writes (written_bytes (convert_image i (lent n))) out k out'
-  convert-told w = told-as converted.told w
+  pub convert-within : {r : Shown} → ShownOf done n r → r.len ≤ length (page ++ drop n buffer)
+  convert-within u = (converted u).told.within
+
+  pub convert-told : {r : Shown} {out out' : Bytes} {k : ℕ} → ShownOf done n r → Writes (answer_bytes (outcome r.answer) r.count (take r.len (page ++ drop n buffer))) out k out' → Writes (written_bytes (convert_image i (lent n))) out k out'
+  convert-told u w = told-as (converted u).told w

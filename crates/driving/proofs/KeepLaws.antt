@@ -5,8 +5,7 @@ use lib.ListN.{length}
 use Rattle.forms.specs.Bytes.{Bytes}
 use Rattle.store.specs.declared.table.Store.{Store}
 use Rattle.store.specs.Made.{Made}
-use Rattle.showing.specs.declared.ran.Ran.{Ran}
-use Rattle.showing.specs.Ran.{RunCall}
+use Rattle.showing.specs.Ran.{Ran, RunCall}
 use Rattle.driving.proofs.RunCallLaws.{ran-made}
 
 -- the store is one that a call may be run on, and the buffer is as long as it was

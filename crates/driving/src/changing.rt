@@ -1,52 +1,34 @@
-// The calls that change the store, run: the public function of each is called with the arguments that lie in the call's bytes, and its answer is
-// told.
-ghost use Rattle.std.specs.Prelude.{◌≤◌, length};
+// The calls that change the store, run: the public function of each is called with the call's arguments, and its answer is told.
 ghost use Rattle.traces.specs.declared.op.Op.{Op};
+ghost use Rattle.rules.specs.Outcomes.{outcome};
 ghost use Rattle.traces.specs.Args.{call_as};
 ghost use Rattle.store.specs.View.{state_shown};
 ghost use Rattle.store.specs.Made.{Made};
 ghost use Rattle.showing.specs.Told.{told};
-ghost use Rattle.showing.specs.Ran.{RunAsks, RanAs, longest};
-ghost use Rattle.driving.specs.Changes.{changed_by, DoneAs, TellsChange};
+ghost use Rattle.showing.specs.Ran.{RunAsks, RanAs};
+ghost use Rattle.driving.specs.Changes.{changed_by, DoneAs};
 
-use calls::Changed;
-use showing::{Ran, part, tell_plain};
+use rules::Refusal;
+use showing::written;
 use store::{AREA, Store};
-use traces::{Args, ChangeOp};
-
-// What a changing call gave back: its answer is told, without count and payload, and its store goes on.
-pub(crate) fn tell_change(done: Changed, out: &mut [u8]) -> Ran
-    requires { longest ≤ length out.old }
-    ensures { TellsChange done out.old result out.new }
-{
-    let answer = done.answer;
-    let after = done.store;
-    let len = tell_plain(out, answer, 0);
-    Ran {
-        store: after,
-        len: len,
-    }
-}
+use traces::{Args, ChangeOp, put_answer};
 
 // The numbers `a`, `b` and `c` are the transaction, the start, and the time to live or the commit; of a collection `a` is the floor.
 fn change(
-    store: Store,
+    store: &mut Store,
     area: &mut [u8; AREA],
+    args: &Args,
     op: ChangeOp,
-    a: u64,
-    b: u64,
-    c: u64,
-    primary: &[u8],
-    key: &[u8],
-    put: bool,
-    row: &[u8],
-    rest: &[u8],
-) -> Changed
-    requires { Made store area.old }
-    ensures { DoneAs (changed_by op a b c primary.now key.now put row.now rest.now (state_shown store area.old)) result area.new }
+) -> Result<(), Refusal>
+    requires { Made store.old area.old }
+    ensures { DoneAs (changed_by op args.now (state_shown store.old area.old)) (record { store = store.new; answer = outcome result }) area.new }
 {
+    let (a, b, c) = (args.first, args.second, args.third);
+    let (primary, key, rest) = (args.primary, args.key, args.rest);
     match op {
-        ChangeOp::Prewrite => prewrites::prewrite(store, area, a, b, c, primary, key, put, row),
+        ChangeOp::Prewrite => {
+            prewrites::prewrite(store, area, a, b, c, primary, key, args.put, args.row)
+        }
         ChangeOp::PrewriteBatch => prewrites::prewrite_batch(store, area, a, b, c, primary, rest),
         ChangeOp::Commit => commits::commit_intent(store, area, a, b, c, key),
         ChangeOp::CommitBatch => commits::commit_intents_batch(store, area, a, b, c, rest),
@@ -57,55 +39,31 @@ fn change(
     }
 }
 
+// The answer is told, without count and payload.
 pub(crate) fn run_change(
-    store: Store,
+    store: &mut Store,
     area: &mut [u8; AREA],
-    call: &[u8],
-    args: Args,
+    args: &Args,
     op: ChangeOp,
     out: &mut [u8],
-) -> Ran
-    requires { RunAsks store area.old call.now args (Op.Changes op) out.old }
-    ensures { RanAs (told (call_as (Op.Changes op) call.now args) args.buffer (state_shown store area.old)) out.old result area.new out.new }
+) -> usize
+    requires { RunAsks store.old area.old args.now (Op.Changes op) out.old }
+    ensures { RanAs (told (call_as (Op.Changes op) args.now) args.now.buffer (state_shown store.old area.old)) out.old (record { store = store.new; len = result }) area.new out.new }
 {
-    let primary = part(call, args.primaryat, args.primarylen);
-    let key = part(call, args.keyat, args.keylen);
-    let row = part(call, args.rowat, args.rowlen);
-    let rest = part(call, args.restat, args.restlen);
-    let done = change(
-        store,
-        area,
-        op,
-        args.first,
-        args.second,
-        args.third,
-        primary,
-        key,
-        args.put,
-        row,
-        rest,
-    );
-    tell_change(done, out)
+    let done = change(store, area, args, op);
+    put_answer(out, done, 0, &[])
 }
 
 // "The count is the number of entries": a one-step batch tells it.
 pub(crate) fn run_step(
-    store: Store,
+    store: &mut Store,
     area: &mut [u8; AREA],
-    call: &[u8],
-    args: Args,
+    args: &Args,
     out: &mut [u8],
-) -> Ran
-    requires { RunAsks store area.old call.now args Op.OneStep out.old }
-    ensures { RanAs (told (call_as Op.OneStep call.now args) args.buffer (state_shown store area.old)) out.old result area.new out.new }
+) -> usize
+    requires { RunAsks store.old area.old args.now Op.OneStep out.old }
+    ensures { RanAs (told (call_as Op.OneStep args.now) args.now.buffer (state_shown store.old area.old)) out.old (record { store = store.new; len = result }) area.new out.new }
 {
-    let rest = part(call, args.restat, args.restlen);
-    let done = onesteps::commit_batch(store, area, args.first, args.second, args.third, rest);
-    let answer = done.answer;
-    let after = done.store;
-    let len = tell_plain(out, answer, done.count as u64);
-    Ran {
-        store: after,
-        len: len,
-    }
+    let done = onesteps::commit_batch(store, area, args.first, args.second, args.third, args.rest);
+    written(done, 0).tell(&[], out)
 }

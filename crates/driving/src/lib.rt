@@ -8,4 +8,3 @@ pub mod changing;
 pub mod run;
 
 pub use run::run_call;
-pub use showing::{Ran, tell_plain};

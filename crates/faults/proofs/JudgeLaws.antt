@@ -1,15 +1,14 @@
 -- An image judged whole: each way out of the functions that judge it.
 -- Assumes nothing.
-use Prim.Native.Nat.{ℕ, ◌+◌, ◌≤◌, ◌<◌}
+use Prim.Native.Nat.{ℕ, ◌+◌, ◌≤◌}
 use native.Mathlib.Omega.{arith}
 use mathlib.Core.Path.{◌≡◌, refl, sym, ◌∙◌, ap, ap₂}
-use mathlib.Core.Bool.{Bool, true, false, not, ◌&&◌, and-false, and_assoc, and_comm, true≢false, false≢true}
+use mathlib.Core.Bool.{Bool, true, false, not, ◌&&◌, and-false, and_assoc, and_comm, false≢true}
 use mathlib.Core.List.{List, ◌++◌, map, map-map}
 use mathlib.Core.Option.{Option, none, some}
 use lib.ListN.{length, take, drop, length-append}
 use lib.Seq.{length-take-le, take_at}
-use lib.Dec.{ltb}
-use borrow.Author.Tests.{ne_eqb, not-false, le-ltb, lt-ltb}
+use borrow.Author.Tests.{ne_eqb, not-false}
 use Rattle.forms.specs.Bytes.{Bytes}
 use Rattle.forms.specs.Row.{row_form}
 use Rattle.rules.specs.Box.{KeyLine, Default, ordered}
@@ -23,30 +22,17 @@ use Rattle.orders.specs.Sorts.{sorted, Sorted}
 use Rattle.orders.proofs.SortLaws.{sorted-length}
 use Rattle.images.specs.declared.checks.Form.TheVariants.{New}
 use Rattle.images.specs.declared.entries.Section.TheVariants as sections
-use Rattle.images.specs.declared.entries.ImageEntry.{ImageEntry}
 use Rattle.images.specs.declared.sections.Sections.{Sections}
-use Rattle.images.specs.Entries.{Raw, raw_at, EntryAt}
+use Rattle.images.specs.Entries.{raw_at}
 use Rattle.images.specs.Good.{key_lock_of}
-use Rattle.images.specs.Sections.{is_good, image_of, row_at, line_at, Listed, SectionsAt, no_sections}
+use Rattle.images.specs.Sections.{is_good, image_of, row_at, line_at, Listed, SectionsAre}
 use Rattle.images.proofs.TestLaws.{fails, holds, and-out}
 use Rattle.pairs.specs.Puts.{puts_of, same_pairs, puts_match}
-use Rattle.faults.specs.Judged.{is_sound, lock_at, locks_above, Alike, load_from, Judged}
+use Rattle.faults.specs.Judged.{is_sound, locks_above, Alike, load_from, Sound}
 use Rattle.pairs.proofs.SortedLaws.{and-cross, sorted-once}
 use Rattle.pairs.proofs.SortedPlaceLaws.{likes-rows, likes-pairs, rows-in-order, rows-placed, rows-once, pairs-in-order, pairs-once, lines-placed, lines_once}
 use Rattle.pairs.proofs.EntryPairLaws.{line_has, lines-have, pairs-match}
 use Rattle.faults.proofs.ImageLoadLaws.{load_at}
-
--- ---- the lock at a place, against the floor
-
-module _ (floor : ℕ) {s : Bytes} {at : ℕ} {e : ImageEntry} (r : EntryAt sections.Lock s at e) where
-  told : {b : Bool} → ltb floor e.second ≡ b → lock_above floor (lock_at s at) ≡ b
-  told q = ap (λ (x : Raw). ltb floor x.second) (sym r.raw) ∙ q
-
-  pub lock-below : e.second ≤ floor → lock_above floor (lock_at s at) ≡ false
-  lock-below h = told (le-ltb floor e.second h)
-
-  pub lock-over : floor < e.second → lock_above floor (lock_at s at) ≡ true
-  lock-over h = told (lt-ltb floor e.second h)
 
 -- ---- the ways out of `entries_agree`
 
@@ -162,30 +148,25 @@ part lt n l y x h e = take_at y (drop n l) n (ap length e ∙ sorted-length lt x
 part-few : (lt : ℕ → ℕ → Bool) (n : ℕ) (l y x : List ℕ) → length x ≡ n → y ≡ sorted lt x → n ≤ length (y ++ drop n l)
 part-few lt n l y x h e = omega (arith, ap length e, sorted-length lt x, length-append y (drop n l))
 
-module _ {s : Bytes} {i : Sections} {ds ls ws : List ℕ} (v : SectionsAt New s i ds ls ws) where
+pub judged-none : (s : Bytes) → is_good row_form (image s) ≡ false → is_sound (image s) ≡ false
+judged-none s = not_sound (image s)
+
+module _ {s : Bytes} {i : Sections} {ds ls ws : List ℕ} (v : SectionsAre New s i ds ls ws) where
   abbrev n : ℕ
   n = i.locks + i.writes
-
-  pub judged-none : (ps : List ℕ) → length ls + length ws ≤ length ps → not i.ok ≡ true → Judged s i ds ps
-  judged-none ps f h = record {
-    bad = λ g. not_sound (image s) (v.bad g);
-    good = λ g. absurd (false≢true (sym g ∙ h));
-    few_rows = v.few_defaults;
-    few_lines = omega (arith, v.few_locks, v.few_writes);
-  }
 
   length_is : length (take i.locks ls ++ take i.writes ws) ≡ n
   length_is = omega (arith, length-append (take i.locks ls) (take i.writes ws), length-take-le i.locks ls v.few_locks, length-take-le i.writes ws v.few_writes)
 
-  module _ (ok : not i.ok ≡ false) {r : Bool} {ds' ps' : List ℕ} (a : Alike s i (take i.defaults ds) (take i.locks ls) (take i.writes ws) r ds' ps') where
-    pub judged-bad : (xs ys : List ℕ) → not r ≡ true → Judged s no_sections xs ys
-    judged-bad xs ys h = record { bad = λ g. fails a.is h; good = λ g. absurd (true≢false g); few_rows = omega arith; few_lines = omega arith }
+  module _ {r : Bool} {ds' ps' : List ℕ} (a : Alike s i (take i.defaults ds) (take i.locks ls) (take i.writes ws) r ds' ps') where
+    pub judged-bad : not r ≡ true → is_sound (image s) ≡ false
+    judged-bad h = fails a.is h
 
-    pub judged-good : (ps : List ℕ) → not r ≡ false → Judged s i (ds' ++ drop i.defaults ds) (ps' ++ drop n ps)
+    pub judged-good : (ps : List ℕ) → not r ≡ false → Sound s i (ds' ++ drop i.defaults ds) (ps' ++ drop n ps)
     unfolding box_of
     judged-good ps h =
         let t : r ≡ true = not-false r h in
-        let w = v.good ok in
+        let w = v.listed in
         let d = take i.defaults ds in
         let l = take i.locks ls in
         let m = take i.writes ws in
@@ -193,8 +174,7 @@ module _ {s : Bytes} {i : Sections} {ds ls ws : List ℕ} (v : SectionsAt New s 
         let img' = image_of s w.table i.floor d l m in
         let both = sym (sym t ∙ a.is ∙ ap is_sound w.is) in
         record {
-          bad = λ g. absurd (false≢true (sym ok ∙ g));
-          good = λ g. record {
+          in_place = record {
             img = image_of s w.table i.floor d l m;
             is = w.is;
             good = and_left _ _ (and_left _ _ both);

@@ -1,7 +1,8 @@
 -- An image judged whole, and of a sound one its entries in the order of the box.
 -- Assumes nothing.
-use Rattle.std.specs.Prelude.{◌≡◌, Bool, true, false, not, ◌&&◌, List, ◌++◌, map, ℕ, ◌+◌, ◌≤◌, length, take}
-use Rattle.std.proofs.Math.Option.{Option, none, some}
+use Rattle.std.specs.Prelude.{◌≡◌, Bool, true, false, ◌&&◌, List, ◌++◌, map, ℕ, ◌+◌, ◌≤◌, length, take, Option, Some, None}
+use Rattle.std.proofs.Math.Option.{none, some}
+use Rattle.std.proofs.Math.Option as maths
 use Rattle.forms.specs.Bytes.{Bytes}
 use Rattle.rules.specs.declared.room.Load.{Load}
 use Rattle.rules.specs.Room.{load_of}
@@ -20,7 +21,7 @@ use Rattle.images.specs.Sections.{row_at, line_at}
 -- ---- the entries held against each other
 
 -- bytes that are an image that restore lets in, if it has room
-abbrev pub is_sound : Option Image → Bool
+abbrev pub is_sound : maths.Option Image → Bool
 is_sound none = false
 is_sound (some i) = good_image i && healthy_image i && floored_image i
 
@@ -56,8 +57,11 @@ pub record InPlace (s : Bytes) (i : Sections) (ds ps : List ℕ) : Type 0 where
   pub rows_are : map (row_at s) ds ≡ (box_of img).defaults
   pub lines_are : map (line_at s i.writesat) ps ≡ (box_of img).lines
 
-pub record Judged (s : Bytes) (i : Sections) (ds ps : List ℕ) : Type 0 where
-  pub bad : not i.ok ≡ true → is_sound (image s) ≡ false
-  pub good : not i.ok ≡ false → InPlace s i (take i.defaults ds) (take (i.locks + i.writes) ps)
+pub record Sound (s : Bytes) (i : Sections) (ds ps : List ℕ) : Type 0 where
+  pub in_place : InPlace s i (take i.defaults ds) (take (i.locks + i.writes) ps)
   pub few_rows : i.defaults ≤ length ds
   pub few_lines : i.locks + i.writes ≤ length ps
+
+abbrev pub Judged : Bytes → Option Sections → List ℕ → List ℕ → Type 0
+Judged s None ds ps = is_sound (image s) ≡ false
+Judged s (Some i) ds ps = Sound s i ds ps

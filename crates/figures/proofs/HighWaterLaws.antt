@@ -1,8 +1,8 @@
 -- The loop of `allocator_high_water_marks`: what it keeps is the largest among the lines passed, and at its end the marks of the box.
 -- Assumes nothing.
-use Prim.Native.Nat.{ℕ, ◌+◌, ◌-◌, ◌≤◌, ◌<◌, max}
+use Prim.Native.Nat.{ℕ, ◌+◌, ◌-◌, ◌≤◌, ◌<◌}
 use native.Mathlib.Omega.{arith}
-use mathlib.Core.Path.{◌≡◌, refl, ap, ap₂, ◌∙◌}
+use mathlib.Core.Path.{◌≡◌, refl, ap, ◌∙◌}
 use mathlib.Core.List.{List, ◌∷◌}
 use lib.ListN.{length, get_or, take}
 use Rattle.seqs.specs.Tables.{shown}
@@ -11,29 +11,14 @@ use Rattle.forms.specs.Bytes.{Bytes}
 use Rattle.rules.specs.Box as box
 use Rattle.rules.specs.Figures.{largest, marks}
 use Rattle.rules.specs.declared.figures.Marks.{Marks}
-use Rattle.store.specs.View.{place_of, eight_at, line_of, row_in, box_of, no_slot}
+use Rattle.store.specs.View.{place_of, line_of, row_in, box_of, no_slot}
 use Rattle.store.specs.Made.{Built}
 use Rattle.store.proofs.BuiltLaws.{slot-in}
 use Rattle.store.proofs.ViewLaws.{past-numbers}
-use Rattle.store.specs.declared.table.LockSlot.{LockSlot}
-use Rattle.store.specs.declared.table.RecordSlot.{RecordSlot}
-use Rattle.store.specs.declared.table.Line.TheVariants.{Standing, Finished}
 use Rattle.store.specs.declared.table.Slot.{Slot}
 use Rattle.store.specs.declared.table.Store.{Store}
 use Rattle.figures.specs.Walks.{add_mark, line_marks}
 use Rattle.figures.proofs.DefaultFigureLaws.{stored-starts}
-
--- ---- one line more
-
-module _ (area : Bytes) (s : Slot) (m : Marks) {a b : ℕ} (first : a ≡ eight_at area (place_of s + s.len)) (start : b ≡ eight_at area (place_of s + s.len + 8)) where
-  pub mark-lock : {l : LockSlot} {t u : ℕ} → s.line ≡ Standing l → u ≡ max b m.stamp → t ≡ max a m.txn → record { txn = t; stamp = u } ≡ add_mark (line_of area s) m
-  mark-lock e p q = rw (p, q, first, start, e)
-
-  pub mark-record : {w : RecordSlot} {u v : ℕ} → s.line ≡ Finished w → u ≡ max b m.stamp → v ≡ max a u → record { txn = m.txn; stamp = v } ≡ add_mark (line_of area s) m
-  mark-record {v = v} e p q =
-      let h : m.txn ≡ max 0 m.txn = omega arith in
-      let g : v ≡ max (max (eight_at area (place_of s + s.len)) (eight_at area (place_of s + s.len + 8))) m.stamp = omega arith in
-      rw e (ap₂ (λ (t u : ℕ). record { txn = t; stamp = u }) h g)
 
 -- ---- the loop
 

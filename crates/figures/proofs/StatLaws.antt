@@ -3,13 +3,12 @@
 use Prim.Native.Nat.{ℕ, ◌+◌, ◌-◌, ◌≤◌, ◌<◌}
 use native.Mathlib.Omega.{arith}
 use mathlib.Core.Path.{◌≡◌, refl, sym, ap, ap₂, ◌∙◌, subst}
-use mathlib.Core.Bool.{Bool}
 use mathlib.Core.List.{List, ◌∷◌}
 use lib.ListN.{length, get_or, drop, take, length-drop}
 use Rattle.seqs.specs.Tables.{shown}
 use Rattle.seqs.proofs.Tables.{shown-length}
 use Rattle.seqs.proofs.Downs.{Down, down-start, down-more, down-end}
-use Rattle.forms.specs.Bytes.{Bytes, bytes_at, eq_bytes}
+use Rattle.forms.specs.Bytes.{Bytes}
 use Rattle.rules.specs.declared.records.Kind.{Kind}
 use Rattle.rules.specs.declared.records.Kind.TheVariants.{Put, Delete, Rollback}
 use Rattle.rules.specs.declared.room.Load.{Load}
@@ -20,19 +19,14 @@ use Rattle.rules.specs.Room.{load_of}
 use Rattle.rules.specs.Figures.{figures, stats}
 use Rattle.laws.proofs.Sorted.{fewer-drop, ordered-fewer}
 use Rattle.laws.proofs.BoxOrder.{order-lines}
-use Rattle.store.specs.View.{place_of, key_of, line_in, line_of, row_in, box_of, no_slot}
+use Rattle.store.specs.View.{line_of, row_in, box_of, no_slot}
 use Rattle.store.specs.Made.{Built}
 use Rattle.store.proofs.BuiltLaws.{slot-in}
-use Rattle.store.specs.declared.table.Line.{Line}
-use Rattle.store.specs.declared.table.Line.TheVariants as slot
-use Rattle.store.specs.declared.table.LockSlot.{LockSlot}
-use Rattle.store.specs.declared.table.RecordSlot.{RecordSlot}
 use Rattle.store.specs.declared.table.Slot.{Slot}
 use Rattle.store.specs.declared.table.Store.{Store}
 use Rattle.figures.specs.declared.runs.Run.{Run}
-use Rattle.figures.specs.declared.runs.Added.{Added}
 use Rattle.figures.specs.declared.runs.Runs.{Runs}
-use Rattle.figures.specs.Walks.{no_run, ended, Few, next_run, if_row, rows_in, records_in, added_by, Sight, add_line, key_at, run_of, sight_of, sight_in, NextLine, LineCounted}
+use Rattle.figures.specs.Walks.{no_run, ended, Few, if_row, rows_in, records_in, Sight, add_line, key_at, run_of, sight_of, sight_in, NextLine, LineCounted}
 use Rattle.figures.proofs.RunLaws.{run-figures, run-few}
 use Rattle.figures.proofs.DefaultFigureLaws.{record-keys, stored-keys}
 
@@ -47,26 +41,6 @@ record-one : (x : box.Line) → records_in x ≤ 1
 record-one (box.Standing l) = omega arith
 record-one (box.Finished w) = omega arith
 
-pub added-lock : (l : LockSlot) {n : ℕ} {x : Line} → x ≡ slot.Standing l → n ≡ if_row l.kind → record { rows = n; records = 0 } ≡ added_by x
-added-lock l e o = rw (o, e)
-
-pub added-record : (w : RecordSlot) {n : ℕ} {x : Line} → x ≡ slot.Finished w → n ≡ if_row w.kind → record { rows = n; records = 1 } ≡ added_by x
-added-record w e o = rw (o, e)
-
-rows-added : (area : Bytes) (at : ℕ) (x : Line) → (added_by x).rows ≡ rows_in (line_in area at x)
-rows-added area at (slot.Standing l) = refl
-rows-added area at (slot.Finished w) = refl
-
-records-added : (area : Bytes) (at : ℕ) (x : Line) → (added_by x).records ≡ records_in (line_in area at x)
-records-added area at (slot.Standing l) = refl
-records-added area at (slot.Finished w) = refl
-
-pub line-counted : {area : Bytes} {seen : Runs} {s : Slot} (v : NextLine area seen s) {t : Bool} {at : ℕ} {n : Added} {a b : Run} → at ≡ place_of s
-    → t ≡ eq_bytes (bytes_at area seen.at seen.len) (key_of area s) → n ≡ added_by s.line → a ≡ next_run t n.rows seen.rows → b ≡ next_run t n.records seen.records
-    → LineCounted area seen s (record { at = at; len = s.len; rows = a; records = b })
-line-counted {area} {seen} {s} v z h o p q =
-    record { is = rw (p, q, o, h, z, rows-added area (place_of s + s.len) s.line, records-added area (place_of s + s.len) s.line); within = omega (arith, z, v.key_in) }
-
 cons : (e : box.KeyLine) (es : List box.KeyLine) → sight_of (e ∷ es) ≡ add_line e (sight_of es)
 unfolding key_at run_of
 cons e es = refl
@@ -78,10 +52,9 @@ pub record LinesPassed (area : Bytes) (slots : List Slot) (n i : ℕ) (seen : Ru
   pub within : seen.at + seen.len ≤ length area
 
 module _ {st : Store} {area : Bytes} (m : Built st area) where
-  pub lines_start : {r : Run} → r ≡ no_run → LinesPassed area st.lines st.load.lines st.load.lines (record { at = 0; len = 0; rows = r; records = r })
+  pub lines_start : {r q : Run} → r ≡ no_run → q ≡ no_run → LinesPassed area st.lines st.load.lines st.load.lines (record { at = 0; len = 0; rows = r; records = q })
   unfolding key_at run_of
-  lines_start e = subst (λ (r : Run). LinesPassed area st.lines st.load.lines st.load.lines (record { at = 0; len = 0; rows = r; records = r })) (sym e)
-      (record { down = down-start m.lines (line_of area) sight_of refl; within = omega arith })
+  lines_start e f = rw (e, f) (record { down = down-start m.lines (line_of area) sight_of refl; within = omega arith })
 
   module _ {i : ℕ} {seen : Runs} (w : LinesPassed area st.lines st.load.lines i seen) where
     few : (n : box.Line → ℕ) → ((x : box.Line) → n x ≤ 1) → {r : Run} → r ≡ run_of n (drop i (box_of st area).lines) → Few r.long r.closed

@@ -6,7 +6,6 @@ ghost use Rattle.store.specs.View.{place_of, box_of, line_of};
 ghost use Rattle.store.specs.Made.{Made};
 ghost use Rattle.figures.specs.Walks.{add_mark};
 
-use forms::larger;
 use rules::Marks;
 use store::views::eight_at;
 use store::{AREA, Line, Slot, Store, place_of};
@@ -19,38 +18,26 @@ fn mark_line(m: Marks, s: Slot, area: &[u8]) -> Marks
     let at = place_of(s) + s.len as usize;
     let first = eight_at(area, at);
     let start = eight_at(area, at + 8);
-    let stamp = larger(start, m.stamp);
-    let line = s.line;
-    match line {
-        Line::Standing(_) => {
-            let txn = larger(first, m.txn);
-            Marks {
-                txn: txn,
-                stamp: stamp,
-            }
-        }
-        Line::Finished(_) => {
-            let last = larger(first, stamp);
-            Marks {
-                txn: m.txn,
-                stamp: last,
-            }
-        }
+    let stamp = start.max(m.stamp);
+    match s.line {
+        Line::Standing(_) => Marks {
+            txn: first.max(m.txn),
+            stamp,
+        },
+        Line::Finished(_) => Marks {
+            stamp: first.max(stamp),
+            ..m
+        },
     }
 }
 
-pub fn allocator_high_water_marks(store: Store, area: &[u8; AREA]) -> Marks
-    requires { Made store area.now }
-    ensures { result ≡ marks (box_of store area.now) }
+pub fn allocator_high_water_marks(store: &Store, area: &[u8; AREA]) -> Marks
+    requires { Made store.now area.now }
+    ensures { result ≡ marks (box_of store.now area.now) }
 {
-    let lines = store.lines;
-    let load = store.load;
     let mut m = Marks { txn: 0, stamp: 0 };
-    let mut i = load.lines;
-    while 0 < i {
-        i -= 1;
-        let s = lines[i];
-        m = mark_line(m, s, area);
+    for i in (0..store.load.lines).rev() {
+        m = mark_line(m, store.lines[i], area);
     }
     m
 }

@@ -17,8 +17,7 @@ fn if_row(kind: Kind) -> usize
 {
     match kind {
         Kind::Put => 1,
-        Kind::Delete => 0,
-        Kind::Rollback => 0,
+        Kind::Delete | Kind::Rollback => 0,
     }
 }
 
@@ -27,22 +26,14 @@ fn added_by(line: Line) -> Added
     ensures { (result ≡ added_by line) × ((result.rows ≤ 1) × (result.records ≤ 1)) }
 {
     match line {
-        Line::Standing(l) => {
-            let kind = l.kind;
-            let row = if_row(kind);
-            Added {
-                rows: row,
-                records: 0,
-            }
-        }
-        Line::Finished(w) => {
-            let kind = w.kind;
-            let row = if_row(kind);
-            Added {
-                rows: row,
-                records: 1,
-            }
-        }
+        Line::Standing(l) => Added {
+            rows: if_row(l.kind),
+            records: 0,
+        },
+        Line::Finished(w) => Added {
+            rows: if_row(w.kind),
+            records: 1,
+        },
     }
 }
 
@@ -51,55 +42,37 @@ fn one_line(seen: Runs, s: Slot, area: &[u8]) -> Runs
     requires { NextLine area.now seen s }
     ensures { LineCounted area.now seen s result }
 {
-    let a = seen.at;
-    let e = a + seen.len;
     let at = place_of(s);
     let len = s.len as usize;
-    let f = at + len;
-    let same = forms::same(&area[a..e], &area[at..f]);
-    let old_rows = seen.rows;
-    let old_records = seen.records;
-    let line = s.line;
-    let more = added_by(line);
-    let rows = next_run(old_rows, same, more.rows);
-    let records = next_run(old_records, same, more.records);
+    let same = forms::same(&area[seen.at..seen.at + seen.len], &area[at..at + len]);
+    let more = added_by(s.line);
     Runs {
-        at: at,
-        len: len,
-        rows: rows,
-        records: records,
+        at,
+        len,
+        rows: next_run(seen.rows, same, more.rows),
+        records: next_run(seen.records, same, more.records),
     }
 }
 
 // The table is walked from the last line to the first: equal keys stand together there.
-pub fn stats(store: Store, area: &[u8; AREA]) -> Stats
-    requires { Made store area.now }
-    ensures { result ≡ stats (box_of store area.now) }
+pub fn stats(store: &Store, area: &[u8; AREA]) -> Stats
+    requires { Made store.now area.now }
+    ensures { result ≡ stats (box_of store.now area.now) }
 {
-    let lines = store.lines;
-    let load = store.load;
-    let none = no_run();
     let mut seen = Runs {
         at: 0,
         len: 0,
-        rows: none,
-        records: none,
+        rows: no_run(),
+        records: no_run(),
     };
-    let mut i = load.lines;
-    while 0 < i {
-        i -= 1;
-        let s = lines[i];
-        seen = one_line(seen, s, area);
+    for i in (0..store.load.lines).rev() {
+        seen = one_line(seen, store.lines[i], area);
     }
-    let rows = seen.rows;
-    let row_figures = rows.closed;
-    let of_rows = close(rows.long, row_figures);
-    let records = seen.records;
-    let record_figures = records.closed;
-    let of_records = close(records.long, record_figures);
+    let of_rows = close(seen.rows.long, seen.rows.closed);
+    let of_records = close(seen.records.long, seen.records.closed);
     Stats {
         defaults: of_rows,
-        locks: load.locks,
+        locks: store.load.locks,
         records: of_records,
     }
 }

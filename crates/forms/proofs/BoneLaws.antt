@@ -11,12 +11,11 @@ use lib.Seq.{get_or-take, get_or-drop, length-take-le}
 use lib.Pow.{shr-shr, shr_lt}
 use lib.Dec.{leb, eqb}
 use Rattle.seqs.proofs.Tests.{and_right}
-use borrow.Author.Tests.{le-leb, lt-leb, leb-true, not-true, not-false, eq-eqb, ne_eqb, eqb-true, eqb-false}
+use borrow.Author.Tests.{le-leb, lt-leb, leb-true, eq-eqb, ne_eqb, eqb-true, eqb-false}
 use Rattle.forms.specs.Bytes.{Bytes, bytes_at}
 use Rattle.forms.specs.Readers.{Read, Reader, read_on, ◌>>=◌, only, when, byte, stretch, up_to, ended, whole, is_some}
 use Rattle.forms.specs.Row.{Row, fields, old_row_form, mask_bytes, bone, none_set, spares_zero, Bones, bones, row_from, row_form, or_no_bones, bones_of}
-use Rattle.forms.specs.Places.{found, rest_of, RestAt, bones_at, BonesAt, no_mask, RowBones}
-use Rattle.forms.specs.declared.row.Rest.{Rest}
+use Rattle.forms.specs.Places.{found, rest_of, IsRest, bones_at, IsMask, AreBones}
 use Rattle.forms.specs.declared.row.Mask.{Mask}
 use Rattle.forms.proofs.ReaderLaws.{after, byte-none, byte_at, stretch-good, stretch-short, up_to-none, up_to-good, ended_at}
 
@@ -63,9 +62,9 @@ module _ (s : Bytes) (at n : ℕ) (within : at + mask_bytes n ≤ length s) wher
   mask-length : length (bytes_at s at (mask_bytes n)) ≡ mask_bytes n
   mask-length = length-take-le (mask_bytes n) (drop at s) (subst (λ (k : ℕ). mask_bytes n ≤ k) (sym (length-drop at s)) (omega (arith, within)))
 
-  pub spares-filled : n % 8 ≡ 0 → true ≡ spares_zero n (bytes_at s at (mask_bytes n))
+  pub spares-filled : n % 8 ≡ 0 → eqb (n % 8) 0 ≡ spares_zero n (bytes_at s at (mask_bytes n))
   unfolding spares_zero mask_bytes none_set
-  spares-filled h = let e : 8 * ((n + 7) / 8) - n ≡ 0 = omega (arith, h) in sym (ap (λ (k : ℕ). none_set (bytes_at s at (mask_bytes n)) n k) (ap (λ (k : ℕ). 8 * k - n) mask-length ∙ e))
+  spares-filled h = eq-eqb (n % 8) 0 h ∙ (let e : 8 * ((n + 7) / 8) - n ≡ 0 = omega (arith, h) in sym (ap (λ (k : ℕ). none_set (bytes_at s at (mask_bytes n)) n k) (ap (λ (k : ℕ). 8 * k - n) mask-length ∙ e)))
 
   pub spares-last : (n % 8 ≡ 0 → ⊥) → get_or s (at + n / 8) 0 < 256 → eqb (get_or s (at + n / 8) 0 / 2 ^ (n % 8)) 0 ≡ spares_zero n (bytes_at s at (mask_bytes n))
   unfolding spares_zero mask_bytes
@@ -89,44 +88,39 @@ module _ (s : Bytes) (at n : ℕ) (within : at + mask_bytes n ≤ length s) wher
 abbrev mask_from : ℕ → Reader Bones
 mask_from n = stretch (mask_bytes n) >>= (λ mask. only (spares_zero n mask) (record { count = n; mask = mask }))
 
-no-bones : {s : Bytes} {o : Option (Read Bones)} {m : Mask} → m ≡ no_mask → o ≡ none → BonesAt s o m
-unfolding mask_bytes
-no-bones {s} {o} z e = subst (λ (m : Mask). BonesAt s o m) (sym z) (record { is = e; size = refl; within = omega arith })
-
-module _ (s : Bytes) (at : ℕ) where
-  pub bones-none : {z : Mask} → z ≡ no_mask → length s ≤ at → BonesAt s (bones (drop at s)) z
-  unfolding bones ◌>>=◌ read_on
-  bones-none e h = no-bones e (after mask_from (up_to-none 255 byte (drop at s) (byte-none s at h)))
+pub bones-none : (s : Bytes) (at : ℕ) → length s ≤ at → bones (drop at s) ≡ none
+unfolding bones ◌>>=◌ read_on
+bones-none s at h = after mask_from (up_to-none 255 byte (drop at s) (byte-none s at h))
 
 -- the mask lies in the bytes
 pub mask-in : (total at n : ℕ) → at < total → (n + 7) / 8 ≤ total - at - 1 → at + 1 + mask_bytes n ≤ total
 unfolding mask_bytes
 mask-in total at n l h = omega arith
 
-module _ (s : Bytes) (at : ℕ) (l : at < length s) (b : get_or s at 0 ≤ 255) where
-  bones-mask : bones (drop at s) ≡ mask_from (get_or s at 0) (drop (at + 1) s)
+module _ (s : Bytes) (at n : ℕ) (l : at < length s) (e : n ≡ get_or s at 0) (b : n ≤ 255) where
+  bones-mask : bones (drop at s) ≡ mask_from (n) (drop (at + 1) s)
   unfolding bones ◌>>=◌ read_on
-  bones-mask = after mask_from (up_to-good 255 byte (drop at s) (byte_at s at l) b)
+  bones-mask = after mask_from (up_to-good 255 byte (drop at s) (byte_at s at l ∙ ap (λ (x : ℕ). some (record { got = x; rest = drop (at + 1) s })) (sym e)) b)
 
-  pub bones-short : {z : Mask} → z ≡ no_mask → length s - at - 1 < (get_or s at 0 + 7) / 8 → BonesAt s (bones (drop at s)) z
+  pub bones-short : length s - at - 1 < (n + 7) / 8 → bones (drop at s) ≡ none
   unfolding ◌>>=◌ read_on mask_bytes
-  bones-short e h = no-bones e (bones-mask ∙ after (λ mask. only (spares_zero (get_or s at 0) mask) (record { count = get_or s at 0; mask = mask })) (stretch-short s (at + 1) (mask_bytes (get_or s at 0)) (omega (arith, h))))
+  bones-short h = bones-mask ∙ after (λ mask. only (spares_zero n mask) (record { count = n; mask = mask })) (stretch-short s (at + 1) (mask_bytes n) (omega (arith, h)))
 
-  module _ (room : (get_or s at 0 + 7) / 8 ≤ length s - at - 1) where
-    bones-only : bones (drop at s) ≡ found s (spares_zero (get_or s at 0) (bytes_at s (at + 1) (mask_bytes (get_or s at 0)))) (record { count = get_or s at 0; mask = bytes_at s (at + 1) (mask_bytes (get_or s at 0)) }) (at + 1 + (get_or s at 0 + 7) / 8)
+  module _ (room : (n + 7) / 8 ≤ length s - at - 1) where
+    bones-only : bones (drop at s) ≡ found s (spares_zero n (bytes_at s (at + 1) (mask_bytes n))) (record { count = n; mask = bytes_at s (at + 1) (mask_bytes n) }) (at + 1 + (n + 7) / 8)
     unfolding ◌>>=◌ read_on only mask_bytes
-    bones-only = bones-mask ∙ after (λ mask. only (spares_zero (get_or s at 0) mask) (record { count = get_or s at 0; mask = mask })) (stretch-good s (at + 1) (mask_bytes (get_or s at 0)) (omega (arith, room)))
+    bones-only = bones-mask ∙ after (λ mask. only (spares_zero n mask) (record { count = n; mask = mask })) (stretch-good s (at + 1) (mask_bytes n) (omega (arith, room)))
 
-    module _ {t : Bool} (spare : t ≡ spares_zero (get_or s at 0) (bytes_at s (at + 1) (mask_bytes (get_or s at 0)))) where
-      bones-found : (b : Bool) → t ≡ b → bones (drop at s) ≡ found s b (record { count = get_or s at 0; mask = bytes_at s (at + 1) (mask_bytes (get_or s at 0)) }) (at + 1 + (get_or s at 0 + 7) / 8)
-      bones-found b p = bones-only ∙ ap (λ (b : Bool). found s b (record { count = get_or s at 0; mask = bytes_at s (at + 1) (mask_bytes (get_or s at 0)) }) (at + 1 + (get_or s at 0 + 7) / 8)) (sym spare ∙ p)
+    module _ {t : Bool} (spare : t ≡ spares_zero n (bytes_at s (at + 1) (mask_bytes n))) where
+      bones-found : (b : Bool) → t ≡ b → bones (drop at s) ≡ found s b (record { count = n; mask = bytes_at s (at + 1) (mask_bytes n) }) (at + 1 + (n + 7) / 8)
+      bones-found b p = bones-only ∙ ap (λ (b : Bool). found s b (record { count = n; mask = bytes_at s (at + 1) (mask_bytes n) }) (at + 1 + (n + 7) / 8)) (sym spare ∙ p)
 
-      pub bones-spare : {z : Mask} → z ≡ no_mask → not t ≡ true → BonesAt s (bones (drop at s)) z
-      bones-spare e n = no-bones e (bones-found false (not-true t n))
+      pub bones-spare : t ≡ false → bones (drop at s) ≡ none
+      bones-spare n = bones-found false n
 
-      pub bones-good : not t ≡ false → BonesAt s (bones (drop at s)) (record { ok = true; count = get_or s at 0; at = at + 1; end = at + 1 + (get_or s at 0 + 7) / 8 })
+      pub bones-good : t ≡ true → IsMask s at (record { count = n; at = at + 1; end = at + 1 + (n + 7) / 8 })
       unfolding mask_bytes
-      bones-good n = record { is = bones-found true (not-false t n); size = refl; within = omega (arith, room, l) }
+      bones-good n = record { read = record { is = bones-found true n; within = omega (arith, room, l) }; size = refl }
 
 -- ---- `bones_in`
 
@@ -142,60 +136,43 @@ row_from_lem s = go (fields s)
     go none = refl
     go (some q) = refl
 
-no_row : {s : Bytes} {m : Mask} → m ≡ no_mask → false ≡ row_form s → RowBones s m
-no_row {s} z e = subst (λ (m : Mask). RowBones s m) (sym z) (record { form = e; is = λ p. absurd (false≢true p); size = λ p. absurd (false≢true p) })
-
 module _ (s : Bytes) where
-  pub row-tiny : {z : Mask} → z ≡ no_mask → length s < 3 → RowBones s z
+  pub row_tiny : length s < 3 → row_form s ≡ false
   unfolding row_form
-  row-tiny e h = no_row e (simp (lt-leb _ _ h))
+  row_tiny h = simp (lt-leb _ _ h)
 
-  pub row-long : {z : Mask} → z ≡ no_mask → 255 < length s → RowBones s z
+  pub row_long : 255 < length s → row_form s ≡ false
   unfolding row_form
-  row-long e h = let l : 3 ≤ length s = omega arith in no_row e (simp (le-leb _ _ l, lt-leb _ _ h))
+  row_long h = let l : 3 ≤ length s = omega arith in simp (le-leb _ _ l, lt-leb _ _ h)
 
--- what was found, if nothing follows
-ends : {A : Type 0} (s : Bytes) (ok : Bool) (x : A) (at : ℕ) → at ≤ length s → ended (found s ok x at) ≡ when (ok && eqb at (length s)) x
-unfolding ended
-ends s true x at h = ended_at x s at h
-ends s false x at h = refl
-
-module _ (s : Bytes) (l : 3 ≤ length s) (h : length s ≤ 255) {f : Rest} (v : RestAt s (rest_of (fields s)) f) where
+module _ (s : Bytes) (l : 3 ≤ length s) (h : length s ≤ 255) where
   row_is : {o : Option Bones} → whole row_from s ≡ o → row_form s ≡ is_some o
   unfolding row_form
   row_is e = simp (le-leb _ _ l, le-leb _ _ h) (ap is_some e)
 
-  row-after : (b : Bool) → f.ok ≡ b → whole row_from s ≡ ended (bones_after (when b (drop f.at s)))
+  row-after : {o : Option Bytes} → rest_of (fields s) ≡ o → whole row_from s ≡ ended (bones_after o)
   unfolding whole
-  row-after b p = ap ended (row_from_lem s ∙ ap bones_after (v.is ∙ ap (λ (b : Bool). when b (drop f.at s)) p))
+  row-after e = ap ended (row_from_lem s ∙ ap bones_after e)
 
-  pub row-fields : {z : Mask} → z ≡ no_mask → not f.ok ≡ true → RowBones s z
+  pub row_fields : rest_of (fields s) ≡ none → row_form s ≡ false
   unfolding ended
-  row-fields e n = no_row e (sym (row_is (row-after false (not-true f.ok n))))
+  row_fields e = row_is (row-after e)
 
-  module _ (good : not f.ok ≡ false) {m : Mask} (u : BonesAt s (bones (drop f.at s)) m) where
-    row_ends : (b : Bool) → eqb m.end (length s) ≡ b → whole row_from s ≡ when (m.ok && b) (bones_at s m)
-    row_ends b p =
-        row-after true (not-false f.ok good) ∙ ap ended u.is ∙ ends s m.ok (bones_at s m) m.end u.within
-        ∙ ap (λ (b : Bool). when (m.ok && b) (bones_at s m)) p
+  module _ {at : ℕ} (f : IsRest s (rest_of (fields s)) at) where
+    pub row_bare : bones (drop at s) ≡ none → row_form s ≡ false
+    unfolding ended
+    row_bare e = row_is (row-after f.is ∙ ap ended e)
 
-    pub row_more : {z : Mask} → z ≡ no_mask → (m.end ≡ length s → ⊥) → RowBones s z
-    row_more e n = no_row e (sym (row_is (row_ends false (ne_eqb _ _ n)) ∙ go m.ok))
-      where
-        go : (b : Bool) → is_some (when (b && false) (bones_at s m)) ≡ false
-        go true = refl
-        go false = refl
+    module _ {m : Mask} (u : IsMask s at m) where
+      row_ends : (b : Bool) → eqb m.end (length s) ≡ b → whole row_from s ≡ when b (bones_at s m)
+      row_ends b p = row-after f.is ∙ ap ended u.read.is ∙ ended_at (bones_at s m) s m.end u.read.within ∙ ap (λ (b : Bool). when b (bones_at s m)) p
 
-    pub row-bones : m.end ≡ length s → RowBones s m
-    unfolding bones_of
-    row-bones e = record { form = sym (row_is whole_is ∙ go m.ok); is = λ p. ap or_no_bones (whole_is ∙ ap (λ (b : Bool). when (b && true) (bones_at s m)) p); size = λ p. sym u.size ∙ e }
-      where
-        whole_is : whole row_from s ≡ when (m.ok && true) (bones_at s m)
-        whole_is = row_ends true (eq-eqb _ _ e)
+      pub row_more : (m.end ≡ length s → ⊥) → row_form s ≡ false
+      row_more n = row_is (row_ends false (ne_eqb _ _ n))
 
-        go : (b : Bool) → is_some (when (b && true) (bones_at s m)) ≡ b
-        go true = refl
-        go false = refl
+      pub row_bones : m.end ≡ length s → AreBones s m
+      unfolding bones_of
+      row_bones e = let whole_is = row_ends true (eq-eqb _ _ e) in record { form = row_is whole_is; is = ap or_no_bones whole_is; size = sym u.size ∙ e }
 
 -- ---- what holds of every row's bones
 

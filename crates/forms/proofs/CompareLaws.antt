@@ -1,66 +1,50 @@
--- The loop of `compare`: up to the place the two lists agree, and what each way out says of their order.
+-- The library's order and equality of slices are those of this crate's definitions.
 -- Assumes nothing.
-use mathlib.Core.Path.{◌≡◌, refl, sym, ◌∙◌}
-use mathlib.Core.List.{List}
-use Prim.Native.Nat.{ℕ, suc, ◌+◌, ◌≤◌, ◌<◌}
-use native.Mathlib.Numerals.{add-one}
+use mathlib.Core.Path.{◌≡◌, refl, sym, ◌∙◌, ap}
+use mathlib.Core.Bool.{Bool, true, false}
+use mathlib.Core.List.{[], ◌∷◌}
+use Prim.Native.Nat.{ℕ}
 use native.Mathlib.Omega.{arith}
-use lib.Dec.{ltb}
-use lib.ListN.{length, get_or, drop, drop_of_length-le}
-use lib.Seq.{drop-cons}
-use borrow.Author.Tests.{lt-ltb, le-ltb}
-use Rattle.forms.specs.declared.key.Order.TheVariants.{Less, Equal, Greater}
-use Rattle.forms.specs.Bytes.{cmp, pick}
+use lib.Dec.{ltb, eqb}
+use borrow.Author.Tests.{ltb-true, ltb-false, eq-eqb, ne_eqb}
+use Rattle.std.specs.declared.cmp.Ordering.{Ordering}
+use Rattle.std.specs.declared.cmp.Ordering.TheVariants.{Less, Equal, Greater}
+use Rattle.std.specs.Ordering.{nat_cmp, ordering_then, is_lt}
+use Rattle.std.specs.Cmp.Lexicographic.{slice_cmp}
+use Rattle.std.specs.Str.{bytes_eq}
+use Rattle.std.proofs.lemmas.Slice.Eq.{bytes_eq-Decides}
+use Rattle.forms.specs.Bytes.{Bytes, cmp, pick, is_less, eq_bytes, lt_bytes}
+use Rattle.forms.proofs.Orders.{eq_bytes-refl, eq_bytes-true}
 
--- `a` and `b` are the same up to `i`
-pub record Agree (a b : List ℕ) (i : ℕ) : Type 0 where
-  pub left : i ≤ length a
-  pub right : i ≤ length b
-  pub same : cmp a b ≡ cmp (drop i a) (drop i b)
+step : (x y : ℕ) (o : Ordering) → ordering_then (nat_cmp x y) o ≡ pick (ltb x y) (ltb y x) o
+step x y o = go (ltb x y) refl (ltb y x) refl
+  where
+    go : (p : Bool) → ltb x y ≡ p → (q : Bool) → ltb y x ≡ q → ordering_then (nat_cmp x y) o ≡ pick (ltb x y) (ltb y x) o
+    go true a q b = simp a
+    go false a true b = let n : eqb x y ≡ false = ne_eqb x y (λ e. omega (arith, ltb-true y x b)) in simp (a, b, n)
+    go false a false b = let e : eqb x y ≡ true = eq-eqb x y (omega (arith, ltb-false x y a, ltb-false y x b)) in simp (a, b, e)
 
-module _ {a b : List ℕ} {i : ℕ} (v : Agree a b i) where
-  step : i < length a → i < length b → cmp a b ≡ pick (ltb (get_or a i 0) (get_or b i 0)) (ltb (get_or b i 0) (get_or a i 0)) (cmp (drop (suc i) a) (drop (suc i) b))
-  unfolding cmp
-  step ha hb = v.same ∙ here
-    where
-      here : cmp (drop i a) (drop i b) ≡ pick (ltb (get_or a i 0) (get_or b i 0)) (ltb (get_or b i 0) (get_or a i 0)) (cmp (drop (suc i) a) (drop (suc i) b))
-      here = rw (drop-cons a i 0, drop-cons b i 0)
+pub cmp_is : (a b : Bytes) → slice_cmp nat_cmp a b ≡ cmp a b
+unfolding cmp
+cmp_is [] [] = refl
+cmp_is [] (y ∷ ys) = refl
+cmp_is (x ∷ xs) [] = refl
+cmp_is (x ∷ xs) (y ∷ ys) = ap (ordering_then (nat_cmp x y)) (cmp_is xs ys) ∙ step x y (cmp xs ys)
 
-  pub agree_less : i < length a → i < length b → get_or a i 0 < get_or b i 0 → Less ≡ cmp a b
-  agree_less ha hb h = sym (step ha hb ∙ simp (lt-ltb _ _ h))
+pub eq_is : (a b : Bytes) → bytes_eq a b ≡ eq_bytes a b
+eq_is a b = go (bytes_eq a b) refl (eq_bytes a b) refl
+  where
+    go : (p : Bool) → bytes_eq a b ≡ p → (q : Bool) → eq_bytes a b ≡ q → p ≡ q
+    go true e true f = refl
+    go true e false f = sym (eq_bytes-refl a) ∙ ap (eq_bytes a) ((bytes_eq-Decides a b).0 e) ∙ f
+    go false e true f = sym e ∙ (bytes_eq-Decides a b).1 (eq_bytes-true a b f)
+    go false e false f = refl
 
-  pub agree-greater : i < length a → i < length b → get_or b i 0 < get_or a i 0 → Greater ≡ cmp a b
-  agree-greater ha hb h =
-      let g : get_or b i 0 ≤ get_or a i 0 = omega arith in
-      sym (step ha hb ∙ simp (lt-ltb _ _ h, le-ltb _ _ g))
-
-  pub agree-more : i < length a → i < length b → get_or b i 0 ≤ get_or a i 0 → get_or a i 0 ≤ get_or b i 0 → Agree a b (i + 1)
-  agree-more ha hb h g = record {
-    left = omega arith;
-    right = omega arith;
-    same = step ha hb ∙ simp (le-ltb _ _ h, le-ltb _ _ g, add-one);
-  }
-
-  pub agree-right-end : i < length a → length b ≤ i → Greater ≡ cmp a b
-  unfolding cmp
-  agree-right-end ha hb = sym (v.same ∙ here)
-    where
-      here : cmp (drop i a) (drop i b) ≡ Greater
-      here = rw (drop-cons a i 0, drop_of_length-le b hb)
-
-  pub agree-left-end : length a ≤ i → i < length b → Less ≡ cmp a b
-  unfolding cmp
-  agree-left-end ha hb = sym (v.same ∙ here)
-    where
-      here : cmp (drop i a) (drop i b) ≡ Less
-      here = rw (drop_of_length-le a ha, drop-cons b i 0)
-
-  pub agree-both-ends : length a ≤ i → length b ≤ i → Equal ≡ cmp a b
-  unfolding cmp
-  agree-both-ends ha hb = sym (v.same ∙ here)
-    where
-      here : cmp (drop i a) (drop i b) ≡ Equal
-      here = rw (drop_of_length-le a ha, drop_of_length-le b hb)
-
-pub agree-start : (a b : List ℕ) → Agree a b 0
-agree-start a b = record { left = omega arith; right = omega arith; same = refl }
+pub lt_is : (a b : Bytes) → is_lt (cmp a b) ≡ lt_bytes a b
+unfolding lt_bytes
+lt_is a b = go (cmp a b)
+  where
+    go : (o : Ordering) → is_lt o ≡ is_less o
+    go Less = refl
+    go Equal = refl
+    go Greater = refl

@@ -3,24 +3,22 @@
 use Prim.Native.Nat.{ℕ, ◌-◌, ◌≤◌, ◌<◌}
 use native.Mathlib.Omega.{arith}
 use mathlib.Core.Path.{◌≡◌, refl, sym, ◌∙◌, ap, subst}
-use mathlib.Core.Bool.{Bool, true, false, not, ◌&&◌}
+use mathlib.Core.Bool.{Bool, true, false, ◌&&◌}
 use mathlib.Core.List.{List, [], ◌∷◌, map}
 use mathlib.Core.Option.{Option, none, some}
 use lib.ListN.{length, take, drop}
-use borrow.Author.Tests.{le-leb, lt-leb, not-true, not-false}
-use Rattle.seqs.specs.Tables.{shown}
+use borrow.Author.Tests.{le-leb, lt-leb}
+use Rattle.std.specs.Prelude.{Option as Maybe}
+use Rattle.arrayvec.specs.ArrayVec.{ArrayVec}
 use Rattle.forms.specs.Bytes.{Bytes, lt_bytes}
 use Rattle.forms.specs.Key.{Key}
 use Rattle.forms.specs.Readers.{Read, Reader, read_on, ◌>>=◌, when, up_to, times, section, ended, whole}
 use Rattle.forms.specs.Numbers.{number, number_of}
 use Rattle.forms.specs.Batch.{key_inside, above, ascend, if_ascend, batch_of, mutations, keys}
-use Rattle.forms.specs.Places.{NumberAt, key_at, mutation_of, entries, InForm, Decoded, no_entries}
-use Rattle.forms.specs.declared.number.Number.{Number}
+use Rattle.forms.specs.Places.{IsNumber, key_at, mutation_of, entries, AreEntries, Decoded, InForm}
 use Rattle.forms.specs.declared.batch.Entry.{Entry}
-use Rattle.forms.specs.declared.batch.Entries.{Entries}
 use Rattle.forms.proofs.ReaderLaws.{up_to-none, up_to-many, up_to-good}
-use Rattle.forms.proofs.NumberLaws.{number_is, number-value, number_short, number-long}
-use Rattle.forms.proofs.ReadAllLaws.{not-decoded}
+use Rattle.forms.proofs.NumberLaws.{number_is, number-value, number_short}
 
 -- ---- the count
 
@@ -49,32 +47,23 @@ module _ {A : Type 0} (key : A → Key) (r : Reader A) (s : Bytes) where
 
 -- ---- the ways out of `decode`
 
-module _ {A : Type 0} (key : A → Key) (r : Reader A) (item : Entry → A) {s : Bytes} {n : Number} (v : NumberAt 2 s 0 n) where
-  pub decode-short : not n.ok ≡ true → Decoded item s (batch_of key r s) no_entries
-  decode-short h = not-decoded (batch-short key r s (omega (arith, number_short v h)))
+module _ {A : Type 0} (key : A → Key) (r : Reader A) (s : Bytes) where
+  pub decode_short : number_of 2 s ≡ none → batch_of key r s ≡ none
+  decode_short e = batch-short key r s (omega (arith, number_short 2 s 0 e))
 
-  module _ (good : not n.ok ≡ false) where
+  module _ {n : ℕ} (v : IsNumber 2 s 0 n) where
     pub decode-long : 2 ≤ length s
-    decode-long = omega (arith, number-long v good)
+    decode-long = v.read.within
 
-    count_is : n.value ≡ count_of s
-    count_is = number-value v (number-long v good)
+    pub decode_many : 32 < n → batch_of key r s ≡ none
+    decode_many h = batch-many key r s decode-long (omega (arith, number-value v))
 
-    pub decode-many : 32 < n.value → Decoded item s (batch_of key r s) no_entries
-    decode-many h = not-decoded (batch-many key r s decode-long (omega (arith, count_is)))
+    pub decode_few : n ≤ 32 → batch_of key r s ≡ if_ascend key (entries r n (drop 2 s))
+    decode_few h = batch-few key r s decode-long (omega (arith, number-value v)) ∙ sym (ap (λ (m : ℕ). if_ascend key (entries r m (drop 2 s))) (number-value v))
 
-    pub decode-few : n.value ≤ 32 → {t : Entries} → Decoded item s (if_ascend key (entries r n.value (drop 2 s))) t → Decoded item s (batch_of key r s) t
-    decode-few h {t} d = subst (λ (o : Option (List A)). Decoded item s o t) (ap (λ (m : ℕ). if_ascend key (entries r m (drop 2 s))) count_is ∙ sym (batch-few key r s decode-long (omega (arith, count_is)))) d
-
--- ---- a batch that was decoded
-
-module _ {A : Type 0} {item : Entry → A} {s : Bytes} {o : Option (List A)} {r : Entries} (d : Decoded item s o r) where
-  -- not in form
-  pub decoded-bad : not r.ok ≡ true → o ≡ none
-  decoded-bad h = d.is ∙ ap (λ (b : Bool). when b (shown item r.count r.list)) (not-true r.ok h)
-
-  pub decoded-good : not r.ok ≡ false → o ≡ some (shown item r.count r.list)
-  decoded-good h = d.is ∙ ap (λ (b : Bool). when b (shown item r.count r.list)) (not-false r.ok h)
+-- the same entries, said otherwise
+pub decoded_as : {A : Type 0} (item : Entry → A) (s : Bytes) {o o' : Option (List A)} (r : Maybe (ArrayVec Entry)) → o ≡ o' → Decoded item s o' r → Decoded item s o r
+decoded_as {A} item s r e d = subst (λ (o : Option (List A)). Decoded item s o r) (sym e) d
 
 -- "Keys strictly ascend"
 asc-some : {A : Type 0} (key : A → Key) (o : Option (List A)) (xs : List A) → if_ascend key o ≡ some xs → ascend key xs ≡ true
@@ -101,20 +90,19 @@ module _ {A : Type 0} (key : A → Key) where
   ascend-map (x ∷ xs) = above_map (key x) xs
 
 -- the mutations ascend where their keys do
-pub mutations-by-keys : (s : Bytes) (n : ℕ) (es : List Entry) → ascend key_inside (shown (mutation_of s) n es) ≡ ascend (λ (k : Key). k) (shown (key_at s) n es)
-unfolding shown
-mutations-by-keys s n es = sym (ascend-map key_inside (map (mutation_of s) (take n es))) ∙ ap (ascend (λ (k : Key). k)) (go (take n es))
+pub mutations-by-keys : (s : Bytes) (es : List Entry) → ascend key_inside (map (mutation_of s) es) ≡ ascend (λ (k : Key). k) (map (key_at s) es)
+mutations-by-keys s es = sym (ascend-map key_inside (map (mutation_of s) es)) ∙ ap (ascend (λ (k : Key). k)) (go es)
   where
     go : (l : List Entry) → map key_inside (map (mutation_of s) l) ≡ map (key_at s) l
     go [] = refl
     go (e ∷ l) = ap (λ (ks : List Key). key_at s e ∷ ks) (go l)
 
 -- the entries of a batch in form
-module _ {s : Bytes} {r : Entries} where
-  pub keys-in-form : Decoded (key_at s) s (keys s) r → not r.ok ≡ false → InForm s r.count r.list
+module _ {s : Bytes} {es : List Entry} where
+  pub keys-in-form : AreEntries (key_at s) s (keys s) es → InForm s es
   unfolding keys batch_of
-  keys-in-form d h = record { listed = d.listed; ascends = asc-some (λ k. k) _ _ (decoded-good d h) }
+  keys-in-form d = record { listed = d.listed; ascends = asc-some (λ k. k) _ _ d.is }
 
-  pub mutations-in-form : Decoded (mutation_of s) s (mutations s) r → not r.ok ≡ false → InForm s r.count r.list
+  pub mutations-in-form : AreEntries (mutation_of s) s (mutations s) es → InForm s es
   unfolding mutations batch_of
-  mutations-in-form d h = record { listed = d.listed; ascends = sym (mutations-by-keys s r.count r.list) ∙ asc-some key_inside _ _ (decoded-good d h) }
+  mutations-in-form d = record { listed = d.listed; ascends = sym (mutations-by-keys s es) ∙ asc-some key_inside _ _ d.is }

@@ -3,20 +3,23 @@
 use Prim.Native.Nat.{ℕ, zero, suc, ◌+◌, ◌-◌, ◌*◌, ◌/◌, ◌%◌, ◌^◌, ◌≤◌, ◌<◌}
 use native.Mathlib.Omega.{arith}
 use native.Mathlib.Numerals.{add-one}
-use native.Mathlib.Nat.{pow-zero, pow-suc, one-le-pow, pow-le-pow_right, div-add-mod', lt_of_lt_of_le}
+use native.Mathlib.Nat.{sub-zero, div-one, div-div-eq-div-mul, pow-succ', pow-zero, pow-suc, one-le-pow, pow-le-pow_right, div-add-mod', lt_of_lt_of_le}
 use mathlib.Core.Path.{◌≡◌, refl, sym, ◌∙◌, ap, ap₂, subst}
-use mathlib.Core.Bool.{Bool, true, false, not, false≢true}
+use mathlib.Core.Bool.{Bool, true, false}
 use mathlib.Core.List.{[], ◌∷◌, ◌++◌, append_assoc, append-nil}
 use mathlib.Core.Option.{Option, none, some}
 use lib.ListN.{length, get_or, take, drop, length-append}
-use lib.Seq.{drop-cons}
+use lib.Seq.{take-suc}
+use Rattle.std.specs.List.{slice_range}
+use Rattle.std.specs.Int.{w64, byte_at, bytes_high_first, to_be_bytes}
+use Rattle.seqs.proofs.Parts.{part_end}
+use Rattle.std.proofs.lemmas.List.{length-take, take_all}
 use lib.Dec.{leb}
-use borrow.Author.Tests.{le-leb, lt-leb, leb-true, leb-false, not-true, not-false}
+use borrow.Author.Tests.{le-leb, lt-leb, leb-false}
 use Rattle.forms.specs.Bytes.{Bytes, AllBytes}
 use Rattle.forms.specs.Readers.{Read, read_on, ◌>>=◌, just}
 use Rattle.forms.specs.Numbers.{number_from, number, digits, number_of, width_of}
-use Rattle.forms.specs.Places.{found, NumberAt}
-use Rattle.forms.specs.declared.number.Number.{Number}
+use Rattle.forms.specs.Places.{found, IsNumber}
 use Rattle.forms.specs.declared.number.Width.{Width}
 use Rattle.forms.specs.declared.number.Width.TheVariants.{Two, Four, Eight}
 use Rattle.forms.proofs.ReaderLaws.{after, stretch-at}
@@ -113,6 +116,34 @@ pub digits_number : (s : Bytes) → ((i : ℕ) → get_or s i 0 < 256) → digit
 unfolding digits
 digits_number s g = let e : length s ≡ 0 + length s = omega arith in ap (λ (n : ℕ). digits n (number s)) e ∙ digits_more 0 0 s g
 
+-- ---- the library's bytes of a number
+
+byte_is : (k v : ℕ) → byte_at k v ≡ v / 256 ^ k % 256
+byte_is zero v = ap (λ (n : ℕ). n % 256) (sym (ap (λ (p : ℕ). v / p) (pow-zero 256) ∙ div-one v))
+byte_is (suc k) v = refl
+
+byte-next : (k v : ℕ) → byte_at k (v / 256) ≡ byte_at (suc k) v
+byte-next k v = byte_is k (v / 256) ∙ ap (λ (n : ℕ). n % 256) (div-div-eq-div-mul v 256 (256 ^ k) ∙ ap (λ (p : ℕ). v / p) (sym (pow-succ' 256 k)))
+
+digits-first : (k v : ℕ) → digits (suc k) v ≡ byte_at k v ∷ digits k v
+unfolding digits
+digits-first zero v = refl
+digits-first (suc k) v = ap (λ (d : Bytes). d ++ (v % 256 ∷ [])) (digits-first k (v / 256)) ∙ ap (λ (x : ℕ). x ∷ (digits k (v / 256) ++ (v % 256 ∷ []))) (byte-next k v)
+
+high_first : (k v : ℕ) → bytes_high_first k v ≡ digits k v
+unfolding digits
+high_first zero v = refl
+high_first (suc k) v = ap (λ (d : Bytes). byte_at k v ∷ d) (high_first k v) ∙ sym (digits-first k v)
+
+-- of the eight bytes of a word the last are the digits
+last_bytes : (w : Width) (v : ℕ) → take (8 - (8 - width_of w)) (drop (8 - width_of w) (to_be_bytes w64 v)) ≡ digits (width_of w) v
+last_bytes Two v = high_first 2 v
+last_bytes Four v = high_first 4 v
+last_bytes Eight v = high_first 8 v
+
+pub word-digits : (w : Width) (v : ℕ) {k : ℕ} {b : Bytes} → k ≡ width_of w → b ≡ to_be_bytes w64 v → take (8 - (8 - k)) (drop (8 - k) b) ≡ digits (width_of w) v
+word-digits w v e f = ap₂ (λ (n : ℕ) (d : Bytes). take (8 - (8 - n)) (drop (8 - n) d)) e f ∙ last_bytes w v
+
 -- ---- `number_at`: a number at a place
 
 module _ (w : ℕ) (s : Bytes) (at : ℕ) where
@@ -124,95 +155,71 @@ module _ (w : ℕ) (s : Bytes) (at : ℕ) where
       go true = refl
       go false = refl
 
-  pub number-none : length s - at < w → NumberAt w s at (record { ok = false; value = 0 })
-  number-none h = record { is = number_is ∙ rw (lt-leb w (length s - at) h); small = power_pos w }
+  -- the bytes end before it does
+  pub number-none : length s - at < w → number_of w (drop at s) ≡ none
+  number-none h = number_is ∙ rw (lt-leb w (length s - at) h)
 
--- the reading loop: the bytes from i on are still to come
-pub record Reading (w : ℕ) (s : Bytes) (at value i : ℕ) : Type 0 where
-  pub width : w ≤ 8
-  pub from : at ≤ i
-  pub to : i ≤ at + w
-  pub within : at + w ≤ length s
-  pub is : number_from value (take (at + w - i) (drop i s)) ≡ number (take w (drop at s))
-  pub below : value < 256 ^ (i - at)
+-- the bytes of a part from a place on
+pub cut_twice : (w : ℕ) (s t b : Bytes) (at : ℕ) → t ≡ slice_range s at (length s) → b ≡ slice_range t 0 w → b ≡ take w (drop at s)
+cut_twice w s t b at e f = f ∙ ap (λ (n : ℕ). take n t) (sub-zero w) ∙ ap (take w) (e ∙ part_end at s)
 
-pub reading-start : (w : ℕ) (s : Bytes) (at : ℕ) → w ≤ 8 → at + w ≤ length s → Reading w s at 0 at
-reading-start w s at h l = record {
-  width = h;
-  from = omega arith;
-  to = omega arith;
-  within = l;
-  is = let e : at + w - at ≡ w = omega arith in ap (λ (n : ℕ). number (take n (drop at s))) e;
-  below = power_pos (at - at);
-}
+pub cut-bytes : (w : ℕ) (s b : Bytes) (at : ℕ) → b ≡ take w (drop at s) → AllBytes s → AllBytes b
+cut-bytes w s b at e g = subst (λ (t : Bytes). AllBytes t) (sym e) (bytes_take w (drop at s) (bytes_drop at s g))
 
-module _ {w : ℕ} {s : Bytes} {at value i : ℕ} (v : Reading w s at value i) where
-  module _ (more : i < at + w) (byte : get_or s i 0 < 256) where
-    grown : value * 256 + get_or s i 0 < 256 ^ (i + 1 - at)
-    grown =
-        let e : suc (i - at) ≡ i + 1 - at = omega (arith, v.from) in
-        subst (λ (n : ℕ). value * 256 + get_or s i 0 < 256 ^ n) e (below_more (i - at) value (get_or s i 0) v.below byte)
+-- the reading loop: the first i bytes were read
+pub record Reading (b : Bytes) (value i : ℕ) : Type 0 where
+  pub bytes : AllBytes b
+  pub is : value ≡ number (take i b)
+  pub below : value < 256 ^ i
 
-    pub reading-fits : value * 256 + get_or s i 0 < 256 ^ 8
-    reading-fits = below_word (i + 1 - at) _ (omega (arith, v.width)) grown
+pub reading-start : (b : Bytes) → AllBytes b → Reading b 0 0
+unfolding number_from
+reading-start b g = record { bytes = g; is = refl; below = power_pos 0 }
 
-    pub reading-more : Reading w s at (value * 256 + get_or s i 0) (i + 1)
-    unfolding number_from
-    reading-more = record {
-      width = v.width;
-      from = omega (arith, v.from);
-      to = omega arith;
-      within = v.within;
-      is =
-          let e : at + w - i ≡ suc (at + w - (i + 1)) = omega arith in
-          let l : i < length s = omega (arith, v.within) in
-          sym (ap (λ (n : ℕ). number_from value (take n (drop i s))) e ∙ ap (λ (r : Bytes). number_from value (take (suc (at + w - (i + 1))) r)) (drop-cons s i 0 l)
-          ∙ ap (λ (n : ℕ). number_from (value * 256 + get_or s i 0) (take (at + w - (i + 1)) (drop n s))) (sym (add-one i)))
-          ∙ v.is;
-      below = grown;
+module _ {b : Bytes} {value i : ℕ} (v : Reading b value i) where
+  pub reading-fits : i < 8 → value * 256 + get_or b i 0 < 256 ^ 8
+  reading-fits h = below_word (suc i) _ (omega arith) (below_more i value (get_or b i 0) v.below (v.bytes i))
+
+  pub reading-more : i < length b → Reading b (value * 256 + get_or b i 0) (i + 1)
+  unfolding number_from
+  reading-more l = record {
+    bytes = v.bytes;
+    is =
+        ap (λ (n : ℕ). n * 256 + get_or b i 0) v.is ∙ sym (number_more 0 (take i b) (get_or b i 0 ∷ []))
+        ∙ ap number (sym (take-suc b i 0 l) ∙ ap (λ (n : ℕ). take n b) (sym (add-one i)));
+    below = subst (λ (n : ℕ). value * 256 + get_or b i 0 < 256 ^ n) (sym (add-one i)) (below_more i value (get_or b i 0) v.below (v.bytes i));
+  }
+
+-- all of them were read
+pub reading-end : {w : ℕ} {s b : Bytes} {at value i : ℕ} → b ≡ take w (drop at s) → at + w ≤ length s → i ≡ w → Reading b value i → IsNumber w s at value
+reading-end {w} {s} {b} {at} {value} {i} cut h j u =
+    let v : Reading (take w (drop at s)) value w = subst (λ (n : ℕ). Reading (take w (drop at s)) value n) j (subst (λ (t : Bytes). Reading t value i) cut u) in
+    let l : w ≤ length s - at = omega arith in
+    let e : take w (take w (drop at s)) ≡ take w (drop at s) = take_all w (take w (drop at s)) (omega (arith, length-take w (drop at s))) in
+    let read : value ≡ number (take w (drop at s)) = v.is ∙ ap number e in
+    record {
+      read = record { is = number_is w s at ∙ rw (le-leb w (length s - at) l) (ap (λ (n : ℕ). found s true n (at + w)) (sym read)); within = h };
+      small = v.below;
     }
 
-  pub reading-end : at + w ≤ i → NumberAt w s at (record { ok = true; value = value })
-  unfolding number_from
-  reading-end h =
-      let z : at + w - i ≡ 0 = omega arith in
-      let k : i - at ≡ w = omega (arith, v.from, v.to) in
-      let e : number (take w (drop at s)) ≡ value = sym v.is ∙ ap (λ (n : ℕ). number_from value (take n (drop i s))) z in
-      let l : w ≤ length s - at = omega (arith, v.within) in
-      record {
-        is = number_is w s at ∙ rw (le-leb w (length s - at) l) (ap (λ (n : ℕ). found s true n (at + w)) e);
-        small = subst (λ (n : ℕ). value < 256 ^ n) k v.below;
-      }
+-- ---- what a number at a place says
 
 -- what was found there, as the definition has it
 abbrev got_of : Option (Read ℕ) → ℕ
 got_of none = 0
 got_of (some r) = r.got
 
-told : (s : Bytes) (next : ℕ) (ok b : Bool) (x y : ℕ) → found s ok x next ≡ found s b y next → (ok ≡ b) × (b ≡ true → x ≡ y)
-told s next true true x y e = (refl, λ _. ap got_of e)
-told s next true false x y e = let z : ◌≡◌ {A = ℕ} 0 1 = cc in absurd (omega arith)
-told s next false true x y e = let z : ◌≡◌ {A = ℕ} 0 1 = cc in absurd (omega arith)
-told s next false false x y e = (refl, λ h. absurd (false≢true h))
+module _ {w : ℕ} {s : Bytes} {at v : ℕ} (n : IsNumber w s at v) where
+  pub number-value : v ≡ number (take w (drop at s))
+  number-value = go (leb w (length s - at)) (sym n.read.is ∙ number_is w s at)
+    where
+      go : (b : Bool) → some (record { got = v; rest = drop (at + w) s }) ≡ found s b (number (take w (drop at s))) (at + w) → v ≡ number (take w (drop at s))
+      go true e = ap got_of e
+      go false e = cc
 
-module _ {w : ℕ} {s : Bytes} {at : ℕ} {n : Number} (v : NumberAt w s at n) where
-  same : (n.ok ≡ leb w (length s - at)) × (leb w (length s - at) ≡ true → n.value ≡ number (take w (drop at s)))
-  same = told s (at + w) n.ok (leb w (length s - at)) _ _ (sym v.is ∙ number_is w s at)
-
-  pub number_ok : n.ok ≡ leb w (length s - at)
-  number_ok = same.0
-
-  pub number-value : w ≤ length s - at → n.value ≡ number (take w (drop at s))
-  number-value l = same.1 (le-leb w (length s - at) l)
-
-  pub number-bad : not n.ok ≡ true → number_of w (drop at s) ≡ none
-  number-bad h = v.is ∙ ap (λ (b : Bool). found s b n.value (at + w)) (not-true n.ok h)
-
-  pub number-good : not n.ok ≡ false → number_of w (drop at s) ≡ some (record { got = n.value; rest = drop (at + w) s })
-  number-good h = v.is ∙ ap (λ (b : Bool). found s b n.value (at + w)) (not-false n.ok h)
-
-  pub number_short : not n.ok ≡ true → length s - at < w
-  number_short h = leb-false w (length s - at) (sym number_ok ∙ not-true n.ok h)
-
-  pub number-long : not n.ok ≡ false → w ≤ length s - at
-  number-long h = leb-true w (length s - at) (sym number_ok ∙ not-false n.ok h)
+pub number_short : (w : ℕ) (s : Bytes) (at : ℕ) → number_of w (drop at s) ≡ none → length s - at < w
+number_short w s at h = leb-false w (length s - at) (go (leb w (length s - at)) (sym h ∙ number_is w s at))
+  where
+    go : (b : Bool) → none ≡ found s b (number (take w (drop at s))) (at + w) → b ≡ false
+    go true e = cc
+    go false e = refl

@@ -3,11 +3,11 @@
 use Prim.Native.Nat.{ℕ, ◌+◌, ◌≤◌, ◌<◌}
 use native.Mathlib.Omega.{arith}
 use mathlib.Core.Path.{◌≡◌, refl, sym, ap, ◌∙◌}
-use mathlib.Core.Bool.{Bool, true, false, not, true≢false, false≢true}
+use mathlib.Core.Bool.{Bool, true, false, true≢false, false≢true}
 use mathlib.Core.List.{[], ◌∷◌, ◌++◌, append-nil}
 use mathlib.Core.Option.{Option, none, some}
-use lib.ListN.{length, take, length-append}
-use lib.Seq.{take_at, drop_at, take-length}
+use lib.ListN.{length, length-append}
+use lib.Seq.{take_at, drop_at}
 use lib.Dec.{leb, eqb}
 use borrow.Author.Tests.{le-leb, lt-leb, leb-true}
 use Rattle.forms.specs.Bytes.{Bytes, piece_bytes}
@@ -33,14 +33,6 @@ fits-stays s h = ap (λ (b : Bool). or_empty b s) h
 pub long-empty : (s : Bytes) → leb (length s) 255 ≡ false → fitted s ≡ []
 unfolding fitted
 long-empty s h = ap (λ (b : Bool). or_empty b s) h
-
-fitted-take : (s : Bytes) → take (length (fitted s)) s ≡ fitted s
-unfolding fitted
-fitted-take s = go (leb (length s) 255)
-  where
-    go : (b : Bool) → take (length (or_empty b s)) s ≡ or_empty b s
-    go true = take-length s
-    go false = refl
 
 fitted_short : (s : Bytes) → length (fitted s) ≤ 255
 unfolding fitted
@@ -81,40 +73,30 @@ one_key_lem k = one (λ j. j) piece _ (fitted k) (ap piece (sym (append-nil (pie
 
 -- ---- how they are written
 
-pub fitting-none : (s : Bytes) → 255 < length s → 0 ≡ length (fitted s)
-fitting-none s h = sym (ap length (long-empty s (lt-leb (length s) 255 h)))
+pub fitting_none : (s : Bytes) → 255 < length s → [] ≡ fitted s
+fitting_none s h = sym (long-empty s (lt-leb (length s) 255 h))
 
-pub fitting-all : (s : Bytes) → length s ≤ 255 → length s ≡ length (fitted s)
-fitting-all s h = sym (ap length (fits-stays s (le-leb (length s) 255 h)))
+pub fitting_all : (s : Bytes) → length s ≤ 255 → s ≡ fitted s
+fitting_all s h = sym (fits-stays s (le-leb (length s) 255 h))
 
-module _ (s : Bytes) {n : ℕ} (e : n ≡ length (fitted s)) where
-  front : take n s ≡ fitted s
-  front = ap (λ (k : ℕ). take k s) e ∙ fitted-take s
-
-  pub piece-long : length (take n s) ≡ n
-  piece-long = ap length front ∙ sym e
-
-  pub piece-asks : {at : ℕ} {out : Bytes} → at + 256 ≤ length out → PieceAsks (take n s) (length (take n s) + 1) at out
-  piece-asks h = record { short = omega (arith, piece-long, fitted_short s); room = omega (arith, piece-long, fitted_short s) }
-
-  pub piece-laid : {at r : ℕ} {out out' : Bytes} → Laid at (length (take n s) + 1) (piece_bytes (take n s)) out r out' → Laid at (length (fitted s) + 1) (piece_bytes (fitted s)) out r out'
-  piece-laid v = rw front at v
+pub piece_asks : (s : Bytes) {at : ℕ} {out : Bytes} → at + 256 ≤ length out → PieceAsks (fitted s) (length (fitted s) + 1) at out
+piece_asks s h = record { short = fitted_short s; room = omega (arith, fitted_short s) }
 
 module _ (k : Key) {s t u : Bytes} {a b : ℕ} (one : Laid 0 2 (digits 2 1) s a t) (two : Laid a (length (fitted k) + 1) (piece_bytes (fitted k)) t b u) where
-  pub key-laid : Laid 0 (length (one_key k)) (one_key k) s b u
+  pub key_laid : Laid 0 (length (one_key k)) (one_key k) s b u
   unfolding one_key digits
-  key-laid = laid_as (laid_then one two) refl
+  key_laid = laid_as (laid_then one two) refl
 
   pub key-room : 515 ≤ length s → b + 257 ≤ length u
   key-room h = omega (arith, fitted_short k)
 
-  pub delete-laid : (put : Bool) (r : Row) {d : ℕ} {w : Bytes} → not put ≡ true → Laid b 1 (2 ∷ []) u d w → Laid 0 (length (one_mutation (record { key = k; row = when put r }))) (one_mutation (record { key = k; row = when put r })) s d w
+  pub delete-laid : (put : Bool) (r : Row) {d : ℕ} {w : Bytes} → put ≡ false → Laid b 1 (2 ∷ []) u d w → Laid 0 (length (one_mutation (record { key = k; row = when put r }))) (one_mutation (record { key = k; row = when put r })) s d w
   unfolding one_mutation digits
-  delete-laid true r h three = absurd (false≢true h)
+  delete-laid true r h three = absurd (true≢false h)
   delete-laid false r h three = laid_as (laid_then one (laid_then two three)) refl
 
-  pub put-laid : (put : Bool) (r : Row) {c d : ℕ} {w x : Bytes} → not put ≡ false → Laid b 1 (1 ∷ []) u c w → Laid c (length (fitted r) + 1) (piece_bytes (fitted r)) w d x
+  pub put-laid : (put : Bool) (r : Row) {c d : ℕ} {w x : Bytes} → put ≡ true → Laid b 1 (1 ∷ []) u c w → Laid c (length (fitted r) + 1) (piece_bytes (fitted r)) w d x
       → Laid 0 (length (one_mutation (record { key = k; row = when put r }))) (one_mutation (record { key = k; row = when put r })) s d x
   unfolding one_mutation digits
   put-laid true r h three four = laid_as (laid_then one (laid_then two (laid_then three four))) refl
-  put-laid false r h three four = absurd (true≢false h)
+  put-laid false r h three four = absurd (false≢true h)

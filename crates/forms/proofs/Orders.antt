@@ -8,8 +8,8 @@ use Prim.Native.Nat.{ℕ, ◌≤◌, ◌<◌}
 use native.Mathlib.Omega.{arith}
 use lib.Dec.{ltb}
 use borrow.Author.Tests.{lt-ltb, le-ltb, ltb-true, ltb-false}
-use Rattle.forms.specs.declared.key.Order.{Order}
-use Rattle.forms.specs.declared.key.Order.TheVariants.{Less, Equal, Greater}
+use Rattle.std.specs.declared.cmp.Ordering.{Ordering}
+use Rattle.std.specs.declared.cmp.Ordering.TheVariants.{Less, Equal, Greater}
 use Rattle.forms.specs.Bytes.{Bytes, cmp, pick, is_less, is_equal, eq_bytes, lt_bytes}
 
 pub not-less-equal : {X : Type 0} → Less ≡ Equal → X
@@ -21,13 +21,13 @@ not-less-greater e = let z : ◌≡◌ {A = ℕ} 0 1 = cc in absurd (omega arith
 pub not-equal-greater : {X : Type 0} → Equal ≡ Greater → X
 not-equal-greater e = let z : ◌≡◌ {A = ℕ} 0 1 = cc in absurd (omega arith)
 
-pub less-is : (o : Order) → is_less o ≡ true → o ≡ Less
+pub less-is : (o : Ordering) → is_less o ≡ true → o ≡ Less
 less-is Less e = refl
 less-is Equal e = let z : ◌≡◌ {A = ℕ} 0 1 = cc in absurd (omega arith)
 less-is Greater e = let z : ◌≡◌ {A = ℕ} 0 1 = cc in absurd (omega arith)
 
 -- what a step of the order says
-pick_less : (x y : ℕ) (o : Order) → pick (ltb x y) (ltb y x) o ≡ Less → (x < y) ⊎ ((x ≡ y) × (o ≡ Less))
+pick_less : (x y : ℕ) (o : Ordering) → pick (ltb x y) (ltb y x) o ≡ Less → (x < y) ⊎ ((x ≡ y) × (o ≡ Less))
 pick_less x y o e = go (ltb x y) (ltb y x) refl refl e
   where
     go : (p q : Bool) → ltb x y ≡ p → ltb y x ≡ q → pick p q o ≡ Less → (x < y) ⊎ ((x ≡ y) × (o ≡ Less))
@@ -37,7 +37,7 @@ pick_less x y o e = go (ltb x y) (ltb y x) refl refl e
         let s : x ≡ y = omega (arith, ltb-false x y a, ltb-false y x b) in
         inr (s, e)
 
-pick-equal : (x y : ℕ) (o : Order) → pick (ltb x y) (ltb y x) o ≡ Equal → (x ≡ y) × (o ≡ Equal)
+pick-equal : (x y : ℕ) (o : Ordering) → pick (ltb x y) (ltb y x) o ≡ Equal → (x ≡ y) × (o ≡ Equal)
 pick-equal x y o e = go (ltb x y) (ltb y x) refl refl e
   where
     go : (p q : Bool) → ltb x y ≡ p → ltb y x ≡ q → pick p q o ≡ Equal → (x ≡ y) × (o ≡ Equal)
@@ -47,10 +47,10 @@ pick-equal x y o e = go (ltb x y) (ltb y x) refl refl e
         let s : x ≡ y = omega (arith, ltb-false x y a, ltb-false y x b) in
         (s, e)
 
-pub pick-lt : (x y : ℕ) (o : Order) → x < y → pick (ltb x y) (ltb y x) o ≡ Less
+pub pick-lt : (x y : ℕ) (o : Ordering) → x < y → pick (ltb x y) (ltb y x) o ≡ Less
 pick-lt x y o h = simp (lt-ltb _ _ h)
 
-pick_same : (x : ℕ) (o : Order) → pick (ltb x x) (ltb x x) o ≡ o
+pick_same : (x : ℕ) (o : Ordering) → pick (ltb x x) (ltb x x) o ≡ o
 pick_same x o = let h : x ≤ x = omega arith in simp (le-ltb _ _ h)
 
 pub cmp-refl : (a : Bytes) → cmp a a ≡ Equal
@@ -84,7 +84,7 @@ cmp-trans (x ∷ xs) (y ∷ ys) (z ∷ zs) p q = go (cmp-trans xs ys zs) (pick_l
         let e : x ≡ z = h.0 ∙ g.0 in
         ap (λ (w : ℕ). pick (ltb w z) (ltb z w) (cmp xs zs)) e ∙ pick_same z (cmp xs zs) ∙ rest h.1 g.1
 
-abbrev pub flip : Order → Order
+abbrev pub flip : Ordering → Ordering
 flip Less = Greater
 flip Equal = Equal
 flip Greater = Less
@@ -112,7 +112,7 @@ pub eq_bytes-true : (a b : Bytes) → eq_bytes a b ≡ true → a ≡ b
 unfolding eq_bytes
 eq_bytes-true a b e = cmp-equal a b (go (cmp a b) e)
   where
-    go : (o : Order) → is_equal o ≡ true → o ≡ Equal
+    go : (o : Ordering) → is_equal o ≡ true → o ≡ Equal
     go Less e = absurd (false≢true e)
     go Equal e = refl
     go Greater e = absurd (false≢true e)
@@ -121,7 +121,7 @@ pub eq_bytes-sym : (a b : Bytes) → eq_bytes a b ≡ eq_bytes b a
 unfolding eq_bytes
 eq_bytes-sym a b = go (cmp a b) ∙ sym (ap is_equal (cmp-flip a b))
   where
-    go : (o : Order) → is_equal o ≡ is_equal (flip o)
+    go : (o : Ordering) → is_equal o ≡ is_equal (flip o)
     go Less = refl
     go Equal = refl
     go Greater = refl
@@ -156,7 +156,7 @@ pub lt_bytes-else : (a b : Bytes) → eq_bytes a b ≡ false → lt_bytes a b �
 unfolding eq_bytes lt_bytes
 lt_bytes-else a b p q = ap is_less (cmp-flip a b) ∙ go (cmp a b) p q
   where
-    go : (o : Order) → is_equal o ≡ false → is_less o ≡ false → is_less (flip o) ≡ true
+    go : (o : Ordering) → is_equal o ≡ false → is_less o ≡ false → is_less (flip o) ≡ true
     go Less p q = absurd (true≢false q)
     go Equal p q = absurd (true≢false p)
     go Greater p q = refl

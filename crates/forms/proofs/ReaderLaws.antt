@@ -4,17 +4,16 @@ use Prim.Native.Nat.{ℕ, suc, ◌+◌, ◌-◌, ◌≤◌, ◌<◌}
 use native.Mathlib.Omega.{arith}
 use native.Mathlib.Numerals.{add-one}
 use mathlib.Core.Path.{◌≡◌, refl, sym, ◌∙◌, ap}
-use mathlib.Core.Bool.{Bool, true, false, not}
+use mathlib.Core.Bool.{Bool, true, false}
 use mathlib.Core.List.{List, [], ◌∷◌}
 use mathlib.Core.Option.{Option, none, some}
 use lib.ListN.{length, get_or, drop, length-drop, drop_of_length-le}
 use lib.Seq.{drop-cons, drop-drop}
 use lib.Dec.{leb, eqb}
-use borrow.Author.Tests.{le-leb, lt-leb, eq-eqb, ne_eqb, not-true, not-false}
+use borrow.Author.Tests.{le-leb, lt-leb, eq-eqb, ne_eqb}
 use Rattle.forms.specs.Bytes.{Bytes, bytes_at}
 use Rattle.forms.specs.Readers.{Read, Reader, read_on, ◌>>=◌, just, only, when, byte, stretch, piece, up_to, times, ended}
-use Rattle.forms.specs.Places.{found, PartAt, no_part}
-use Rattle.forms.specs.declared.part.Part.{Part}
+use Rattle.forms.specs.Places.{found, IsPart}
 
 -- what follows a reader goes by what it read
 pub after : {A B : Type 0} {o o' : Option (Read A)} (f : A → Reader B) → o ≡ o' → read_on o f ≡ read_on o' f
@@ -95,38 +94,18 @@ ended_at {A = A} x s at h = go (drop at s) ∙ ap (λ (b : Bool). when b x) (sym
 
 -- ---- `part_at`: what each way out says
 
-module _ {s : Bytes} {at : ℕ} where
-  no-part : piece (drop at s) ≡ none → PartAt s at no_part
-  no-part e = record { is = e; within = omega arith; small = omega arith }
-
-  pub part_none : length s ≤ at → PartAt s at no_part
+module _ (s : Bytes) (at : ℕ) where
+  pub part_none : length s ≤ at → piece (drop at s) ≡ none
   unfolding piece ◌>>=◌ read_on
-  part_none h = no-part (after (λ n. stretch n) (byte-none s at h))
+  part_none h = after (λ n. stretch n) (byte-none s at h)
 
-  pub part-short : at < length s → length s - at - 1 < get_or s at 0 → PartAt s at no_part
+  pub part_short : at < length s → length s - at - 1 < get_or s at 0 → piece (drop at s) ≡ none
   unfolding piece ◌>>=◌ read_on
-  part-short l m = no-part (after (λ n. stretch n) (byte_at s at l) ∙ stretch-short s (at + 1) (get_or s at 0) (omega arith))
+  part_short l m = after (λ n. stretch n) (byte_at s at l) ∙ stretch-short s (at + 1) (get_or s at 0) (omega arith)
 
-  pub part-good : at < length s → get_or s at 0 ≤ length s - at - 1 → get_or s at 0 < 256 → PartAt s at (record { ok = true; at = at + 1; len = get_or s at 0 })
+  pub part_good : at < length s → get_or s at 0 ≤ length s - at - 1 → get_or s at 0 < 256 → IsPart s at (record { at = at + 1; len = get_or s at 0 })
   unfolding piece ◌>>=◌ read_on
-  part-good l m b = record {
-    is = after (λ n. stretch n) (byte_at s at l) ∙ stretch-good s (at + 1) (get_or s at 0) (omega arith);
-    within = omega arith;
-    small = omega arith;
+  part_good l m b = record {
+    read = record { is = after (λ n. stretch n) (byte_at s at l) ∙ stretch-good s (at + 1) (get_or s at 0) (omega arith); within = omega arith };
+    inside = record { within = omega arith; small = omega arith };
   }
-
--- ---- what a reader of the code found at a place, for every reader
-
-pub record Reads {A : Type 0} (r : Reader A) (s : Bytes) (at : ℕ) (ok : Bool) (x : A) (next : ℕ) : Type 0 where
-  pub is : r (drop at s) ≡ found s ok x next
-  pub within : next ≤ length s
-
-module _ {A : Type 0} {r : Reader A} {s : Bytes} {at : ℕ} {ok : Bool} {x : A} {next : ℕ} (v : Reads r s at ok x next) where
-  pub reads-bad : not ok ≡ true → r (drop at s) ≡ none
-  reads-bad h = v.is ∙ ap (λ (b : Bool). found s b x next) (not-true ok h)
-
-  pub reads-good : not ok ≡ false → r (drop at s) ≡ some (record { got = x; rest = drop next s })
-  reads-good h = v.is ∙ ap (λ (b : Bool). found s b x next) (not-false ok h)
-
-pub part-reads : {s : Bytes} {at : ℕ} {p : Part} → PartAt s at p → Reads piece s at p.ok (bytes_at s p.at p.len) (p.at + p.len)
-part-reads v = record { is = v.is; within = v.within }

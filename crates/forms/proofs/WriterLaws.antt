@@ -1,19 +1,17 @@
 -- What writers leave: one after the other, over a part that is lent, and what is read back; and the writers themselves.
 -- Assumes nothing.
-use Prim.Native.Nat.{ℕ, suc, ◌+◌, ◌-◌, ◌/◌, ◌%◌, ◌≤◌, ◌<◌}
+use Prim.Native.Nat.{ℕ, ◌+◌, ◌-◌, ◌≤◌, ◌<◌}
 use native.Mathlib.Numerals.{add-one}
 use native.Mathlib.Omega.{arith}
 use mathlib.Core.Path.{◌≡◌, refl, sym, ap, ap₂, ◌∙◌, subst}
 use mathlib.Core.List.{[], ◌∷◌, ◌++◌, append_assoc, append-nil}
-use lib.ListN.{length, get_or, set, take, drop, length-append, length-drop, length-set, drop_of_length-le, take-append-drop}
-use lib.Seq.{drop-drop, take_at, drop_at, take-suc, take-length, take-set-le, set_split, length-take-le, get_or-take, get_or-drop}
+use lib.ListN.{length, set, take, drop, length-append, length-drop, length-set, drop_of_length-le, take-append-drop}
+use lib.Seq.{drop-drop, take_at, drop_at, set_split, length-take-le}
 use borrow.Rule.Slice.PartMut.{put_mid}
-use Rattle.seqs.proofs.Parts.{part_end, drop-set}
+use Rattle.seqs.proofs.Parts.{part_end}
 use Rattle.seqs.proofs.Tables.{part_in}
 use Rattle.forms.specs.Bytes.{Bytes, bytes_at, piece_bytes}
-use Rattle.forms.specs.Numbers.{digits}
 use Rattle.forms.specs.Writers.{Laid}
-use Rattle.forms.proofs.NumberLaws.{length_digits}
 
 -- bytes that lie in a buffer are as many as asked for
 pub bytes-long : (s : Bytes) (at n : ℕ) → at + n ≤ length s → length (bytes_at s at n) ≡ n
@@ -106,8 +104,8 @@ laid-lent t a h {n} {k} {b} {part} v = record {
 
 -- ---- the writers
 
-pub laid-byte : (s : Bytes) (at x : ℕ) → at < length s → Laid at 1 (x ∷ []) s (at + 1) (set s at x)
-laid-byte s at x h = record {
+pub laid_byte : (s : Bytes) (at x : ℕ) → at < length s → Laid at 1 (x ∷ []) s (at + 1) (set s at x)
+laid_byte s at x h = record {
   size = refl;
   next = refl;
   within = omega arith;
@@ -115,90 +113,10 @@ laid-byte s at x h = record {
   is = set_split s at x h ∙ ap (λ (n : ℕ). take at s ++ x ∷ drop n s) (sym (add-one at));
 }
 
--- `put_digits`: what is left to write stands before i
-pub record Counting (at w value : ℕ) (s : Bytes) (i v : ℕ) (out : Bytes) : Type 0 where
-  pub to : i ≤ w
-  pub within : at + w ≤ length s
-  pub length_is : length out ≡ length s
-  pub kept : take at out ≡ take at s
-  pub is : digits w value ++ drop (at + w) s ≡ digits i v ++ drop (at + i) out
-
-pub counting-start : (at w value : ℕ) (s : Bytes) → at + w ≤ length s → Counting at w value s w value s
-counting-start at w value s l = record { to = omega arith; within = l; length_is = refl; kept = refl; is = refl }
-
-module _ {at w value : ℕ} {s : Bytes} {i v : ℕ} {out : Bytes} (u : Counting at w value s i v out) where
-  pub counting_more : 0 < i → Counting at w value s (i - 1) (v / 256) (set out (at + (i - 1)) (v % 256))
-  unfolding digits
-  counting_more h =
-      let e : i ≡ suc (i - 1) = omega arith in
-      let f : at + i ≡ suc (at + (i - 1)) = omega arith in
-      record {
-        to = omega arith;
-        within = u.within;
-        length_is = length-set out (at + (i - 1)) (v % 256) ∙ u.length_is;
-        kept = take-set-le at out (at + (i - 1)) (v % 256) (omega arith) ∙ u.kept;
-        is =
-            u.is ∙ ap₂ (λ (n m : ℕ). digits n v ++ drop m out) e f ∙ append_assoc (digits (i - 1) (v / 256)) (v % 256 ∷ []) (drop (suc (at + (i - 1))) out)
-            ∙ ap (λ (r : Bytes). digits (i - 1) (v / 256) ++ r) (sym (drop-set out (at + (i - 1)) (v % 256) (omega arith)));
-      }
-
-  pub counting-end : i ≤ 0 → Laid at w (digits w value) s (at + w) out
-  unfolding digits
-  counting-end h =
-      let z : i ≡ 0 = omega arith in
-      let y : at + i ≡ at = omega arith in
-      record {
-        size = length_digits w value;
-        next = refl;
-        within = u.within;
-        length_is = u.length_is;
-        is = sym (take-append-drop at out) ∙ ap₂ (λ (x y : Bytes). x ++ y) u.kept (sym (u.is ∙ ap₂ (λ (n m : ℕ). digits n v ++ drop m out) z y));
-      }
-
--- `put_bytes`, by what `copy` leaves in the rest of the buffer
-pub laid-copy : (t : Bytes) (a : ℕ) (src : Bytes) {k : ℕ} {part : Bytes} → a + length src ≤ length t → k ≡ length src → part ≡ take (length src) src ++ drop (length src) (take (length t - a) (drop a t))
-    → Laid a (length src) src t (a + k) (put_mid a (length t - a) t part)
-laid-copy t a src {k} {part} h e f = laid-lent t a (omega arith) (record {
-  size = refl;
-  next = omega arith;
-  within = omega (arith, rest-long t a);
-  length_is = ap length f ∙ length-append (take (length src) src) (drop (length src) (take (length t - a) (drop a t))) ∙ omega (arith, length-take-le (length src) src (omega arith), length-drop (length src) (take (length t - a) (drop a t)), rest-long t a);
-  is = f ∙ ap₂ (λ (x : Bytes) (m : ℕ). x ++ drop m (take (length t - a) (drop a t))) (take-length src) (sym e);
-})
+-- the same bytes in so many places, said otherwise
+pub laid-digits : {at n m r : ℕ} {b d s t : Bytes} → Laid at m b s r t → b ≡ d → length d ≡ n → Laid at n d s r t
+laid-digits {at} {n} {m} {r} {b} {d} {s} {t} v e l = subst (λ (k : ℕ). Laid at k d s r t) l (laid_as v e)
 
 -- "a length byte and its bytes"
-pub laid-piece : {b s t u : Bytes} {at a r : ℕ} → Laid at 1 (length b ∷ []) s a t → Laid a (length b) b t r u → Laid at (length b + 1) (piece_bytes b) s r u
-laid-piece {b} {s} {u = u} {at = at} {r = r} v w = subst (λ (n : ℕ). Laid at n (piece_bytes b) s r u) (omega arith) (laid_then v w)
-
--- `put_own`: the first j bytes stand
-pub record Copying (s : Bytes) (at from len j : ℕ) (t : Bytes) : Type 0 where
-  pub low : j ≤ len
-  pub laid : Laid at j (bytes_at s from j) s (at + j) t
-
-pub copying-start : (s : Bytes) (at from len : ℕ) → at ≤ length s → Copying s at from len 0 s
-copying-start s at from len h = record { low = omega arith; laid = let e : at + 0 ≡ at = omega arith in rw e (laid_none s at h) }
-
-module _ {s : Bytes} {at from len j : ℕ} {t : Bytes} (v : Copying s at from len j t) where
-  pub copying-more : from + len ≤ at → at + len ≤ length s → j < len → Copying s at from len (j + 1) (set t (at + j) (get_or t (from + j) 0))
-  copying-more h g l = record {
-    low = omega arith;
-    laid =
-        subst (λ (k : ℕ). Laid at (j + 1) (bytes_at s from (j + 1)) s k (set t (at + j) x)) (omega arith)
-        (subst (λ (y : Bytes). Laid at (j + 1) y s (at + j + 1) (set t (at + j) x)) e (laid_then v.laid (laid-byte t (at + j) x (omega arith))));
-  }
-    where
-      x : ℕ
-      x = get_or t (from + j) 0
-
-      same : x ≡ get_or (drop from s) j 0
-      same =
-          sym (get_or-take at t (from + j) 0 (omega arith)) ∙ ap (λ (y : Bytes). get_or y (from + j) 0) (laid_kept v.laid)
-          ∙ get_or-take at s (from + j) 0 (omega arith) ∙ sym (get_or-drop from s j 0)
-
-      e : bytes_at s from j ++ (x ∷ []) ≡ bytes_at s from (j + 1)
-      e =
-          ap (λ (y : ℕ). bytes_at s from j ++ (y ∷ [])) same
-          ∙ sym (ap (λ (m : ℕ). take m (drop from s)) (add-one j) ∙ take-suc (drop from s) j 0 (omega (arith, length-drop from s)))
-
-  pub copying-end : len ≤ j → Laid at len (bytes_at s from len) s (at + len) t
-  copying-end h = let e : j ≡ len = omega arith in subst (λ (k : ℕ). Laid at k (bytes_at s from k) s (at + k) t) e v.laid
+pub laid_piece : {b s t u : Bytes} {at a r : ℕ} → Laid at 1 (length b ∷ []) s a t → Laid a (length b) b t r u → Laid at (length b + 1) (piece_bytes b) s r u
+laid_piece {b} {s} {u = u} {at = at} {r = r} v w = subst (λ (n : ℕ). Laid at n (piece_bytes b) s r u) (omega arith) (laid_then v w)

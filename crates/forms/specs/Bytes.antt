@@ -1,31 +1,31 @@
 -- Document 01, "Order: bytewise unsigned, a proper prefix first": the order of byte lists, of which equal and less are taken.
 -- Assumes nothing.
 use Rattle.std.specs.Prelude.{Bool, true, false, List, [], ◌∷◌, ℕ, ◌<◌, ltb, length, get_or, take, drop}
-use Rattle.forms.specs.declared.key.Order.{Order}
-use Rattle.forms.specs.declared.key.Order.TheVariants.{Less, Equal, Greater}
+use Rattle.std.specs.declared.cmp.Ordering.{Ordering}
+use Rattle.std.specs.declared.cmp.Ordering.TheVariants.{Less, Equal, Greater}
 
 abbrev pub Bytes : Type 0
 Bytes = List ℕ
 
 -- less, greater, and else what the rest says
-abbrev pub pick : Bool → Bool → Order → Order
+abbrev pub pick : Bool → Bool → Ordering → Ordering
 pick true g o = Less
 pick false true o = Greater
 pick false false o = o
 
 -- "bytewise unsigned, a proper prefix first"
-unfoldable pub cmp : Bytes → Bytes → Order
+unfoldable pub cmp : Bytes → Bytes → Ordering
 cmp [] [] = Equal
 cmp [] (y ∷ ys) = Less
 cmp (x ∷ xs) [] = Greater
 cmp (x ∷ xs) (y ∷ ys) = pick (ltb x y) (ltb y x) (cmp xs ys)
 
-abbrev pub is_less : Order → Bool
+abbrev pub is_less : Ordering → Bool
 is_less Less = true
 is_less Equal = false
 is_less Greater = false
 
-abbrev pub is_equal : Order → Bool
+abbrev pub is_equal : Ordering → Bool
 is_equal Less = false
 is_equal Equal = true
 is_equal Greater = false

@@ -2,6 +2,8 @@
 -- A reader takes what it reads off the front of bytes and hands on the rest, or refuses; `do` joins readers in the order of the paper.
 -- Assumes nothing.
 use Rattle.std.specs.Prelude.{ℕ, zero, suc, Bool, true, false, List, [], ◌∷◌, length, take, drop, leb}
+use Rattle.std.specs.Prelude as code
+use Rattle.std.specs.Borrow.{Bor}
 use Rattle.std.proofs.Math.Option.{Option, none, some}
 use Rattle.forms.specs.Bytes.{Bytes}
 
@@ -29,6 +31,11 @@ just x s = some (record { got = x; rest = s })
 abbrev pub when : {A : Type 0} → Bool → A → Option A
 when true x = some x
 when false x = none
+
+-- bytes that may be missing, as the code is lent them
+abbrev pub given : code.Option (Bor Bytes) → Option Bytes
+given code.None = none
+given (code.Some s) = some s.now
 
 -- the value, where the test holds; else a refusal
 unfoldable pub only : {A : Type 0} → Bool → A → Reader A

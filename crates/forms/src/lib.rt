@@ -8,14 +8,12 @@ pub mod number;
 pub mod ones;
 pub mod part;
 pub mod row;
-pub mod two;
 pub mod writers;
 
 pub use batch::{Entries, Entry, keys_of, mutations_of};
-pub use key::{Order, below, compare, key_in_form, same};
-pub use number::{Number, Width, bytes_in, number_at};
+pub use key::{below, compare, key_in_form, same};
+pub use number::{Width, bytes_in, number_at};
 pub use ones::{one_key, one_mutation};
 pub use part::{Part, part_at};
 pub use row::{Mask, bones_in, old_row_in_form, row_in_form};
-pub use two::{both, either, larger, longer};
 pub use writers::{put_byte, put_bytes, put_digits, put_own, put_piece};

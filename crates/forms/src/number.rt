@@ -3,53 +3,28 @@ ghost use Rattle.std.specs.Prelude.{◌≡◌};
 ghost use Rattle.forms.specs.Numbers.{width_of};
 ghost use Rattle.forms.specs.Places.{NumberAt};
 
-// The widths that the forms use.
+// The widths that the forms use. An enum and no const parameter: every width of the type fits a u64, where a number would need a clause that says so.
 #[derive(Clone, Copy)]
 pub enum Width {
-    Two,
-    Four,
-    Eight,
+    Two = 2,
+    Four = 4,
+    Eight = 8,
 }
 
 pub fn bytes_in(width: Width) -> usize
     ensures { result ≡ width_of width }
 {
-    match width {
-        Width::Two => 2,
-        Width::Four => 4,
-        Width::Eight => 8,
-    }
+    width as usize
 }
 
-// What stands at a place; not ok, and 0, where the bytes end before it does.
-#[derive(Clone, Copy)]
-pub struct Number {
-    pub ok: bool,
-    pub value: u64,
-}
-
-pub fn number_at(s: &[u8], at: usize, width: Width) -> Number
+// What stands at a place; none where the bytes end before it does.
+pub fn number_at(s: &[u8], at: usize, width: Width) -> Option<u64>
     ensures { NumberAt (width_of width) s.now at result }
 {
-    let w = bytes_in(width);
-    if s.len() < w {
-        return Number {
-            ok: false,
-            value: 0,
-        };
-    }
-    if s.len() - w < at {
-        return Number {
-            ok: false,
-            value: 0,
-        };
-    }
-    let end = at + w;
+    let bytes = s.get(at..)?.get(..bytes_in(width))?;
     let mut value: u64 = 0;
-    let mut i = at;
-    while i < end {
-        value = value * 256 + (s[i] as u64);
-        i += 1;
+    for byte in bytes {
+        value = value * 256 + u64::from(*byte);
     }
-    Number { ok: true, value }
+    Some(value)
 }

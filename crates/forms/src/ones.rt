@@ -8,14 +8,14 @@ ghost use Rattle.forms.specs.Writers.{Laid};
 use crate::number::Width;
 use crate::writers::{put_byte, put_digits, put_piece};
 
-// How many bytes go behind a length byte: all that fit one, and else none.
-fn fitting(s: &[u8]) -> usize
-    ensures { result ≡ length (fitted s.now) }
+// What goes behind a length byte: all that fits one, and else nothing.
+fn fitting(s: &[u8]) -> &[u8]
+    ensures { result.now ≡ fitted s.now }
 {
     if 255 < s.len() {
-        return 0;
+        return &[];
     }
-    s.len()
+    s
 }
 
 // Behind their length byte, the bytes that fit one.
@@ -23,11 +23,11 @@ fn put_fitting(out: &mut [u8], at: usize, s: &[u8]) -> usize
     requires { at + 256 ≤ length out.old }
     ensures { Laid at (length (fitted s.now) + 1) (piece_bytes (fitted s.now)) out.old result out.new }
 {
-    let n = fitting(s);
-    put_piece(out, at, &s[..n])
+    put_piece(out, at, fitting(s))
 }
 
-// A mutation batch of one entry, over the front of the buffer; how many bytes it has.
+// A mutation batch of one entry, over the front of the buffer; how many bytes it has. Whether it puts and the row are two arguments, as in the
+// single call, where "a Delete's row argument is ignored": it ends here.
 pub fn one_mutation(out: &mut [u8], key: &[u8], put: bool, row: &[u8]) -> usize
     requires { 515 ≤ length out.old }
     ensures { Laid 0 (length (one_mutation (record { key = key.now; row = when put row.now }))) (one_mutation (record { key = key.now; row = when put row.now })) out.old result out.new }

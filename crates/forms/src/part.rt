@@ -1,38 +1,40 @@
 // "a length byte and its bytes": the piece that keys, rows, texts and primaries all stand in.
-ghost use Rattle.std.specs.Prelude.{◌≡◌};
-ghost use Rattle.forms.specs.Places.{PartAt, no_part};
+ghost use Rattle.std.specs.Prelude.{◌≡◌, ◌+◌, ◌≤◌, ◌<◌, ◌^◌, length};
+ghost use Rattle.forms.specs.Places.{part_of, PartAt};
 
-// Where a piece's bytes lie; not ok, and zeros, where the bytes end before it does.
-#[derive(Clone, Copy)]
+// Where a piece's bytes lie.
+#[derive(Clone, Copy, Default)]
 pub struct Part {
-    pub ok: bool,
     pub at: usize,
     pub len: usize,
 }
 
-pub(crate) fn no_part() -> Part
-    ensures { result ≡ no_part }
-{
-    Part {
-        ok: false,
-        at: 0,
-        len: 0,
+impl Part {
+    // Where what follows it begins.
+    pub fn end(self) -> usize
+        requires { self.at + self.len < 2 ^ 64 }
+        ensures { result ≡ self.at + self.len }
+    {
+        self.at + self.len
+    }
+
+    // Its bytes.
+    pub fn of<'a>(self, s: &'a [u8]) -> &'a [u8]
+        requires { self.at + self.len ≤ length s.now }
+        ensures { result.now ≡ part_of s.now self }
+    {
+        &s[self.at..self.at + self.len]
     }
 }
 
-pub fn part_at(s: &[u8], at: usize) -> Part
+// The piece at a place; none where the bytes end before it does.
+#[tactic(auto, using(crate::proofs::ReaderLaws::part_none, crate::proofs::ReaderLaws::part_short, crate::proofs::ReaderLaws::part_good))]
+pub fn part_at(s: &[u8], at: usize) -> Option<Part>
     ensures { PartAt s.now at result }
 {
-    if s.len() <= at {
-        return no_part();
+    let len = usize::from(*s.get(at)?);
+    if s.len() - at - 1 < len {
+        return None;
     }
-    let n = s[at] as usize;
-    if s.len() - at - 1 < n {
-        return no_part();
-    }
-    Part {
-        ok: true,
-        at: at + 1,
-        len: n,
-    }
+    Some(Part { at: at + 1, len })
 }

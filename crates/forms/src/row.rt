@@ -2,132 +2,79 @@
 ghost use Rattle.std.specs.Prelude.{◌≡◌, ◌+◌, ◌≤◌, length, drop};
 ghost use Rattle.forms.specs.Bytes.{bytes_at};
 ghost use Rattle.forms.specs.Readers.{piece, times};
-ghost use Rattle.forms.specs.Row.{integers, texts, fields, old_row_form, mask_bytes, spares_zero, bones, row_form};
-ghost use Rattle.forms.specs.Places.{CountAt, RestAt, rest_of, BonesAt, no_mask, RowBones};
+ghost use Rattle.forms.specs.Row.{integers, texts, fields, old_row_form, mask_bytes, spares_zero, row_form};
+ghost use Rattle.forms.specs.Places.{CountAt, RestAt, rest_of, BonesAt, RowBones};
 
 use crate::part::part_at;
 
-// Where a section ends; not ok, and 0, where the bytes are not in its form.
-#[derive(Clone, Copy)]
-pub struct Rest {
-    pub ok: bool,
-    pub at: usize,
-}
-
-// How many a section has; not ok, and 0, where the bytes end before its count or it is above 8.
-#[derive(Clone, Copy)]
-pub struct Count {
-    pub ok: bool,
-    pub n: usize,
-}
-
-// "count byte 0 to 8"
-fn count_at(s: &[u8], at: usize) -> Count
+// "count byte 0 to 8": how many a section has; none where the bytes end before its count, or it is above 8.
+#[tactic(auto, using(crate::proofs::RowLaws::count_none, crate::proofs::RowLaws::count_many, crate::proofs::RowLaws::count_good))]
+fn count_at(s: &[u8], at: usize) -> Option<usize>
     ensures { CountAt s.now at result }
 {
-    if s.len() <= at {
-        return Count { ok: false, n: 0 };
-    }
-    let n = s[at] as usize;
+    let n = usize::from(*s.get(at)?);
     if 8 < n {
-        return Count { ok: false, n: 0 };
+        return None;
     }
-    Count { ok: true, n: n }
+    Some(n)
 }
 
-// "count byte 0 to 8, that many 8-byte signed integers"
-fn integers_end(s: &[u8], at: usize) -> Rest
+// "count byte 0 to 8, that many 8-byte signed integers": where they end.
+#[tactic(auto, using(crate::proofs::RowLaws::integers_none, crate::proofs::RowLaws::integers_short, crate::proofs::RowLaws::integers_good))]
+fn integers_end(s: &[u8], at: usize) -> Option<usize>
     ensures { RestAt s.now (rest_of (integers (drop at s.now))) result }
 {
-    let count = count_at(s, at);
-    if !count.ok {
-        return Rest { ok: false, at: 0 };
-    }
-    let size = 8 * count.n;
+    let size = 8 * count_at(s, at)?;
     if s.len() - at - 1 < size {
-        return Rest { ok: false, at: 0 };
+        return None;
     }
-    Rest {
-        ok: true,
-        at: at + 1 + size,
-    }
+    Some(at + 1 + size)
 }
 
-// "that many texts, each a length byte and its bytes"
-fn pieces_end(s: &[u8], at: usize, count: usize) -> Rest
+// "that many texts, each a length byte and its bytes": where they end.
+fn pieces_end(s: &[u8], at: usize, count: usize) -> Option<usize>
     requires { at ≤ length s.now }
     ensures { RestAt s.now (rest_of (times count piece (drop at s.now))) result }
 {
     let mut end = at;
-    let mut left = count;
-    while 0 < left {
-        let p = part_at(s, end);
-        if !p.ok {
-            return Rest { ok: false, at: 0 };
-        }
-        end = p.at + p.len;
-        left -= 1;
+    for _ in 0..count {
+        end = part_at(s, end)?.end();
     }
-    Rest { ok: true, at: end }
+    Some(end)
 }
 
-// "count byte 0 to 8, that many texts, each a length byte and its bytes"
-fn texts_end(s: &[u8], at: usize) -> Rest
+// "count byte 0 to 8, that many texts, each a length byte and its bytes": where they end.
+#[tactic(auto, using(crate::proofs::RowLaws::texts_none, crate::proofs::RowLaws::texts_are, crate::proofs::RowLaws::rest_as))]
+fn texts_end(s: &[u8], at: usize) -> Option<usize>
     ensures { RestAt s.now (rest_of (texts (drop at s.now))) result }
 {
-    let count = count_at(s, at);
-    if !count.ok {
-        return Rest { ok: false, at: 0 };
-    }
-    pieces_end(s, at + 1, count.n)
+    let count = count_at(s, at)?;
+    pieces_end(s, at + 1, count)
 }
 
-// Document 01's two sections, one after the other.
-fn fields_end(row: &[u8]) -> Rest
+// Document 01's two sections, one after the other: where they end.
+#[tactic(auto, using(crate::proofs::RowLaws::fields_none, crate::proofs::RowLaws::fields_are, crate::proofs::RowLaws::rest_as))]
+fn fields_end(row: &[u8]) -> Option<usize>
     ensures { RestAt row.now (rest_of (fields row.now)) result }
 {
-    let integers = integers_end(row, 0);
-    if !integers.ok {
-        return Rest { ok: false, at: 0 };
-    }
-    texts_end(row, integers.at)
+    let end = integers_end(row, 0)?;
+    texts_end(row, end)
 }
 
 // Document 01's own form: "Length 2 to 255", its sections, and nothing after them.
+#[tactic(auto, using(crate::proofs::RowLaws::old_ends), unfolding(crate::specs::Row::old_row_form))]
 pub fn old_row_in_form(row: &[u8]) -> bool
     ensures { result ≡ old_row_form row.now }
 {
-    if row.len() < 2 {
-        return false;
-    }
-    if 255 < row.len() {
-        return false;
-    }
-    let fields = fields_end(row);
-    if !fields.ok {
-        return false;
-    }
-    fields.at == row.len()
+    2 <= row.len() && row.len() <= 255 && fields_end(row) == Some(row.len())
 }
 
-// A row's bones: how many, and from where to where their mask lies. Not ok, and zeros, where the bytes are not in form.
+// A row's bones: how many, and from where to where their mask lies.
 #[derive(Clone, Copy)]
 pub struct Mask {
-    pub ok: bool,
     pub count: usize,
     pub at: usize,
     pub end: usize,
-}
-
-fn no_mask() -> Mask
-    ensures { result ≡ no_mask }
-{
-    Mask {
-        ok: false,
-        count: 0,
-        at: 0,
-        end: 0,
-    }
 }
 
 // "spare bits zero": what the last byte holds above the last bone, where the bones do not fill it.
@@ -136,59 +83,42 @@ fn spares_zero(s: &[u8], at: usize, n: usize) -> bool
     ensures { result ≡ spares_zero n (bytes_at s.now at (mask_bytes n)) }
 {
     let filled = n % 8;
-    if filled == 0 {
-        return true;
-    }
-    s[at + n / 8] >> filled == 0
+    filled == 0 || s[at + n / 8] >> filled == 0
 }
 
 // "a bone count byte 0 to 255, then the fewest bytes that hold one bit a bone, .. spare bits zero"
-fn bones_at(s: &[u8], at: usize) -> Mask
-    ensures { BonesAt s.now (bones (drop at s.now)) result }
+fn bones_at(s: &[u8], at: usize) -> Option<Mask>
+    ensures { BonesAt s.now at result }
 {
-    if s.len() <= at {
-        return no_mask();
+    let count = usize::from(*s.get(at)?);
+    let size = (count + 7) / 8;
+    if s.len() - at - 1 < size || !spares_zero(s, at + 1, count) {
+        return None;
     }
-    let n = s[at] as usize;
-    let size = (n + 7) / 8;
-    if s.len() - at - 1 < size {
-        return no_mask();
-    }
-    if !spares_zero(s, at + 1, n) {
-        return no_mask();
-    }
-    Mask {
-        ok: true,
-        count: n,
+    Some(Mask {
+        count,
         at: at + 1,
         end: at + 1 + size,
-    }
+    })
 }
 
 // The bones of a row: "Lengths stay at most 255, the smallest row is 00 00 00", the sections in their order, and nothing after them.
-pub fn bones_in(row: &[u8]) -> Mask
+pub fn bones_in(row: &[u8]) -> Option<Mask>
     ensures { RowBones row.now result }
 {
-    if row.len() < 3 {
-        return no_mask();
+    if row.len() < 3 || 255 < row.len() {
+        return None;
     }
-    if 255 < row.len() {
-        return no_mask();
+    let end = fields_end(row)?;
+    let mask = bones_at(row, end)?;
+    if mask.end != row.len() {
+        return None;
     }
-    let fields = fields_end(row);
-    if !fields.ok {
-        return no_mask();
-    }
-    let b = bones_at(row, fields.at);
-    if b.end != row.len() {
-        return no_mask();
-    }
-    b
+    Some(mask)
 }
 
 pub fn row_in_form(row: &[u8]) -> bool
     ensures { result ≡ row_form row.now }
 {
-    let b = bones_in(row);
-    b.ok
+    bones_in(row).is_some()
 }

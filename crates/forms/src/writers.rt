@@ -6,6 +6,7 @@ ghost use Rattle.forms.specs.Writers.{Laid, PieceAsks};
 
 use crate::number::{Width, bytes_in};
 
+#[tactic(auto, using(crate::proofs::WriterLaws::laid_byte))]
 pub fn put_byte(out: &mut [u8], at: usize, b: u8) -> usize
     requires { at < length out.old }
     ensures { Laid at 1 (b ∷ []) out.old result out.new }
@@ -14,20 +15,12 @@ pub fn put_byte(out: &mut [u8], at: usize, b: u8) -> usize
     at + 1
 }
 
-// "Numbers are big-endian": the lowest bytes of a number, from the last to the first.
+// "Numbers are big-endian": the lowest bytes of a number.
 pub fn put_digits(out: &mut [u8], at: usize, width: Width, value: u64) -> usize
     requires { at + width_of width ≤ length out.old }
     ensures { Laid at (width_of width) (digits (width_of width) value) out.old result out.new }
 {
-    let w = bytes_in(width);
-    let mut i = w;
-    let mut v = value;
-    while 0 < i {
-        i -= 1;
-        out[at + i] = (v % 256) as u8;
-        v = v / 256;
-    }
-    at + w
+    put_bytes(out, at, &value.to_be_bytes()[8 - bytes_in(width)..])
 }
 
 pub fn put_bytes(out: &mut [u8], at: usize, src: &[u8]) -> usize
@@ -40,6 +33,7 @@ pub fn put_bytes(out: &mut [u8], at: usize, src: &[u8]) -> usize
 }
 
 // "a length byte and its bytes"
+#[tactic(auto, using(crate::proofs::WriterLaws::laid_piece))]
 pub fn put_piece(out: &mut [u8], at: usize, src: &[u8]) -> usize
     requires { PieceAsks src.now (length src.now + 1) at out.old }
     ensures { Laid at (length src.now + 1) (piece_bytes src.now) out.old result out.new }
@@ -53,10 +47,6 @@ pub fn put_own(out: &mut [u8], at: usize, from: usize, len: usize) -> usize
     requires { (from + len ≤ at) × (at + len ≤ length out.old) }
     ensures { Laid at len (bytes_at out.old from len) out.old result out.new }
 {
-    let mut j: usize = 0;
-    while j < len {
-        out[at + j] = out[from + j];
-        j += 1;
-    }
+    out.copy_within(from..from + len, at);
     at + len
 }

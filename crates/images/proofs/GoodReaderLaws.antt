@@ -1,11 +1,12 @@
 -- Readers that let only good entries in: what one, many and a section of them read, and that document 01's readers read the same entries.
 -- Assumes nothing.
 use Prim.Native.Nat.{ℕ, zero, suc}
-use native.Mathlib.Omega.{arith}
 use mathlib.Core.Path.{◌≡◌, refl, sym, ◌∙◌, ap}
 use mathlib.Core.Bool.{Bool, true, false, not, ◌&&◌, true≢false, false≢true}
 use mathlib.Core.List.{List, [], ◌∷◌, map}
-use mathlib.Core.Option.{Option, none, some}
+use mathlib.Core.Option.{none, some}
+use mathlib.Core.Option as maths
+use Rattle.std.specs.Prelude.{Option, Some, None}
 use lib.ListN.{drop}
 use lib.Dec.{eqb}
 use borrow.Author.Tests.{not-true, not-false}
@@ -13,74 +14,45 @@ use Rattle.forms.specs.Bytes.{Bytes}
 use Rattle.forms.specs.Row.{Row}
 use Rattle.forms.specs.Readers.{Read, Reader, read_on, ◌>>=◌, just, when, byte, piece, times, section, is_some}
 use Rattle.forms.specs.Numbers.{number_of}
-use Rattle.forms.specs.Places.{found}
 use Rattle.forms.proofs.ReaderLaws.{read_more, times-bad, times_more}
 use Rattle.rules.specs.Box as box
 use Rattle.rules.specs.declared.records.Kind.{Kind}
 use Rattle.rules.specs.Page.{KeyLock}
 use Rattle.rules.specs.Image.{KeyRecord, kind_if, kind_from, default_from, lock_from, key_lock_from, write_from}
 use Rattle.rules.specs.Restore.{all_good, good_default_by, good_lock, good_write}
-use Rattle.images.specs.Entries.{Raw, End, tail_from, entry_from, raw_of, EntryAt, no_entry}
+use Rattle.images.specs.Entries as entries
+use Rattle.images.specs.Entries.{Raw, End, kind_by, tail_from, entry_from, raw_of, EntryIs}
 use Rattle.images.specs.declared.entries.Section.{Section}
 use Rattle.images.specs.declared.entries.Section.TheVariants.{Default, Lock, Write}
 use Rattle.images.specs.declared.entries.ImageEntry.{ImageEntry}
-use Rattle.images.specs.Good.{known, known_by, kind_by, default_of, key_lock_of, key_record_of, fits, pass, good_from, Lies, GoodAt}
+use Rattle.images.specs.Good.{known, kind_of, default_of, key_lock_of, key_record_of, fits, pass, good_from, GoodAt}
 
 -- ---- `good_at`
 
-module _ (form : Row → Bool) (section : Section) (t : ℕ) {s : Bytes} {at : ℕ} where
-  nothing : good_from form section t (drop at s) ≡ none → GoodAt form section t s at no_entry
-  nothing e = record {
-    is = e;
-    lies = record { key_in = omega arith; piece_in = omega arith };
-    next_in = omega arith;
-    key_small = omega arith;
-    piece_small = omega arith;
-    from = λ g. absurd (true≢false g);
-    raw = λ g. absurd (true≢false g);
-  }
+module _ (form : Row → Bool) (section : Section) (t : ℕ) (s : Bytes) (at : ℕ) where
+  pub good_none : entry_from section (drop at s) ≡ none → GoodAt form section t s at None
+  unfolding good_from pass
+  good_none e = ap (pass (fits form section t)) e
 
-  module _ {e : ImageEntry} (v : EntryAt section s at e) where
-    pub entry-lies : Lies s e
-    entry-lies = record { key_in = v.key_in; piece_in = v.piece_in }
+  module _ {e : ImageEntry} (v : EntryIs section s at e) {b : Bool} (g : b ≡ fits form section t (raw_of s e)) where
+    tested : (c : Bool) → b ≡ c → good_from form section t (drop at s) ≡ when c (record { got = raw_of s e; rest = drop e.next s })
+    unfolding good_from pass
+    tested c h = ap (pass (fits form section t)) v.read.is ∙ ap (λ (d : Bool). when d (record { got = raw_of s e; rest = drop e.next s })) (sym g ∙ h)
 
-    read : (b : Bool) → e.ok ≡ b → good_from form section t (drop at s) ≡ pass (fits form section t) (found s b (raw_of s e) e.next)
-    unfolding good_from
-    read b h = ap (pass (fits form section t)) (v.is ∙ ap (λ (c : Bool). found s c (raw_of s e) e.next) h)
+    pub good-bad : not b ≡ true → GoodAt form section t s at None
+    good-bad h = tested false (not-true b h)
 
-    pub good_none : not e.ok ≡ true → GoodAt form section t s at no_entry
-    unfolding pass
-    good_none h = nothing (read false (not-true e.ok h))
-
-    module _ (ok : not e.ok ≡ false) {b : Bool} (g : b ≡ fits form section t (raw_of s e)) where
-      tested : good_from form section t (drop at s) ≡ when b (record { got = raw_of s e; rest = drop e.next s })
-      unfolding pass
-      tested = read true (not-false e.ok ok) ∙ ap (λ (c : Bool). when c (record { got = raw_of s e; rest = drop e.next s })) (sym g)
-
-      pub good-bad : not b ≡ true → GoodAt form section t s at no_entry
-      good-bad h = nothing (tested ∙ ap (λ (c : Bool). when c (record { got = raw_of s e; rest = drop e.next s })) (not-true b h))
-
-      pub good-good : not b ≡ false → GoodAt form section t s at e
-      good-good h = record {
-        is =
-            tested ∙ ap (λ (c : Bool). when c (record { got = raw_of s e; rest = drop e.next s })) (not-false b h)
-            ∙ sym (ap (λ (c : Bool). found s c (raw_of s e) e.next) (not-false e.ok ok));
-        lies = entry-lies;
-        next_in = v.next_in;
-        key_small = v.key_small;
-        piece_small = v.piece_small;
-        from = v.from;
-        raw = λ q. v.raw;
-      }
+    pub good-good : not b ≡ false → GoodAt form section t s at (Some e)
+    good-good h = record { read = record { is = tested true (not-false b h); within = v.read.within }; entry = v }
 
 -- ---- document 01's readers
 
-abbrev pub map_read : {A B : Type 0} → (A → B) → Option (Read A) → Option (Read B)
+abbrev pub map_read : {A B : Type 0} → (A → B) → maths.Option (Read A) → maths.Option (Read B)
 map_read f none = none
 map_read f (some q) = some (record { got = f q.got; rest = q.rest })
 
 -- two chains that begin with the same reader
-on_both : {A B C : Type 0} (P : Option (Read B) → Option (Read C) → Type 0) → P none none → (o : Option (Read A)) (f : A → Reader B) (g : A → Reader C) → ((x : A) (u : Bytes) → P (f x u) (g x u)) → P (read_on o f) (read_on o g)
+on_both : {A B C : Type 0} (P : maths.Option (Read B) → maths.Option (Read C) → Type 0) → P none none → (o : maths.Option (Read A)) (f : A → Reader B) (g : A → Reader C) → ((x : A) (u : Bytes) → P (f x u) (g x u)) → P (read_on o f) (read_on o g)
 unfolding read_on
 on_both P z none f g h = z
 on_both P z (some q) f g h = h q.got q.rest
@@ -108,15 +80,14 @@ module _ (k : Bytes) where
     abbrev of_kind : Kind → Reader box.Lock
     of_kind i = just (record { txn = n; primary = p; start = b; ttl = c; kind = i })
 
-    abbrev raw : ℕ → Raw
+    abbrev raw : Option Kind → Raw
     raw z = record { key = k; first = n; piece = p; second = b; third = c; kind = z }
 
-    lock-kind : (z : ℕ) (u : Bytes) → read_on (read_on (kind_if (eqb z 1) (eqb z 2) (eqb z 3) u) of_kind) locked ≡ map_read key_lock_of (pass known_raw (some (record { got = raw z; rest = u })))
+    lock-kind : (z : ℕ) (u : Bytes) → read_on (read_on (kind_if (eqb z 1) (eqb z 2) (eqb z 3) u) of_kind) locked ≡ map_read key_lock_of (pass known_raw (some (record { got = raw (entries.kind_from z); rest = u })))
     unfolding read_on just kind_if pass
-    lock-kind z u = go (eqb z 1) (eqb z 2) (eqb z 3) ∙ when-map key_lock_of (known z) (raw z) u
+    lock-kind z u = go (eqb z 1) (eqb z 2) (eqb z 3)
       where
-        go : (a d r : Bool) → read_on (read_on (kind_if a d r u) of_kind) locked
-            ≡ when (known_by a d r) (record { got = record { key = k; lock = record { txn = n; primary = p; start = b; ttl = c; kind = kind_by a d } }; rest = u })
+        go : (a d r : Bool) → read_on (read_on (kind_if a d r u) of_kind) locked ≡ map_read key_lock_of (pass known_raw (some (record { got = raw (kind_by a d r); rest = u })))
         go true d r = refl
         go false true r = refl
         go false false true = refl
@@ -144,14 +115,14 @@ module _ (k : Bytes) (w b c : ℕ) where
   abbrev write_kind : Kind → Reader KeyRecord
   write_kind i = just (record { key = k; write = record { stamp = w; start = b; commit = c; kind = i } })
 
-  abbrev written : ℕ → Raw
+  abbrev written : Option Kind → Raw
   written z = record { key = k; first = w; piece = []; second = b; third = c; kind = z }
 
-  write-kind : (z : ℕ) (u : Bytes) → read_on (kind_if (eqb z 1) (eqb z 2) (eqb z 3) u) write_kind ≡ map_read key_record_of (pass known_raw (some (record { got = written z; rest = u })))
+  write-kind : (z : ℕ) (u : Bytes) → read_on (kind_if (eqb z 1) (eqb z 2) (eqb z 3) u) write_kind ≡ map_read key_record_of (pass known_raw (some (record { got = written (entries.kind_from z); rest = u })))
   unfolding read_on just kind_if pass
-  write-kind z u = go (eqb z 1) (eqb z 2) (eqb z 3) ∙ when-map key_record_of (known z) (written z) u
+  write-kind z u = go (eqb z 1) (eqb z 2) (eqb z 3)
     where
-      go : (a d r : Bool) → read_on (kind_if a d r u) write_kind ≡ when (known_by a d r) (record { got = record { key = k; write = record { stamp = w; start = b; commit = c; kind = kind_by a d } }; rest = u })
+      go : (a d r : Bool) → read_on (kind_if a d r u) write_kind ≡ map_read key_record_of (pass known_raw (some (record { got = written (kind_by a d r); rest = u })))
       go true d r = refl
       go false true r = refl
       go false false true = refl
@@ -174,12 +145,12 @@ write_same s =
 
 -- ---- only the good
 
-pass-map : {A B : Type 0} (f : A → B) (g : B → Bool) (o : Option (Read A)) → pass g (map_read f o) ≡ map_read f (pass (λ (x : A). g (f x)) o)
+pass-map : {A B : Type 0} (f : A → B) (g : B → Bool) (o : maths.Option (Read A)) → pass g (map_read f o) ≡ map_read f (pass (λ (x : A). g (f x)) o)
 unfolding pass
 pass-map f g none = refl
 pass-map f g (some q) = when-map f (g (f q.got)) q.got q.rest
 
-pass-pass : {A : Type 0} (g h : A → Bool) (o : Option (Read A)) → pass g (pass h o) ≡ pass (λ (x : A). h x && g x) o
+pass-pass : {A : Type 0} (g h : A → Bool) (o : maths.Option (Read A)) → pass g (pass h o) ≡ pass (λ (x : A). h x && g x) o
 unfolding pass
 pass-pass g h none = refl
 pass-pass g h (some q) = go (h q.got)
@@ -207,12 +178,12 @@ module _ (form : Row → Bool) where
 -- ---- many of them
 
 module _ {A B : Type 0} (g : A → Bool) (r : Reader A) (f : B → A) (q : Reader B) (same : (s : Bytes) → pass g (r s) ≡ map_read f (q s)) where
-  bad_more : (x : A) → g x ≡ false → (o : Option (Read (List A))) → pass (all_good g) (read_more x o) ≡ none
+  bad_more : (x : A) → g x ≡ false → (o : maths.Option (Read (List A))) → pass (all_good g) (read_more x o) ≡ none
   unfolding pass all_good
   bad_more x e none = refl
   bad_more x e (some l) = ap (λ (b : Bool). when (b && all_good g l.got) (record { got = x ∷ l.got; rest = l.rest })) e
 
-  kept_more : (x : A) → g x ≡ true → (o : Option (Read (List A))) → pass (all_good g) (read_more x o) ≡ read_more x (pass (all_good g) o)
+  kept_more : (x : A) → g x ≡ true → (o : maths.Option (Read (List A))) → pass (all_good g) (read_more x o) ≡ read_more x (pass (all_good g) o)
   unfolding pass all_good
   kept_more x e none = refl
   kept_more x e (some l) = ap (λ (b : Bool). when (b && all_good g l.got) (record { got = x ∷ l.got; rest = l.rest })) e ∙ go (all_good g l.got)
@@ -221,22 +192,22 @@ module _ {A B : Type 0} (g : A → Bool) (r : Reader A) (f : B → A) (q : Reade
       go true = refl
       go false = refl
 
-  map_more : (y : B) (p : Option (Read (List B))) → read_more (f y) (map_read (map f) p) ≡ map_read (map f) (read_more y p)
+  map_more : (y : B) (p : maths.Option (Read (List B))) → read_more (f y) (map_read (map f) p) ≡ map_read (map f) (read_more y p)
   map_more y none = refl
   map_more y (some m) = refl
 
-  abbrev or_read : Read A → Option (Read A) → Read A
+  abbrev or_read : Read A → maths.Option (Read A) → Read A
   or_read d none = d
   or_read d (some v) = v
 
-  step : (n : ℕ) → ((s : Bytes) → pass (all_good g) (times n r s) ≡ map_read (map f) (times n q s)) → (s : Bytes) (o : Option (Read A)) (p : Option (Read B)) → r s ≡ o → q s ≡ p → pass g o ≡ map_read f p
+  step : (n : ℕ) → ((s : Bytes) → pass (all_good g) (times n r s) ≡ map_read (map f) (times n q s)) → (s : Bytes) (o : maths.Option (Read A)) (p : maths.Option (Read B)) → r s ≡ o → q s ≡ p → pass g o ≡ map_read f p
       → pass (all_good g) (times (suc n) r s) ≡ map_read (map f) (times (suc n) q s)
   unfolding pass
   step n ih s none none e h k = ap (pass (all_good g)) (times-bad r n s e) ∙ sym (ap (map_read (map f)) (times-bad q n s h))
   step n ih s none (some y) e h k = absurd (false≢true (ap is_some k))
   step n ih s (some x) p e h k = go (g x.got) refl p h k
     where
-      go : (b : Bool) → g x.got ≡ b → (p : Option (Read B)) → q s ≡ p → when b x ≡ map_read f p → pass (all_good g) (times (suc n) r s) ≡ map_read (map f) (times (suc n) q s)
+      go : (b : Bool) → g x.got ≡ b → (p : maths.Option (Read B)) → q s ≡ p → when b x ≡ map_read f p → pass (all_good g) (times (suc n) r s) ≡ map_read (map f) (times (suc n) q s)
       go true a none h k = absurd (true≢false (ap is_some k))
       go true a (some y) h k =
           let z : x ≡ record { got = f y.got; rest = y.rest } = ap (or_read x) k in

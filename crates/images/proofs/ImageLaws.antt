@@ -6,6 +6,7 @@ use mathlib.Core.Path.{◌≡◌, refl, sym, ◌∙◌, ap, subst}
 use mathlib.Core.Bool.{Bool, true, false, not, ◌&&◌, true≢false, false≢true}
 use mathlib.Core.List.{List, [], ◌∷◌, map}
 use mathlib.Core.Option.{Option, none, some}
+use Rattle.std.specs.Prelude.{Some, None}
 use lib.ListN.{length, take, drop}
 use lib.Dec.{eqb}
 use borrow.Author.Tests.{eq-eqb, ne_eqb, not-true, not-false}
@@ -14,10 +15,8 @@ use Rattle.forms.specs.Row.{Row}
 use Rattle.forms.specs.Readers.{Read, Reader, read_on, ◌>>=◌, just, when, ended, whole, is_some}
 use Rattle.forms.specs.Readers as readers
 use Rattle.forms.specs.Numbers.{number_of}
-use Rattle.forms.specs.Places.{found, NumberAt}
-use Rattle.forms.specs.declared.number.Number.{Number}
+use Rattle.forms.specs.Places.{Found, IsNumber}
 use Rattle.forms.proofs.ReaderLaws.{ended_at}
-use Rattle.forms.proofs.NumberLaws.{number-bad, number-good, number_short, number-long}
 use Rattle.rules.specs.Box as box
 use Rattle.rules.specs.Page.{KeyLock}
 use Rattle.rules.specs.Image.{Image, KeyRecord, image, old_image, image_from, old_image_from, sections_from, default_from, key_lock_from, write_from}
@@ -29,7 +28,7 @@ use Rattle.images.proofs.ImageEntryLaws.{on_none, on_some}
 use Rattle.images.specs.declared.checks.Form.{Form}
 use Rattle.images.specs.declared.checks.Form.TheVariants.{Old, New}
 use Rattle.images.specs.Good.{default_of, key_lock_of, key_record_of, form_of, good_from, pass}
-use Rattle.images.specs.Sections.{SpanAt, image_in, is_good, HeadAt, image_of, SectionsAt, no_sections}
+use Rattle.images.specs.Sections.{SpanIs, image_in, is_good, HeadIs, HeadAt, image_of, SectionsAt}
 use Rattle.images.specs.declared.sections.Span.{Span}
 use Rattle.images.specs.declared.sections.Head.{Head}
 use Rattle.images.proofs.TestLaws.{and-out, and_last}
@@ -105,61 +104,43 @@ pass-some {A} g (some q) y e = go (g q.got) refl e
 
 -- ---- a section of document 01, by what the walk over it found
 
-module _ (form : Row → Bool) {A : Type 0} (section : Section) (t : ℕ) (g : A → Bool) (r : Reader A) (f : Raw → A) (same : (s : Bytes) → pass g (r s) ≡ map_read f (good_from form section t s)) {s : Bytes} {at : ℕ} {p : Span} {places : List ℕ} (v : SpanAt form section t s at p places) where
-  abbrev entries : List A
-  entries = map f (map (raw_at section s) (take p.count places))
+module _ (form : Row → Bool) {A : Type 0} (section : Section) (t : ℕ) (g : A → Bool) (r : Reader A) (f : Raw → A) (same : (s : Bytes) → pass g (r s) ≡ map_read f (good_from form section t s)) where
+  span-bad : (s : Bytes) (at : ℕ) → readers.section (number_of 2) (good_from form section t) (drop at s) ≡ none → pass (all_good g) (readers.section (number_of 2) r (drop at s)) ≡ none
+  span-bad s at h = pass-section g r f (good_from form section t) same (drop at s) ∙ ap (map_read (map f)) h
 
-  span-read : (b : Bool) → p.ok ≡ b → pass (all_good g) (readers.section (number_of 2) r (drop at s)) ≡ map_read (map f) (found s b (map (raw_at section s) (take p.count places)) p.end)
-  span-read b h = pass-section g r f (good_from form section t) same (drop at s) ∙ ap (map_read (map f)) (v.is ∙ ap (λ (c : Bool). found s c (map (raw_at section s) (take p.count places)) p.end) h)
-
-  span-bad : not p.ok ≡ true → pass (all_good g) (readers.section (number_of 2) r (drop at s)) ≡ none
-  span-bad h = span-read false (not-true p.ok h)
-
-  span-good : not p.ok ≡ false → Kept (all_good g) (readers.section (number_of 2) r (drop at s)) (record { got = entries; rest = drop p.end s })
-  span-good h = pass-some (all_good g) (readers.section (number_of 2) r (drop at s)) _ (span-read true (not-false p.ok h))
+  span-good : {s : Bytes} {at : ℕ} {p : Span} {places : List ℕ} → SpanIs form section t s at p places
+      → Kept (all_good g) (readers.section (number_of 2) r (drop at s)) (record { got = map f (map (raw_at section s) (take p.count places)); rest = drop p.end s })
+  span-good {s} {at} v = pass-some (all_good g) (readers.section (number_of 2) r (drop at s)) _ (pass-section g r f (good_from form section t) same (drop at s) ∙ ap (map_read (map f)) v.read.is)
 
 -- ---- the ways out of `head_at`
 
-module _ {s : Bytes} {t : Number} (tv : NumberAt 4 s 0 t) where
-  old-head : HeadAt Old s (record { ok = t.ok; table = t.value; floor = 0; end = 4 })
-  unfolding old_image whole old_image_from ended
-  old-head = record {
-    bad = λ h. ap ended (on_none (number_of 4) (λ (n : ℕ). sections_from n 0) (number-bad tv h));
-    good = λ h. ap ended (on_some (number_of 4) (λ (n : ℕ). sections_from n 0) (number-good tv h));
-    near = omega arith;
-  }
+abbrev floor_on : ℕ → Reader Image
+floor_on n = number_of 8 >>= sections_from n
 
-  pub head-old : {form : Form} → form ≡ Old → HeadAt form s (record { ok = t.ok; table = t.value; floor = 0; end = 4 })
-  head-old e = subst (λ (x : Form). HeadAt x s (record { ok = t.ok; table = t.value; floor = 0; end = 4 })) (sym e) old-head
+module _ (s : Bytes) where
+  pub head-no-table : (form : Form) → number_of 4 s ≡ none → HeadAt form s None
+  unfolding old_image whole old_image_from image image_from ended
+  head-no-table Old e = ap ended (on_none (number_of 4) (λ (n : ℕ). sections_from n 0) e)
+  head-no-table New e = ap ended (on_none (number_of 4) floor_on e)
 
-  module _ {f : Number} (fv : NumberAt 8 s 4 f) where
-    abbrev floor_on : ℕ → Reader Image
-    floor_on n = number_of 8 >>= sections_from n
+  module _ {t : ℕ} (tv : IsNumber 4 s 0 t) where
+    old-head : HeadIs Old s (record { table = t; floor = 0; end = 4 })
+    unfolding old_image whole old_image_from ended
+    old-head = record { is = ap ended (on_some (number_of 4) (λ (n : ℕ). sections_from n 0) tv.read.is); near = omega arith }
 
-    begins : (b : Bool) → not t.ok ≡ b → not f.ok ≡ false → not t.ok ≡ false
-    begins true h g = absurd (omega (arith, number_short tv h, number-long fv g))
-    begins false h g = h
+    pub head-old : {form : Form} → form ≡ Old → HeadIs form s (record { table = t; floor = 0; end = 4 })
+    head-old e = subst (λ (x : Form). HeadIs x s (record { table = t; floor = 0; end = 4 })) (sym e) old-head
 
-    ends : (b : Bool) → not t.ok ≡ b → not f.ok ≡ true → image_from s ≡ none
-    unfolding image_from
-    ends true h g = on_none (number_of 4) floor_on (number-bad tv h)
-    ends false h g = on_some (number_of 4) floor_on (number-good tv h) ∙ on_none (number_of 8) (sections_from t.value) (number-bad fv g)
+    pub head-no-floor : {form : Form} → form ≡ New → number_of 8 (drop 4 s) ≡ none → HeadAt form s None
+    unfolding image whole image_from ended
+    head-no-floor e h = subst (λ (x : Form). HeadAt x s None) (sym e) (ap ended (on_some (number_of 4) floor_on tv.read.is ∙ on_none (number_of 8) (sections_from t) h))
 
-    goes : not f.ok ≡ false → image_from s ≡ sections_from t.value f.value (drop 12 s)
-    unfolding image_from
-    goes g = on_some (number_of 4) floor_on (number-good tv (begins (not t.ok) refl g)) ∙ on_some (number_of 8) (sections_from t.value) (number-good fv g)
-
-    new-head : HeadAt New s (record { ok = f.ok; table = t.value; floor = f.value; end = 12 })
-    unfolding image whole ended
-    new-head = record { bad = λ h. ap ended (ends (not t.ok) refl h); good = λ h. ap ended (goes h); near = omega arith }
-
-    pub head-new : {form : Form} → form ≡ New → HeadAt form s (record { ok = f.ok; table = t.value; floor = f.value; end = 12 })
-    head-new e = subst (λ (x : Form). HeadAt x s (record { ok = f.ok; table = t.value; floor = f.value; end = 12 })) (sym e) new-head
+    pub head-new : {f : ℕ} {form : Form} → form ≡ New → IsNumber 8 s 4 f → HeadIs form s (record { table = t; floor = f; end = 12 })
+    unfolding image whole image_from ended
+    head-new {f} e v = subst (λ (x : Form). HeadIs x s (record { table = t; floor = f; end = 12 })) (sym e)
+        (record { is = ap ended (on_some (number_of 4) floor_on tv.read.is ∙ on_some (number_of 8) (sections_from t) v.read.is); near = omega arith })
 
 -- ---- the ways out of `sections_of`
-
-failed : (form : Form) {s : Bytes} → is_good (form_of form) (image_in form s) ≡ false → (ds ls ws : List ℕ) → SectionsAt form s no_sections ds ls ws
-failed form e ds ls ws = record { bad = λ h. e; good = λ h. absurd (true≢false h); few_defaults = omega arith; few_locks = omega arith; few_writes = omega arith }
 
 abbrev image_with : ℕ → ℕ → List box.Default → List KeyLock → List KeyRecord → Image
 image_with t f ds ls ws = record { table = t; floor = f; defaults = ds; locks = ls; writes = ws }
@@ -176,107 +157,103 @@ defaults_on t f ds = readers.section (number_of 2) key_lock_from >>= locks_on t 
 abbrev head_on : ℕ → ℕ → Reader Image
 head_on t f = readers.section (number_of 2) default_from >>= defaults_on t f
 
-module _ (form : Form) {s : Bytes} (ds ls ws : List ℕ) {h : Head} (hv : HeadAt form s h) where
-  pub sections-no-head : not h.ok ≡ true → SectionsAt form s no_sections ds ls ws
-  sections-no-head e = failed form (ap (is_good (form_of form)) (hv.bad e)) ds ls ws
+abbrev Bad : Form → Bytes → Type 0
+Bad form s = is_good (form_of form) (image_in form s) ≡ false
 
-  module _ (hg : not h.ok ≡ false) where
+module _ (form : Form) {s : Bytes} where
+  module _ {h : Head} (hv : HeadIs form s h) where
     headed : image_in form s ≡ ended (head_on h.table h.floor (drop h.end s))
     unfolding sections_from
-    headed = hv.good hg
+    headed = hv.is
 
-    fault : {o : Option (Read Image)} → head_on h.table h.floor (drop h.end s) ≡ o → is_good (form_of form) (ended o) ≡ false → SectionsAt form s no_sections ds ls ws
-    fault e g = failed form (ap (is_good (form_of form)) (headed ∙ ap ended e) ∙ g) ds ls ws
+    fault : {o : Option (Read Image)} → head_on h.table h.floor (drop h.end s) ≡ o → is_good (form_of form) (ended o) ≡ false → Bad form s
+    fault e g = ap (is_good (form_of form)) (headed ∙ ap ended e) ∙ g
 
-    pub sections-zero : h.table ≡ 0 → SectionsAt form s no_sections ds ls ws
+    pub sections-zero : h.table ≡ 0 → Bad form s
     unfolding ◌>>=◌
     sections-zero e =
         fault refl
         (on-all (form_of form) (readers.section (number_of 2) default_from (drop h.end s)) (defaults_on h.table h.floor)
         (λ a u. on-all (form_of form) (readers.section (number_of 2) key_lock_from u) (locks_on h.table h.floor a) (λ b v. on-all (form_of form) (readers.section (number_of 2) write_from v) (writes_on h.table h.floor a b) (λ c w. last (form_of form) (image_with h.table h.floor a b c) w (zero-table (form_of form) (image_with h.table h.floor a b c) e)))))
 
-    module _ {d : Span} (dv : SpanAt (form_of form) Default h.table s h.end d ds) where
-      pub sections-no-defaults : not d.ok ≡ true → SectionsAt form s no_sections ds ls ws
+    pub sections-no-defaults : readers.section (number_of 2) (good_from (form_of form) Default h.table) (drop h.end s) ≡ none → Bad form s
+    unfolding ◌>>=◌
+    sections-no-defaults e =
+        fault refl
+        (on-bad (form_of form) (all_good (good_default_by (form_of form) h.table)) (readers.section (number_of 2) default_from (drop h.end s)) (defaults_on h.table h.floor)
+        (span-bad (form_of form) Default h.table (good_default_by (form_of form) h.table) default_from default_of (good_defaults (form_of form) h.table) s h.end e)
+        (λ a u g. on-all (form_of form) (readers.section (number_of 2) key_lock_from u) (locks_on h.table h.floor a) (λ b v. on-all (form_of form) (readers.section (number_of 2) write_from v) (writes_on h.table h.floor a b) (λ c w. last (form_of form) (image_with h.table h.floor a b c) w (bad-defaults (form_of form) (image_with h.table h.floor a b c) g)))))
+
+    module _ {ds : List ℕ} {d : Span} (dv : SpanIs (form_of form) Default h.table s h.end d ds) where
+      abbrev rows : List box.Default
+      rows = map default_of (map (raw_at Default s) (take d.count ds))
+
+      kept-defaults : Kept (all_good (good_default_by (form_of form) h.table)) (readers.section (number_of 2) default_from (drop h.end s)) (record { got = rows; rest = drop d.end s })
+      kept-defaults = span-good (form_of form) Default h.table (good_default_by (form_of form) h.table) default_from default_of (good_defaults (form_of form) h.table) dv
+
+      stored : head_on h.table h.floor (drop h.end s) ≡ defaults_on h.table h.floor rows (drop d.end s)
+      stored = on_some (readers.section (number_of 2) default_from) (defaults_on h.table h.floor) kept-defaults.is
+
+      pub sections-no-locks : readers.section (number_of 2) (good_from (form_of form) Lock h.table) (drop d.end s) ≡ none → Bad form s
       unfolding ◌>>=◌
-      sections-no-defaults e =
-          fault refl
-          (on-bad (form_of form) (all_good (good_default_by (form_of form) h.table)) (readers.section (number_of 2) default_from (drop h.end s)) (defaults_on h.table h.floor)
-          (span-bad (form_of form) Default h.table (good_default_by (form_of form) h.table) default_from default_of (good_defaults (form_of form) h.table) dv e)
-          (λ a u g. on-all (form_of form) (readers.section (number_of 2) key_lock_from u) (locks_on h.table h.floor a) (λ b v. on-all (form_of form) (readers.section (number_of 2) write_from v) (writes_on h.table h.floor a b) (λ c w. last (form_of form) (image_with h.table h.floor a b c) w (bad-defaults (form_of form) (image_with h.table h.floor a b c) g)))))
+      sections-no-locks e =
+          fault stored
+          (on-bad (form_of form) (all_good (good_lock h.table)) (readers.section (number_of 2) key_lock_from (drop d.end s)) (locks_on h.table h.floor rows)
+          (span-bad (form_of form) Lock h.table (good_lock h.table) key_lock_from key_lock_of (good_locks (form_of form) h.table) s d.end e)
+          (λ b u g. on-all (form_of form) (readers.section (number_of 2) write_from u) (writes_on h.table h.floor rows b) (λ c w. last (form_of form) (image_with h.table h.floor rows b c) w (bad-locks (form_of form) (image_with h.table h.floor rows b c) g))))
 
-      module _ (dg : not d.ok ≡ false) where
-        kept-defaults : Kept (all_good (good_default_by (form_of form) h.table)) (readers.section (number_of 2) default_from (drop h.end s)) (record { got = map default_of (map (raw_at Default s) (take d.count ds)); rest = drop d.end s })
-        kept-defaults = span-good (form_of form) Default h.table (good_default_by (form_of form) h.table) default_from default_of (good_defaults (form_of form) h.table) dv dg
+      module _ {ls : List ℕ} {l : Span} (lv : SpanIs (form_of form) Lock h.table s d.end l ls) where
+        abbrev bs : List KeyLock
+        bs = map key_lock_of (map (raw_at Lock s) (take l.count ls))
 
-        abbrev rows : List box.Default
-        rows = map default_of (map (raw_at Default s) (take d.count ds))
+        kept-locks : Kept (all_good (good_lock h.table)) (readers.section (number_of 2) key_lock_from (drop d.end s)) (record { got = bs; rest = drop l.end s })
+        kept-locks = span-good (form_of form) Lock h.table (good_lock h.table) key_lock_from key_lock_of (good_locks (form_of form) h.table) lv
 
-        stored : head_on h.table h.floor (drop h.end s) ≡ defaults_on h.table h.floor rows (drop d.end s)
-        stored = on_some (readers.section (number_of 2) default_from) (defaults_on h.table h.floor) kept-defaults.is
+        locked : head_on h.table h.floor (drop h.end s) ≡ locks_on h.table h.floor rows bs (drop l.end s)
+        locked = stored ∙ on_some (readers.section (number_of 2) key_lock_from) (locks_on h.table h.floor rows) kept-locks.is
 
-        module _ {l : Span} (lv : SpanAt (form_of form) Lock h.table s d.end l ls) where
-          pub sections-no-locks : not l.ok ≡ true → SectionsAt form s no_sections ds ls ws
-          unfolding ◌>>=◌
-          sections-no-locks e =
-              fault stored
-              (on-bad (form_of form) (all_good (good_lock h.table)) (readers.section (number_of 2) key_lock_from (drop d.end s)) (locks_on h.table h.floor rows)
-              (span-bad (form_of form) Lock h.table (good_lock h.table) key_lock_from key_lock_of (good_locks (form_of form) h.table) lv e)
-              (λ b u g. on-all (form_of form) (readers.section (number_of 2) write_from u) (writes_on h.table h.floor rows b) (λ c w. last (form_of form) (image_with h.table h.floor rows b c) w (bad-locks (form_of form) (image_with h.table h.floor rows b c) g))))
+        pub sections-no-writes : readers.section (number_of 2) (good_from (form_of form) Write h.table) (drop l.end s) ≡ none → Bad form s
+        unfolding ◌>>=◌
+        sections-no-writes e =
+            fault locked
+            (on-bad (form_of form) (all_good (good_write h.table)) (readers.section (number_of 2) write_from (drop l.end s)) (writes_on h.table h.floor rows bs)
+            (span-bad (form_of form) Write h.table (good_write h.table) write_from key_record_of (good_writes (form_of form) h.table) s l.end e) (λ c u g. last (form_of form) (image_with h.table h.floor rows bs c) u (bad-writes (form_of form) (image_with h.table h.floor rows bs c) g)))
 
-          module _ (lg : not l.ok ≡ false) where
-            kept-locks : Kept (all_good (good_lock h.table)) (readers.section (number_of 2) key_lock_from (drop d.end s)) (record { got = map key_lock_of (map (raw_at Lock s) (take l.count ls)); rest = drop l.end s })
-            kept-locks = span-good (form_of form) Lock h.table (good_lock h.table) key_lock_from key_lock_of (good_locks (form_of form) h.table) lv lg
+        module _ {ws : List ℕ} {w : Span} (wv : SpanIs (form_of form) Write h.table s l.end w ws) where
+          kept-writes : Kept (all_good (good_write h.table)) (readers.section (number_of 2) write_from (drop l.end s)) (record { got = map key_record_of (map (raw_at Write s) (take w.count ws)); rest = drop w.end s })
+          kept-writes = span-good (form_of form) Write h.table (good_write h.table) write_from key_record_of (good_writes (form_of form) h.table) wv
 
-            abbrev bs : List KeyLock
-            bs = map key_lock_of (map (raw_at Lock s) (take l.count ls))
+          abbrev all : Image
+          all = image_of s h.table h.floor (take d.count ds) (take l.count ls) (take w.count ws)
 
-            locked : head_on h.table h.floor (drop h.end s) ≡ locks_on h.table h.floor rows bs (drop l.end s)
-            locked = stored ∙ on_some (readers.section (number_of 2) key_lock_from) (locks_on h.table h.floor rows) kept-locks.is
+          written : head_on h.table h.floor (drop h.end s) ≡ some (record { got = all; rest = drop w.end s })
+          unfolding just
+          written = locked ∙ on_some (readers.section (number_of 2) write_from) (writes_on h.table h.floor rows bs) kept-writes.is
 
-            module _ {w : Span} (wv : SpanAt (form_of form) Write h.table s l.end w ws) where
-              pub sections-no-writes : not w.ok ≡ true → SectionsAt form s no_sections ds ls ws
-              unfolding ◌>>=◌
-              sections-no-writes e =
-                  fault locked
-                  (on-bad (form_of form) (all_good (good_write h.table)) (readers.section (number_of 2) write_from (drop l.end s)) (writes_on h.table h.floor rows bs)
-                  (span-bad (form_of form) Write h.table (good_write h.table) write_from key_record_of (good_writes (form_of form) h.table) wv e) (λ c u g. last (form_of form) (image_with h.table h.floor rows bs c) u (bad-writes (form_of form) (image_with h.table h.floor rows bs c) g)))
+          at-end : image_in form s ≡ when (eqb w.end (length s)) all
+          at-end = headed ∙ ap ended written ∙ ended_at all s w.end wv.read.within
 
-              module _ (wg : not w.ok ≡ false) where
-                kept-writes : Kept (all_good (good_write h.table)) (readers.section (number_of 2) write_from (drop l.end s)) (record { got = map key_record_of (map (raw_at Write s) (take w.count ws)); rest = drop w.end s })
-                kept-writes = span-good (form_of form) Write h.table (good_write h.table) write_from key_record_of (good_writes (form_of form) h.table) wv wg
+          pub sections-tail : (w.end ≡ length s → ⊥) → Bad form s
+          sections-tail n = ap (is_good (form_of form)) (at-end ∙ ap (λ (b : Bool). when b all) (ne_eqb w.end (length s) n))
 
-                abbrev all : Image
-                all = image_of s h.table h.floor (take d.count ds) (take l.count ls) (take w.count ws)
-
-                written : head_on h.table h.floor (drop h.end s) ≡ some (record { got = all; rest = drop w.end s })
-                unfolding just
-                written = locked ∙ on_some (readers.section (number_of 2) write_from) (writes_on h.table h.floor rows bs) kept-writes.is
-
-                at-end : image_in form s ≡ when (eqb w.end (length s)) all
-                at-end = headed ∙ ap ended written ∙ ended_at all s w.end wv.end_in
-
-                pub sections-tail : (w.end ≡ length s → ⊥) → SectionsAt form s no_sections ds ls ws
-                sections-tail n = failed form (ap (is_good (form_of form)) (at-end ∙ ap (λ (b : Bool). when b all) (ne_eqb w.end (length s) n))) ds ls ws
-
-                pub sections-good : (h.table ≡ 0 → ⊥) → w.end ≡ length s
-                    → SectionsAt form s (record { ok = true; floor = h.floor; defaults = d.count; locks = l.count; writes = w.count; writesat = l.end; bytes = d.bytes + l.bytes + w.bytes }) ds ls ws
-                sections-good z e = record {
-                  bad = λ g. absurd (false≢true g);
-                  good = λ g. record {
-                    table = h.table;
-                    begin = h.end;
-                    lat = d.end;
-                    some_table = z;
-                    is = at-end ∙ ap (λ (b : Bool). when b all) (eq-eqb w.end (length s) e);
-                    good_defaults = kept-defaults.good;
-                    good_locks = kept-locks.good;
-                    good_writes = kept-writes.good;
-                    defaults = dv.each;
-                    locks = lv.each;
-                    writes = rw (sym e) wv.each;
-                    bytes_is = omega (arith, dv.bytes_is, lv.bytes_is, wv.bytes_is);
-                  };
-                  few_defaults = dv.count_fits;
-                  few_locks = lv.count_fits;
-                  few_writes = wv.count_fits;
-                }
+          pub sections-good : (h.table ≡ 0 → ⊥) → w.end ≡ length s
+              → SectionsAt form s (Some (record { floor = h.floor; defaults = d.count; locks = l.count; writes = w.count; writesat = l.end; bytes = d.bytes + l.bytes + w.bytes })) ds ls ws
+          sections-good z e = record {
+            listed = record {
+              table = h.table;
+              begin = h.end;
+              lat = d.end;
+              some_table = z;
+              is = at-end ∙ ap (λ (b : Bool). when b all) (eq-eqb w.end (length s) e);
+              good_defaults = kept-defaults.good;
+              good_locks = kept-locks.good;
+              good_writes = kept-writes.good;
+              defaults = dv.each;
+              locks = lv.each;
+              writes = rw (sym e) wv.each;
+              bytes_is = omega (arith, dv.bytes_is, lv.bytes_is, wv.bytes_is);
+            };
+            few_defaults = dv.count_fits;
+            few_locks = lv.count_fits;
+            few_writes = wv.count_fits;
+          }

@@ -1,6 +1,6 @@
 -- Tests as a program makes them: what a call's answer says of the test that it stands for, and tests that are joined.
 -- Assumes nothing.
-use mathlib.Core.Path.{◌≡◌, refl, sym, ◌∙◌, ap}
+use mathlib.Core.Path.{◌≡◌, refl, sym, ◌∙◌}
 use mathlib.Core.Bool.{Bool, true, false, not, ◌&&◌, false≢true}
 use borrow.Author.Tests.{not-true, not-false}
 
@@ -11,12 +11,6 @@ module _ {b p : Bool} (e : b ≡ p) where
   pub holds : not b ≡ false → p ≡ true
   holds h = sym e ∙ not-false b h
 
-  pub not-fails : b ≡ true → not p ≡ false
-  not-fails h = ap not (sym e ∙ h)
-
-  pub not-holds : b ≡ false → not p ≡ true
-  not-holds h = ap not (sym e ∙ h)
-
 pub and-out : (a b : Bool) → a ≡ false → a && b ≡ false
 and-out true b e = absurd (false≢true (sym e))
 and-out false b e = refl
@@ -24,7 +18,3 @@ and-out false b e = refl
 pub and_last : (a b : Bool) → b ≡ false → a && b ≡ false
 and_last true b e = e
 and_last false b e = refl
-
-pub and-rest : (a b r : Bool) → a ≡ true → r ≡ b → r ≡ a && b
-and-rest true b r e q = q
-and-rest false b r e q = absurd (false≢true e)

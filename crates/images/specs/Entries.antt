@@ -3,32 +3,51 @@
 -- One form for the entries of the three sections: a key and a number; a piece, where the section has one; two numbers and a kind, where it
 -- has them.
 -- Assumes nothing.
-use Rattle.std.specs.Prelude.{ℕ, ◌+◌, ◌≤◌, ◌≡◌, Bool, true, false, not, [], length, drop}
-use Rattle.std.proofs.Math.Option.{Option, none, some}
-use Rattle.forms.specs.Bytes.{Bytes, bytes_at}
+use Rattle.std.specs.Prelude.{ℕ, ◌+◌, ◌≤◌, ◌≡◌, Bool, true, false, [], length, drop, eqb, Option, Some, None}
+use Rattle.std.proofs.Math.Option.{none, some}
+use Rattle.std.proofs.Math.Option as maths
+use Rattle.forms.specs.Bytes.{Bytes}
 use Rattle.forms.specs.Readers.{Read, Reader, ◌>>=◌, just, byte, piece}
 use Rattle.forms.specs.Numbers.{number_of}
-use Rattle.forms.specs.Places.{found}
 use Rattle.forms.specs.Key.{Key}
+use Rattle.forms.specs.Places.{Found, PartIn, part_of}
 use Rattle.forms.specs.declared.part.Part.{Part}
+use Rattle.rules.specs.declared.records.Kind.{Kind}
+use Rattle.rules.specs.declared.records.Kind.TheVariants.{Put, Delete, Rollback}
 use Rattle.images.specs.declared.entries.Section.{Section}
 use Rattle.images.specs.declared.entries.Section.TheVariants.{Default, Lock, Write}
 use Rattle.images.specs.declared.entries.Tail.{Tail}
 use Rattle.images.specs.declared.entries.ImageEntry.{ImageEntry}
 
--- an entry as it stands; the kind is the number that stands there
+-- an entry as it stands; of another number than a kind's there is no kind
 pub record Raw : Type 0 where
   pub key : Key
   pub first : ℕ
   pub piece : Bytes
   pub second : ℕ
   pub third : ℕ
-  pub kind : ℕ
+  pub kind : Option Kind
 
 pub record End : Type 0 where
   pub second : ℕ
   pub third : ℕ
-  pub kind : ℕ
+  pub kind : Option Kind
+
+-- "Kinds: 1 Put, 2 Delete, 3 Rollback"
+abbrev pub kind_by : Bool → Bool → Bool → Option Kind
+kind_by true d r = Some Put
+kind_by false true r = Some Delete
+kind_by false false true = Some Rollback
+kind_by false false false = None
+
+abbrev pub kind_from : ℕ → Option Kind
+kind_from n = kind_by (eqb n 1) (eqb n 2) (eqb n 3)
+
+abbrev pub is_put : Option Kind → Bool
+is_put None = false
+is_put (Some Put) = true
+is_put (Some Delete) = false
+is_put (Some Rollback) = false
 
 abbrev pub has_piece : Section → Bool
 has_piece Default = true
@@ -50,10 +69,10 @@ tail_from = do
   b ← number_of 8
   c ← number_of 8
   n ← byte
-  just (record { second = b; third = c; kind = n })
+  just (record { second = b; third = c; kind = kind_from n })
 
 abbrev pub no_end : End
-no_end = record { second = 0; third = 0; kind = 0 }
+no_end = record { second = 0; third = 0; kind = None }
 
 unfoldable pub entry_from : Section → Reader Raw
 entry_from section = do
@@ -64,9 +83,9 @@ entry_from section = do
   just (record { key = k; first = n; piece = p; second = t.second; third = t.third; kind = t.kind })
 
 abbrev pub no_raw : Raw
-no_raw = record { key = []; first = 0; piece = []; second = 0; third = 0; kind = 0 }
+no_raw = record { key = []; first = 0; piece = []; second = 0; third = 0; kind = None }
 
-abbrev pub raw_or : Option (Read Raw) → Raw
+abbrev pub raw_or : maths.Option (Read Raw) → Raw
 raw_or none = no_raw
 raw_or (some q) = q.got
 
@@ -76,42 +95,55 @@ raw_at section s at = raw_or (entry_from section (drop at s))
 
 -- ---- what the readers of the code find at a place
 
-pub record PieceAt (section : Section) (s : Bytes) (at : ℕ) (r : Part) : Type 0 where
-  pub is : or_else (has_piece section) piece [] (drop at s) ≡ found s r.ok (bytes_at s r.at r.len) (r.at + r.len)
-  pub within : r.at + r.len ≤ length s
-  pub small : r.len ≤ 255
-  pub from : not r.ok ≡ false → (at ≤ r.at) × (r.at ≤ at + 1)
+pub record PieceIs (section : Section) (s : Bytes) (at : ℕ) (r : Part) : Type 0 where
+  pub read : Found (or_else (has_piece section) piece []) s at (part_of s r) (r.at + r.len)
+  pub inside : PartIn s r
+  pub low : at ≤ r.at
+  pub high : r.at ≤ at + 1
+
+abbrev pub PieceAt : Section → Bytes → ℕ → Option Part → Type 0
+PieceAt section s at None = or_else (has_piece section) piece [] (drop at s) ≡ none
+PieceAt section s at (Some r) = PieceIs section s at r
 
 abbrev pub end_of : Tail → End
 end_of t = record { second = t.second; third = t.third; kind = t.kind }
 
-pub record TailAt (has : Bool) (s : Bytes) (at : ℕ) (r : Tail) : Type 0 where
-  pub is : or_else has tail_from no_end (drop at s) ≡ found s r.ok (end_of r) r.next
-  pub within : r.next ≤ length s
-  pub from : not r.ok ≡ false → (at ≤ r.next) × (r.next ≤ at + 17)
+pub record TailIs (has : Bool) (s : Bytes) (at : ℕ) (r : Tail) : Type 0 where
+  pub read : Found (or_else has tail_from no_end) s at (end_of r) r.next
+  pub low : at ≤ r.next
+  pub high : r.next ≤ at + 17
 
-abbrev pub no_tail : Tail
-no_tail = record { ok = false; second = 0; third = 0; kind = 0; next = 0 }
+abbrev pub TailAt : Bool → Bytes → ℕ → Option Tail → Type 0
+TailAt has s at None = or_else has tail_from no_end (drop at s) ≡ none
+TailAt has s at (Some r) = TailIs has s at r
 
 abbrev pub raw_of : Bytes → ImageEntry → Raw
 raw_of s e = record {
-  key = bytes_at s e.at e.len;
+  key = part_of s e.key;
   first = e.first;
-  piece = bytes_at s e.pieceat e.piecelen;
+  piece = part_of s e.piece;
   second = e.second;
   third = e.third;
   kind = e.kind;
 }
 
-pub record EntryAt (section : Section) (s : Bytes) (at : ℕ) (r : ImageEntry) : Type 0 where
-  pub is : entry_from section (drop at s) ≡ found s r.ok (raw_of s r) r.next
-  pub raw : raw_of s r ≡ raw_at section s at
-  pub key_in : r.at + r.len ≤ length s
-  pub piece_in : r.pieceat + r.piecelen ≤ length s
-  pub next_in : r.next ≤ length s
-  pub key_small : r.len ≤ 255
-  pub piece_small : r.piecelen ≤ 255
-  pub from : not r.ok ≡ false → (at + (r.len + r.piecelen) + 9 ≤ r.next) × (r.next ≤ at + (r.len + r.piecelen) + 27)
+-- key and piece lie in the image
+pub record Lies (s : Bytes) (e : ImageEntry) : Type 0 where
+  pub key : PartIn s e.key
+  pub piece : PartIn s e.piece
 
-abbrev pub no_entry : ImageEntry
-no_entry = record { ok = false; at = 0; len = 0; first = 0; pieceat = 0; piecelen = 0; second = 0; third = 0; kind = 0; next = 0 }
+pub record EntryIs (section : Section) (s : Bytes) (at : ℕ) (e : ImageEntry) : Type 0 where
+  pub read : Found (entry_from section) s at (raw_of s e) e.next
+  pub raw : raw_of s e ≡ raw_at section s at
+  pub lies : Lies s e
+  pub low : at + (e.key.len + e.piece.len) + 9 ≤ e.next
+  pub high : e.next ≤ at + (e.key.len + e.piece.len) + 27
+
+abbrev pub EntryAt : Section → Bytes → ℕ → Option ImageEntry → Type 0
+EntryAt section s at None = entry_from section (drop at s) ≡ none
+EntryAt section s at (Some e) = EntryIs section s at e
+
+-- what `raw_at` says of a place: where no entry stands, the empty one
+pub record Stood (section : Section) (s : Bytes) (at : ℕ) (e : ImageEntry) : Type 0 where
+  pub raw : raw_of s e ≡ raw_at section s at
+  pub lies : Lies s e

@@ -1,48 +1,44 @@
 -- Entries of an image as document 01's defaults, locks and writes, and which of them are good.
 -- Assumes nothing.
-use Rattle.std.specs.Prelude.{ℕ, ◌+◌, ◌≤◌, ◌≡◌, Bool, true, false, not, ◌&&◌, length, drop, eqb}
-use Rattle.std.proofs.Math.Option.{Option, none, some}
+use Rattle.std.specs.Prelude.{ℕ, ◌≡◌, Bool, true, false, not, ◌&&◌, drop, eqb, Option, Some, None}
+use Rattle.std.specs.Option.{unwrap_or}
+use Rattle.std.proofs.Math.Option.{none, some}
+use Rattle.std.proofs.Math.Option as maths
 use Rattle.forms.specs.Bytes.{Bytes}
 use Rattle.forms.specs.Row.{Row, row_form, old_row_form}
 use Rattle.forms.specs.Readers.{Read, Reader, when}
-use Rattle.forms.specs.Places.{found}
 use Rattle.rules.specs.declared.records.Kind.{Kind}
-use Rattle.rules.specs.declared.records.Kind.TheVariants.{Put, Delete, Rollback}
+use Rattle.rules.specs.declared.records.Kind.TheVariants.{Rollback}
 use Rattle.rules.specs.declared.records.Record.{Record}
 use Rattle.rules.specs.Box as box
 use Rattle.rules.specs.Page.{KeyLock}
 use Rattle.rules.specs.Image.{KeyRecord}
 use Rattle.rules.specs.Restore.{good_default_by, good_lock, good_write}
 use Rattle.rules.specs.Convert.{may_grow}
-use Rattle.images.specs.Entries.{Raw, entry_from, raw_of, raw_at}
+use Rattle.forms.specs.Places.{Found}
+use Rattle.images.specs.Entries.{Raw, entry_from, raw_of, EntryIs}
 use Rattle.images.specs.declared.entries.Section.{Section}
 use Rattle.images.specs.declared.entries.Section.TheVariants.{Default, Lock, Write}
 use Rattle.images.specs.declared.entries.ImageEntry.{ImageEntry}
 use Rattle.images.specs.declared.checks.Form.{Form}
 use Rattle.images.specs.declared.checks.Form.TheVariants.{Old, New}
 
--- "Kinds: 1 Put, 2 Delete, 3 Rollback"
-abbrev pub known_by : Bool → Bool → Bool → Bool
-known_by true d r = true
-known_by false true r = true
-known_by false false r = r
+-- whether a number said a kind; where it said none, Rollback stands for it
+abbrev pub known : Option Kind → Bool
+known None = false
+known (Some k) = true
 
-abbrev pub known : ℕ → Bool
-known n = known_by (eqb n 1) (eqb n 2) (eqb n 3)
-
-abbrev pub kind_by : Bool → Bool → Kind
-kind_by true d = Put
-kind_by false true = Delete
-kind_by false false = Rollback
-
-abbrev pub kind_of : ℕ → Kind
-kind_of n = kind_by (eqb n 1) (eqb n 2)
+abbrev pub kind_of : Option Kind → Kind
+kind_of k = unwrap_or k Rollback
 
 abbrev pub default_of : Raw → box.Default
 default_of x = record { key = x.key; start = x.first; row = x.piece }
 
+abbrev pub lock_of : Raw → Kind → box.Lock
+lock_of x k = record { txn = x.first; primary = x.piece; start = x.second; ttl = x.third; kind = k }
+
 abbrev pub key_lock_of : Raw → KeyLock
-key_lock_of x = record { key = x.key; lock = record { txn = x.first; primary = x.piece; start = x.second; ttl = x.third; kind = kind_of x.kind } }
+key_lock_of x = record { key = x.key; lock = lock_of x (kind_of x.kind) }
 
 abbrev pub record_of : Raw → Record
 record_of x = record { stamp = x.first; start = x.second; commit = x.third; kind = kind_of x.kind }
@@ -67,23 +63,17 @@ module _ (form : Row → Bool) where
   fits Write t x = known x.kind && good_write t (key_record_of x)
 
 -- what was read, if it passes a test
-unfoldable pub pass : {A : Type 0} → (A → Bool) → Option (Read A) → Option (Read A)
+unfoldable pub pass : {A : Type 0} → (A → Bool) → maths.Option (Read A) → maths.Option (Read A)
 pass g none = none
 pass g (some q) = when (g q.got) q
 
 unfoldable pub good_from : (Row → Bool) → Section → ℕ → Reader Raw
 good_from form section t s = pass (fits form section t) (entry_from section s)
 
--- key and piece lie in the image
-pub record Lies (s : Bytes) (e : ImageEntry) : Type 0 where
-  pub key_in : e.at + e.len ≤ length s
-  pub piece_in : e.pieceat + e.piecelen ≤ length s
+pub record GoodIs (form : Row → Bool) (section : Section) (t : ℕ) (s : Bytes) (at : ℕ) (e : ImageEntry) : Type 0 where
+  pub read : Found (good_from form section t) s at (raw_of s e) e.next
+  pub entry : EntryIs section s at e
 
-pub record GoodAt (form : Row → Bool) (section : Section) (t : ℕ) (s : Bytes) (at : ℕ) (e : ImageEntry) : Type 0 where
-  pub is : good_from form section t (drop at s) ≡ found s e.ok (raw_of s e) e.next
-  pub lies : Lies s e
-  pub next_in : e.next ≤ length s
-  pub key_small : e.len ≤ 255
-  pub piece_small : e.piecelen ≤ 255
-  pub from : not e.ok ≡ false → (at + (e.len + e.piecelen) + 9 ≤ e.next) × (e.next ≤ at + (e.len + e.piecelen) + 27)
-  pub raw : not e.ok ≡ false → raw_of s e ≡ raw_at section s at
+abbrev pub GoodAt : (Row → Bool) → Section → ℕ → Bytes → ℕ → Option ImageEntry → Type 0
+GoodAt form section t s at None = good_from form section t (drop at s) ≡ none
+GoodAt form section t s at (Some e) = GoodIs form section t s at e

@@ -1,18 +1,19 @@
 -- The sections of an image as lists of the places of their entries.
 -- Assumes nothing.
-use Rattle.std.specs.Prelude.{ℕ, ◌+◌, ◌*◌, ◌≤◌, ◌<◌, ◌≡◌, ◌⊎◌, Bool, true, false, not, List, map, length, take, drop, ltb}
-use Rattle.std.proofs.Math.Option.{Option, none, some}
+use Rattle.std.specs.Prelude.{ℕ, ◌+◌, ◌*◌, ◌≤◌, ◌<◌, ◌≡◌, ◌⊎◌, Bool, true, false, List, map, length, take, drop, ltb, Option, Some, None}
+use Rattle.std.proofs.Math.Option.{none, some}
+use Rattle.std.proofs.Math.Option as maths
 use Rattle.seqs.specs.Tables.{All}
 use Rattle.forms.specs.Bytes.{Bytes}
 use Rattle.forms.specs.Row.{Row}
 use Rattle.forms.specs.Readers as readers
 use Rattle.forms.specs.Numbers.{number_of}
-use Rattle.forms.specs.Places.{found}
 use Rattle.rules.specs.declared.room.Load.{Load}
 use Rattle.rules.specs.Box as box
 use Rattle.rules.specs.Room.{sum_of, load_of, Fits}
 use Rattle.rules.specs.Image.{Image, sections_from, image, old_image}
 use Rattle.rules.specs.Restore.{all_good, good_default_by, good_lock, good_write, good_image_by, good_image, healthy_image, floored_image, box_of}
+use Rattle.forms.specs.Places.{Found}
 use Rattle.images.specs.Entries.{Raw, raw_at}
 use Rattle.images.specs.declared.entries.Section.{Section}
 use Rattle.images.specs.declared.entries.Section.TheVariants.{Default, Lock, Write}
@@ -30,7 +31,7 @@ Enough s n = (length s ≤ 9 * n) ⊎ (65535 ≤ n)
 -- a good entry stands at p, between two places
 pub record Stands (form : Row → Bool) (section : Section) (t : ℕ) (s : Bytes) (from to p : ℕ) : Type 0 where
   pub next : ℕ
-  pub is : good_from form section t (drop p s) ≡ found s true (raw_at section s p) next
+  pub read : Found (good_from form section t) s p (raw_at section s p) next
   pub low : from ≤ p
   pub high : p < to
 
@@ -38,17 +39,17 @@ pub record Stands (form : Row → Bool) (section : Section) (t : ℕ) (s : Bytes
 abbrev pub raw_bytes : Raw → ℕ
 raw_bytes x = length x.key + length x.piece
 
-pub record SpanAt (form : Row → Bool) (section : Section) (t : ℕ) (s : Bytes) (at : ℕ) (p : Span) (places : List ℕ) : Type 0 where
-  pub is : readers.section (number_of 2) (good_from form section t) (drop at s) ≡ found s p.ok (map (raw_at section s) (take p.count places)) p.end
+pub record SpanIs (form : Row → Bool) (section : Section) (t : ℕ) (s : Bytes) (at : ℕ) (p : Span) (places : List ℕ) : Type 0 where
+  pub read : Found (readers.section (number_of 2) (good_from form section t)) s at (map (raw_at section s) (take p.count places)) p.end
   pub each : All (Stands form section t s at p.end) (take p.count places)
   pub count_fits : p.count ≤ length places
   pub bytes_is : p.bytes ≡ sum_of raw_bytes (map (raw_at section s) (take p.count places))
   pub bytes_few : p.bytes ≤ 34000000
-  pub end_in : p.end ≤ length s
   pub end_near : p.end ≤ at + 35200000
 
-abbrev pub no_span : Span
-no_span = record { ok = false; count = 0; end = 0; bytes = 0 }
+abbrev pub SpanAt : (Row → Bool) → Section → ℕ → Bytes → ℕ → Option Span → List ℕ → Type 0
+SpanAt form section t s at None places = readers.section (number_of 2) (good_from form section t) (drop at s) ≡ none
+SpanAt form section t s at (Some p) places = SpanIs form section t s at p places
 
 -- ---- the image
 
@@ -59,20 +60,23 @@ pub record Room (s : Bytes) (ds ls ws : List ℕ) : Type 0 where
   pub writes : Enough s (length ws)
 
 -- the image that bytes are in that form: document 01's has no floor
-abbrev pub image_in : Form → Bytes → Option Image
+abbrev pub image_in : Form → Bytes → maths.Option Image
 image_in Old s = old_image s
 image_in New s = image s
 
 -- bytes that are an image, and a good one
-abbrev pub is_good : (Row → Bool) → Option Image → Bool
+abbrev pub is_good : (Row → Bool) → maths.Option Image → Bool
 is_good form none = false
 is_good form (some i) = good_image_by form i
 
 -- "4-byte table number"; "The floor .., 8 bytes, after the table number": what stands before the sections, and where it ends
-pub record HeadAt (form : Form) (s : Bytes) (r : Head) : Type 0 where
-  pub bad : not r.ok ≡ true → image_in form s ≡ none
-  pub good : not r.ok ≡ false → image_in form s ≡ readers.ended (sections_from r.table r.floor (drop r.end s))
+pub record HeadIs (form : Form) (s : Bytes) (r : Head) : Type 0 where
+  pub is : image_in form s ≡ readers.ended (sections_from r.table r.floor (drop r.end s))
   pub near : r.end ≤ 12
+
+abbrev pub HeadAt : Form → Bytes → Option Head → Type 0
+HeadAt form s None = image_in form s ≡ none
+HeadAt form s (Some r) = HeadIs form s r
 
 -- the image whose entries stand at these places
 abbrev pub image_of : Bytes → ℕ → ℕ → List ℕ → List ℕ → List ℕ → Image
@@ -124,12 +128,12 @@ pub record Listed (form : Form) (s : Bytes) (i : Sections) (ds ls ws : List ℕ)
   pub writes : All (Stands (form_of form) Write table s i.writesat (length s)) ws
   pub bytes_is : i.bytes ≡ sum_of raw_bytes (map (raw_at Default s) ds) + sum_of raw_bytes (map (raw_at Lock s) ls) + sum_of raw_bytes (map (raw_at Write s) ws)
 
-pub record SectionsAt (form : Form) (s : Bytes) (i : Sections) (ds ls ws : List ℕ) : Type 0 where
-  pub bad : not i.ok ≡ true → is_good (form_of form) (image_in form s) ≡ false
-  pub good : not i.ok ≡ false → Listed form s i (take i.defaults ds) (take i.locks ls) (take i.writes ws)
+pub record SectionsAre (form : Form) (s : Bytes) (i : Sections) (ds ls ws : List ℕ) : Type 0 where
+  pub listed : Listed form s i (take i.defaults ds) (take i.locks ls) (take i.writes ws)
   pub few_defaults : i.defaults ≤ length ds
   pub few_locks : i.locks ≤ length ls
   pub few_writes : i.writes ≤ length ws
 
-abbrev pub no_sections : Sections
-no_sections = record { ok = false; floor = 0; defaults = 0; locks = 0; writes = 0; writesat = 0; bytes = 0 }
+abbrev pub SectionsAt : Form → Bytes → Option Sections → List ℕ → List ℕ → List ℕ → Type 0
+SectionsAt form s None ds ls ws = is_good (form_of form) (image_in form s) ≡ false
+SectionsAt form s (Some i) ds ls ws = SectionsAre form s i ds ls ws

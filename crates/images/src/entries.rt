@@ -1,10 +1,10 @@
-// An entry of an image at a place, in any of the three sections: where its key and its piece lie, and its numbers as they stand. The kind is
-// the number that stands there: whether it says a kind is for the one who judges.
+// An entry of an image at a place, in any of the three sections: where its key and its piece lie, its numbers as they stand, and its kind. Whether
+// an entry may be without a kind is for the one who judges.
 ghost use Rattle.std.specs.Prelude.{◌≡◌, true, ◌≤◌, length};
-ghost use Rattle.images.specs.Entries.{PieceAt, TailAt, EntryAt, has_tail, no_tail, no_entry};
+ghost use Rattle.images.specs.Entries.{kind_from, is_put, PieceAt, TailAt, EntryAt, Stood, has_tail};
 
-use forms::number::{Width, number_at};
-use forms::part::{Part, part_at};
+use forms::{Part, Width, number_at, part_at};
+use rules::records::Kind;
 
 // The sections of an image, in its order.
 #[derive(Clone, Copy)]
@@ -14,149 +14,124 @@ pub enum Section {
     Write,
 }
 
+// "Kinds: 1 Put, 2 Delete, 3 Rollback"
+fn kind_from(n: u8) -> Option<Kind>
+    ensures { result ≡ kind_from n }
+{
+    match n {
+        1 => Some(Kind::Put),
+        2 => Some(Kind::Delete),
+        3 => Some(Kind::Rollback),
+        _ => None,
+    }
+}
+
 // A default's row or a lock's primary; a write has no piece, and the empty one stands for it.
-fn piece_at(s: &[u8], at: usize, section: Section) -> Part
+fn piece_at(s: &[u8], at: usize, section: Section) -> Option<Part>
     requires { at ≤ length s.now }
     ensures { PieceAt section s.now at result }
 {
     match section {
-        Section::Default => part_at(s, at),
-        Section::Lock => part_at(s, at),
-        Section::Write => Part {
-            ok: true,
-            at: at,
-            len: 0,
-        },
+        Section::Default | Section::Lock => part_at(s, at),
+        Section::Write => Some(Part { at, len: 0 }),
     }
 }
 
-// The end of a lock or a write: two numbers, a kind, and where the next entry begins; not ok, and zeros, where there is none in form.
+// The end of a lock or a write: two numbers, a kind, and where the next entry begins.
 #[derive(Clone, Copy)]
 pub struct Tail {
-    pub ok: bool,
     pub second: u64,
     pub third: u64,
-    pub kind: u8,
+    pub kind: Option<Kind>,
     pub next: usize,
 }
 
-fn no_tail() -> Tail
-    ensures { result ≡ no_tail }
-{
-    Tail {
-        ok: false,
-        second: 0,
-        third: 0,
-        kind: 0,
-        next: 0,
-    }
-}
-
-fn numbers_at(s: &[u8], at: usize) -> Tail
+fn numbers_at(s: &[u8], at: usize) -> Option<Tail>
     ensures { TailAt true s.now at result }
 {
-    let second = number_at(s, at, Width::Eight);
-    if !second.ok {
-        return no_tail();
-    }
-    let third = number_at(s, at + 8, Width::Eight);
-    if !third.ok {
-        return no_tail();
-    }
+    let second = number_at(s, at, Width::Eight)?;
+    let third = number_at(s, at + 8, Width::Eight)?;
     let b = at + 16;
     if s.len() <= b {
-        return no_tail();
+        return None;
     }
-    Tail {
-        ok: true,
-        second: second.value,
-        third: third.value,
-        kind: s[b],
+    let kind = kind_from(s[b]);
+    Some(Tail {
+        second,
+        third,
+        kind,
         next: b + 1,
-    }
+    })
 }
 
 // A default ends with its row.
-fn tail_at(s: &[u8], at: usize, section: Section) -> Tail
+fn tail_at(s: &[u8], at: usize, section: Section) -> Option<Tail>
     requires { at ≤ length s.now }
     ensures { TailAt (has_tail section) s.now at result }
 {
     match section {
-        Section::Default => Tail {
-            ok: true,
+        Section::Default => Some(Tail {
             second: 0,
             third: 0,
-            kind: 0,
+            kind: None,
             next: at,
-        },
-        Section::Lock => numbers_at(s, at),
-        Section::Write => numbers_at(s, at),
+        }),
+        Section::Lock | Section::Write => numbers_at(s, at),
     }
 }
 
-// An entry: where its key and its piece lie, the number after its key, the two after its piece, its kind, and where the next entry begins;
-// not ok, and zeros, where there is none in form.
+// An entry: where its key and its piece lie, the number after its key, the two after its piece, its kind, and where the next entry begins.
 #[derive(Clone, Copy)]
 pub struct ImageEntry {
-    pub ok: bool,
-    pub at: usize,
-    pub len: usize,
+    pub key: Part,
     pub first: u64,
-    pub pieceat: usize,
-    pub piecelen: usize,
+    pub piece: Part,
     pub second: u64,
     pub third: u64,
-    pub kind: u8,
+    pub kind: Option<Kind>,
     pub next: usize,
 }
 
-pub fn no_entry() -> ImageEntry
-    ensures { result ≡ no_entry }
-{
-    ImageEntry {
-        ok: false,
-        at: 0,
-        len: 0,
-        first: 0,
-        pieceat: 0,
-        piecelen: 0,
-        second: 0,
-        third: 0,
-        kind: 0,
-        next: 0,
+impl ImageEntry {
+    pub fn is_put(&self) -> bool
+        ensures { result ≡ is_put self.now.kind }
+    {
+        matches!(self.kind, Some(Kind::Put))
     }
 }
 
-pub fn entry_at(s: &[u8], at: usize, section: Section) -> ImageEntry
+pub fn entry_at(s: &[u8], at: usize, section: Section) -> Option<ImageEntry>
     ensures { EntryAt section s.now at result }
 {
-    let k = part_at(s, at);
-    if !k.ok {
-        return no_entry();
-    }
-    let a = k.at + k.len;
-    let n = number_at(s, a, Width::Eight);
-    if !n.ok {
-        return no_entry();
-    }
-    let p = piece_at(s, a + 8, section);
-    if !p.ok {
-        return no_entry();
-    }
-    let t = tail_at(s, p.at + p.len, section);
-    if !t.ok {
-        return no_entry();
-    }
-    ImageEntry {
-        ok: true,
-        at: k.at,
-        len: k.len,
-        first: n.value,
-        pieceat: p.at,
-        piecelen: p.len,
-        second: t.second,
-        third: t.third,
-        kind: t.kind,
-        next: t.next,
-    }
+    let key = part_at(s, at)?;
+    let a = key.at + key.len;
+    let first = number_at(s, a, Width::Eight)?;
+    let piece = piece_at(s, a + 8, section)?;
+    let tail = tail_at(s, piece.at + piece.len, section)?;
+    Some(ImageEntry {
+        key,
+        first,
+        piece,
+        second: tail.second,
+        third: tail.third,
+        kind: tail.kind,
+        next: tail.next,
+    })
+}
+
+const EMPTY: ImageEntry = ImageEntry {
+    key: Part { at: 0, len: 0 },
+    first: 0,
+    piece: Part { at: 0, len: 0 },
+    second: 0,
+    third: 0,
+    kind: None,
+    next: 0,
+};
+
+// The entry at a place of an image that was judged: any place has one, and where none stands it is empty.
+pub fn stood_at(s: &[u8], at: u32, section: Section) -> ImageEntry
+    ensures { Stood section s.now at result }
+{
+    entry_at(s, at as usize, section).unwrap_or(EMPTY)
 }

@@ -6,5 +6,5 @@ pub mod checks;
 pub mod entries;
 pub mod sections;
 
-pub use checks::{Form, kind_of};
-pub use entries::{ImageEntry, Section, entry_at, no_entry};
+pub use checks::Form;
+pub use entries::{ImageEntry, Section, entry_at, stood_at};

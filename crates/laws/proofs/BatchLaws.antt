@@ -9,9 +9,7 @@ use Rattle.forms.specs.Key.{Key}
 use Rattle.forms.specs.Bytes.{eq_bytes}
 use Rattle.forms.specs.Batch.{ascend}
 use Rattle.forms.proofs.Orders.{eq_bytes-sym}
-use Rattle.rules.specs.declared.answers.Answer.{Answer}
-use Rattle.rules.specs.declared.answers.Answer.TheVariants.{Accepted}
-use Rattle.rules.specs.Answers.{◌▸◌}
+use Rattle.rules.specs.Answers.{Answer, Accepted, ◌▸◌}
 use Rattle.rules.specs.Box.{Box}
 use Rattle.laws.proofs.StepLaws.{then-left, then-right}
 use Rattle.laws.proofs.FrameLaws.{Same, same_refl, same-trans, Apart, ascend-apart, ascend-rest}

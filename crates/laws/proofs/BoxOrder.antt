@@ -11,8 +11,8 @@ use lib.Dec.{eqb, ltb}
 use borrow.Author.Tests.{ltb-true, ltb-false, lt-ltb, le-ltb, eqb-true, eqb-false, eq-eqb, ne_eqb}
 use Rattle.forms.specs.Key.{Key}
 use Rattle.forms.specs.Bytes.{cmp, eq_bytes, lt_bytes, is_equal, is_less}
-use Rattle.forms.specs.declared.key.Order.{Order}
-use Rattle.forms.specs.declared.key.Order.TheVariants.{Less, Equal, Greater}
+use Rattle.std.specs.declared.cmp.Ordering.{Ordering}
+use Rattle.std.specs.declared.cmp.Ordering.TheVariants.{Less, Equal, Greater}
 use Rattle.forms.proofs.Orders.{cmp-trans, cmp-equal, cmp-refl, cmp-flip, flip, lt_bytes-less, eq_bytes-sym}
 use Rattle.rules.specs.declared.records.Record.{Record}
 use Rattle.rules.specs.Box.{Box, Lock, Line, Standing, Finished, KeyLine, Default, records_of, add_record, lock_of, add_lock, row_of, add_row, at_pair, by_order, line_before, before, row_before, insert_line, insert_default, unless_lock, drop_lock, unless_row, drop_row, ordered, in_order}
@@ -27,11 +27,11 @@ module _ (i j k : Key) (p q r : Bool) (inner : p ≡ true → q ≡ true → r �
   keyed-trans : by_order (cmp i j) p ≡ true → by_order (cmp j k) q ≡ true → by_order (cmp i k) r ≡ true
   keyed-trans a b = go (cmp i j) (cmp j k) refl refl a b
     where
-      go : (x y : Order) → cmp i j ≡ x → cmp j k ≡ y → by_order x p ≡ true → by_order y q ≡ true → by_order (cmp i k) r ≡ true
-      go Less Less e f a b = ap (λ (o : Order). by_order o r) (cmp-trans i j k e f)
-      go Less Equal e f a b = ap (λ (o : Order). by_order o r) (ap (cmp i) (sym (cmp-equal j k f)) ∙ e)
-      go Equal Less e f a b = ap (λ (o : Order). by_order o r) (ap (λ (z : Key). cmp z k) (cmp-equal i j e) ∙ f)
-      go Equal Equal e f a b = ap (λ (o : Order). by_order o r) (ap (λ (z : Key). cmp z k) (cmp-equal i j e) ∙ f) ∙ inner a b
+      go : (x y : Ordering) → cmp i j ≡ x → cmp j k ≡ y → by_order x p ≡ true → by_order y q ≡ true → by_order (cmp i k) r ≡ true
+      go Less Less e f a b = ap (λ (o : Ordering). by_order o r) (cmp-trans i j k e f)
+      go Less Equal e f a b = ap (λ (o : Ordering). by_order o r) (ap (cmp i) (sym (cmp-equal j k f)) ∙ e)
+      go Equal Less e f a b = ap (λ (o : Ordering). by_order o r) (ap (λ (z : Key). cmp z k) (cmp-equal i j e) ∙ f)
+      go Equal Equal e f a b = ap (λ (o : Ordering). by_order o r) (ap (λ (z : Key). cmp z k) (cmp-equal i j e) ∙ f) ∙ inner a b
       go Greater y e f a b = absurd (false≢true a)
       go Less Greater e f a b = absurd (false≢true b)
       go Equal Greater e f a b = absurd (false≢true b)
@@ -39,9 +39,9 @@ module _ (i j k : Key) (p q r : Bool) (inner : p ≡ true → q ≡ true → r �
 -- one of the two is before the other, where they differ
 keyed-else : (i k : Key) (p q t : Bool) → (t ≡ false → p ≡ false → q ≡ true) → eq_bytes i k && t ≡ false → by_order (cmp i k) p ≡ false → by_order (cmp k i) q ≡ true
 unfolding eq_bytes
-keyed-else i k p q t inner n a = ap (λ (o : Order). by_order o q) (cmp-flip i k) ∙ go (cmp i k) n a
+keyed-else i k p q t inner n a = ap (λ (o : Ordering). by_order o q) (cmp-flip i k) ∙ go (cmp i k) n a
   where
-    go : (x : Order) → is_equal x && t ≡ false → by_order x p ≡ false → by_order (flip x) q ≡ true
+    go : (x : Ordering) → is_equal x && t ≡ false → by_order x p ≡ false → by_order (flip x) q ≡ true
     go Less n a = absurd (true≢false a)
     go Equal n a = inner n a
     go Greater n a = refl
@@ -50,31 +50,31 @@ keyed-apart : (i k : Key) (p t : Bool) → (p ≡ true → t ≡ false) → by_o
 unfolding eq_bytes
 keyed-apart i k p t inner a = go (cmp i k) a
   where
-    go : (x : Order) → by_order x p ≡ true → is_equal x && t ≡ false
+    go : (x : Ordering) → by_order x p ≡ true → is_equal x && t ≡ false
     go Less a = refl
     go Equal a = inner a
     go Greater a = refl
 
 keyed-irrefl : (k : Key) (p : Bool) → p ≡ false → by_order (cmp k k) p ≡ false
-keyed-irrefl k p h = ap (λ (o : Order). by_order o p) (cmp-refl k) ∙ h
+keyed-irrefl k p h = ap (λ (o : Ordering). by_order o p) (cmp-refl k) ∙ h
 
 keyed-same : (i k : Key) (p : Bool) → eq_bytes i k ≡ true → by_order (cmp i k) p ≡ p
 unfolding eq_bytes
 keyed-same i k p e = go (cmp i k) e
   where
-    go : (x : Order) → is_equal x ≡ true → by_order x p ≡ p
+    go : (x : Ordering) → is_equal x ≡ true → by_order x p ≡ p
     go Less e = absurd (false≢true e)
     go Equal e = refl
     go Greater e = absurd (false≢true e)
 
 keyed-less : (i k : Key) (p : Bool) → lt_bytes i k ≡ true → by_order (cmp i k) p ≡ true
-keyed-less i k p e = ap (λ (o : Order). by_order o p) (lt_bytes-less i k e)
+keyed-less i k p e = ap (λ (o : Ordering). by_order o p) (lt_bytes-less i k e)
 
 keyed-not-above : (i k : Key) (p : Bool) → by_order (cmp i k) p ≡ true → lt_bytes k i ≡ false
 unfolding lt_bytes
 keyed-not-above i k p a = ap is_less (cmp-flip i k) ∙ go (cmp i k) a
   where
-    go : (x : Order) → by_order x p ≡ true → is_less (flip x) ≡ false
+    go : (x : Ordering) → by_order x p ≡ true → is_less (flip x) ≡ false
     go Less a = refl
     go Equal a = refl
     go Greater a = absurd (false≢true a)

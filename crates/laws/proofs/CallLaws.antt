@@ -8,8 +8,7 @@ use mathlib.Core.Option.{Option, none, some}
 use Rattle.forms.specs.Bytes.{Bytes}
 use Rattle.forms.specs.Key.{Key}
 use Rattle.forms.specs.Batch.{Mutation, mutations, keys}
-use Rattle.rules.specs.declared.answers.Answer.TheVariants.{Accepted}
-use Rattle.rules.specs.Answers.{◌▸◌, need}
+use Rattle.rules.specs.Answers.{Accepted, ◌▸◌, need}
 use Rattle.rules.specs.Box.{Box, fresh}
 use Rattle.rules.specs.Room.{room_for, fits, load_of, sum_of}
 use Rattle.rules.specs.Calls.{non_empty}

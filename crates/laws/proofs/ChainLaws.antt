@@ -6,10 +6,7 @@ use mathlib.Core.Path.{◌≡◌, sym, ◌∙◌}
 use mathlib.Core.Bool.{Bool, true, false, not}
 use lib.Dec.{eqb}
 use borrow.Author.Tests.{eq-eqb, ne_eqb, lt-ltb, le-ltb, le-leb, lt-leb, not-true, not-false}
-use Rattle.rules.specs.declared.answers.Holder.{Holder}
-use Rattle.rules.specs.declared.answers.Answer.{Answer}
-use Rattle.rules.specs.declared.answers.Answer.TheVariants.{Accepted, No, Held}
-use Rattle.rules.specs.Answers.{◌▸◌, need, need_own, Reply, refused, if_passed}
+use Rattle.rules.specs.Answers.{Answer, Accepted, No, Held, Holder, ◌▸◌, need, need_own, Reply, refused, if_passed}
 use Rattle.laws.proofs.StepLaws.{then-assoc, and_both, and-false, and-false-right}
 
 -- ---- a step that is a test

@@ -10,10 +10,9 @@ use lib.Dec.{eqb}
 use borrow.Author.Tests.{eqb-true}
 use Rattle.forms.specs.Key.{Key, key_form}
 use Rattle.forms.specs.Batch.{ascend}
-use Rattle.rules.specs.declared.answers.Answer.TheVariants.{Accepted, No}
+use Rattle.rules.specs.Answers.{Accepted, No, need, need_own}
 use Rattle.rules.specs.declared.records.Kind.TheVariants.{Rollback}
 use Rattle.rules.specs.declared.records.Record.{Record}
-use Rattle.rules.specs.Answers.{need, need_own}
 use Rattle.rules.specs.Box.{Box, Lock, Finished, KeyLine, holder_of, records_of, lock_of, row_of, eq_kind, insert_by, insert_line, drop_lock, in_order}
 use Rattle.rules.specs.Room.{load_of, room_for}
 use Rattle.rules.specs.Sound.{all_sound}

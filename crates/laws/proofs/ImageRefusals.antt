@@ -12,8 +12,7 @@ use lib.Dec.{eqb}
 use Rattle.forms.specs.Bytes.{Bytes}
 use Rattle.forms.specs.Row.{Row, old_row_form, row_form}
 use Rattle.forms.proofs.BoneLaws.{not-both}
-use Rattle.rules.specs.declared.answers.Answer.TheVariants.{No}
-use Rattle.rules.specs.Answers.{◌▸◌, need}
+use Rattle.rules.specs.Answers.{No, ◌▸◌, need}
 use Rattle.rules.specs.Box.{Default}
 use Rattle.rules.specs.Calls.{State, settle_state}
 use Rattle.rules.specs.Image.{Image, image}

@@ -8,8 +8,8 @@ use lib.ListN.{length, take, drop, take-append-drop}
 use lib.Seq.{drop-drop, drop-append_seam}
 use Rattle.forms.specs.Key.{Key}
 use Rattle.forms.specs.Bytes.{cmp, eq_bytes, lt_bytes, is_less, is_equal}
-use Rattle.forms.specs.declared.key.Order.{Order}
-use Rattle.forms.specs.declared.key.Order.TheVariants.{Less, Equal, Greater}
+use Rattle.std.specs.declared.cmp.Ordering.{Ordering}
+use Rattle.std.specs.declared.cmp.Ordering.TheVariants.{Less, Equal, Greater}
 use Rattle.forms.proofs.Orders.{cmp-flip, flip, lt_bytes-le-lt, lt_bytes-trans, lt_bytes-else, eq_bytes-true}
 use Rattle.rules.specs.Read.{those}
 use Rattle.rules.specs.Box.{ordered}
@@ -29,18 +29,18 @@ lt_bytes-lt-le a b c p n = go (eq_bytes c b) refl
 -- neither below nor above is equal; not below and not at most is above
 neither : (j k : Key) → not (lt_bytes j k) && not (lt_bytes k j) ≡ eq_bytes k j
 unfolding lt_bytes eq_bytes
-neither j k = ap (λ (o : Order). not (is_less (cmp j k)) && not (is_less o)) (cmp-flip j k) ∙ go (cmp j k) ∙ sym (ap is_equal (cmp-flip j k))
+neither j k = ap (λ (o : Ordering). not (is_less (cmp j k)) && not (is_less o)) (cmp-flip j k) ∙ go (cmp j k) ∙ sym (ap is_equal (cmp-flip j k))
   where
-    go : (o : Order) → not (is_less o) && not (is_less (flip o)) ≡ is_equal (flip o)
+    go : (o : Ordering) → not (is_less o) && not (is_less (flip o)) ≡ is_equal (flip o)
     go Less = refl
     go Equal = refl
     go Greater = refl
 
 only_above : (j k : Key) → not (lt_bytes j k) && not (not (lt_bytes k j)) ≡ lt_bytes k j
 unfolding lt_bytes
-only_above j k = ap (λ (o : Order). not (is_less (cmp j k)) && not (not (is_less o))) (cmp-flip j k) ∙ go (cmp j k) ∙ sym (ap is_less (cmp-flip j k))
+only_above j k = ap (λ (o : Ordering). not (is_less (cmp j k)) && not (not (is_less o))) (cmp-flip j k) ∙ go (cmp j k) ∙ sym (ap is_less (cmp-flip j k))
   where
-    go : (o : Order) → not (is_less o) && not (not (is_less (flip o))) ≡ is_less (flip o)
+    go : (o : Ordering) → not (is_less o) && not (not (is_less (flip o))) ≡ is_less (flip o)
     go Less = refl
     go Equal = refl
     go Greater = refl

@@ -8,10 +8,9 @@ use mathlib.Core.Option.{Option, none, some}
 use Rattle.forms.specs.Key.{Key, key_form}
 use Rattle.forms.specs.Row.{Row}
 use Rattle.forms.specs.Batch.{Mutation}
-use Rattle.rules.specs.declared.answers.Answer.TheVariants.{Accepted}
+use Rattle.rules.specs.Answers.{Accepted, need}
 use Rattle.rules.specs.declared.records.Record.{Record}
 use Rattle.rules.specs.declared.records.Kind.TheVariants.{Rollback}
-use Rattle.rules.specs.Answers.{need}
 use Rattle.rules.specs.Box.{Box, Lock, Standing, Finished, KeyLine, Default, records_of, lock_of, before, row_before, insert_line, insert_default, drop_lock, drop_row}
 use Rattle.rules.specs.Calls.{kind_of, record_for, row_argument, stamped_at}
 use Rattle.rules.specs.Prewrite.{PrewriteTerms, lock_for, store_if, lock_line, unless_locked, apply_prewrite}

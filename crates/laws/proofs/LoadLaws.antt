@@ -13,8 +13,7 @@ use Rattle.forms.specs.Key.{Key}
 use Rattle.forms.specs.Bytes.{eq_bytes}
 use Rattle.forms.specs.Batch.{ascend}
 use Rattle.forms.proofs.Orders.{eq_bytes-true}
-use Rattle.rules.specs.declared.answers.Answer.{Answer}
-use Rattle.rules.specs.declared.answers.Answer.TheVariants.{Accepted}
+use Rattle.rules.specs.Answers.{Answer, Accepted}
 use Rattle.rules.specs.declared.room.Load.{Load}
 use Rattle.rules.specs.Box.{Box, Line, Standing, Finished, KeyLine, Default, lock_of, add_lock, row_of, add_row, at_pair, before, row_before, insert_line, insert_default, drop_lock, unless_lock, drop_row, unless_row, ordered}
 use Rattle.rules.specs.Room.{load_of, sum_of, one_lock, line_bytes, fits}

@@ -12,11 +12,10 @@ use lib.ListN.{take}
 use borrow.Author.Tests.{le-leb, leb-true, ltb-true}
 use Rattle.forms.specs.Key.{Key}
 use Rattle.forms.specs.Row.{Row}
-use Rattle.rules.specs.declared.answers.Answer.TheVariants.{Accepted}
+use Rattle.rules.specs.Answers.{Accepted, answer_of}
 use Rattle.rules.specs.declared.records.Kind.{Kind}
 use Rattle.rules.specs.declared.records.Kind.TheVariants.{Put, Delete, Rollback}
 use Rattle.rules.specs.declared.records.Record.{Record}
-use Rattle.rules.specs.Answers.{answer_of}
 use Rattle.rules.specs.Box.{Lock, Line, Standing, Finished, KeyLine, Default, records_of, row_of, before, ordered}
 use Rattle.rules.specs.Sound.{sound_record}
 use Rattle.rules.specs.Calls.{decodes}

@@ -12,10 +12,8 @@ use Rattle.forms.specs.Bytes.{eq_bytes}
 use Rattle.forms.specs.Key.{Key}
 use Rattle.forms.specs.Row.{Row}
 use Rattle.forms.specs.Batch.{Mutation, key_inside, ascend}
-use Rattle.rules.specs.declared.answers.Answer.{Answer}
-use Rattle.rules.specs.declared.answers.Answer.TheVariants.{Accepted}
+use Rattle.rules.specs.Answers.{Answer, Accepted, ◌▸◌, need, need_own}
 use Rattle.rules.specs.declared.records.Kind.{Kind}
-use Rattle.rules.specs.Answers.{◌▸◌, need, need_own}
 use Rattle.rules.specs.Box.{Box, Lock, Finished, KeyLine, Default, holder_of, records_of, lock_of, row_of, insert_by, insert_line, insert_default, drop_lock, drop_row, in_order, ordered, row_before}
 use Rattle.rules.specs.Room.{load_of, fits, room_for}
 use Rattle.rules.specs.Sound.{all_sound}

@@ -12,8 +12,7 @@ use Rattle.forms.specs.Key.{Key, key_form}
 use Rattle.forms.specs.Row.{Row}
 use Rattle.forms.specs.Batch.{Mutation, key_inside, ascend}
 use Rattle.forms.proofs.Orders.{eq_bytes-true}
-use Rattle.rules.specs.declared.answers.Answer.TheVariants.{Accepted}
-use Rattle.rules.specs.Answers.{need, need_own}
+use Rattle.rules.specs.Answers.{Accepted, need, need_own}
 use Rattle.rules.specs.Box.{Box, Lock, Standing, Default, holder_of, records_of, lock_of, row_of, in_order, ordered, row_before, insert_line, insert_default}
 use Rattle.rules.specs.Sound.{all_sound}
 use Rattle.rules.specs.Calls.{kind_of, owns, all_below, row_argument, row_stands}

@@ -9,11 +9,10 @@ use mathlib.Core.List.{List, [], ◌∷◌}
 use mathlib.Core.Option.{Option, none, some}
 use lib.Dec.{eqb, ltb}
 use borrow.Author.Tests.{eq-eqb, eqb-true, ltb-true, lt-ltb, ne_eqb, eqb-false}
-use Rattle.rules.specs.declared.answers.Answer.TheVariants.{Accepted}
+use Rattle.rules.specs.Answers.{Accepted, need}
 use Rattle.rules.specs.declared.records.Kind.{Kind}
 use Rattle.rules.specs.declared.records.Kind.TheVariants.{Put, Delete, Rollback}
 use Rattle.rules.specs.declared.records.Record.{Record}
-use Rattle.rules.specs.Answers.{need}
 use Rattle.rules.specs.Box.{eq_kind, insert_by, put_in}
 use Rattle.rules.specs.Sound.{sound_record, kind_fits, all_sound}
 use Rattle.rules.specs.Calls.{all_below, found_if, stamped_at}

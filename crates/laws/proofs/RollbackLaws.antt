@@ -12,11 +12,10 @@ use Rattle.forms.specs.Key.{Key, key_form}
 use Rattle.forms.specs.Row.{Row}
 use Rattle.forms.specs.Readers.{is_some}
 use Rattle.forms.specs.Batch.{ascend}
-use Rattle.rules.specs.declared.answers.Answer.TheVariants.{Accepted}
+use Rattle.rules.specs.Answers.{Accepted, ◌▸◌, need, need_own}
 use Rattle.rules.specs.declared.records.Kind.TheVariants.{Rollback}
 use Rattle.rules.specs.declared.records.Record.{Record}
 use Rattle.rules.specs.declared.room.Load.{Load}
-use Rattle.rules.specs.Answers.{◌▸◌, need, need_own}
 use Rattle.rules.specs.Box.{Box, Lock, Finished, KeyLine, holder_of, records_of, lock_of, row_of, eq_kind, insert_by, insert_line, drop_lock, drop_row, in_order}
 use Rattle.rules.specs.Room.{load_of}
 use Rattle.rules.specs.Calls.{owns, lock_at, kind_ready, stamped_at, record_for}

@@ -18,9 +18,7 @@ use Rattle.forms.specs.Row.{Row, row_form}
 use Rattle.forms.specs.Batch.{Mutation, mutations, keys}
 use Rattle.forms.specs.Ones.{fitted, fitted_row, fitted_entry, one_mutation, one_key}
 use Rattle.forms.proofs.OneLaws.{fits-stays, long-empty, one-mutation, one_key_lem}
-use Rattle.rules.specs.declared.answers.Answer.{Answer}
-use Rattle.rules.specs.declared.answers.Answer.TheVariants.{Accepted, No, Held}
-use Rattle.rules.specs.Answers.{◌▸◌, need}
+use Rattle.rules.specs.Answers.{Answer, Accepted, No, Held, ◌▸◌, need}
 use Rattle.rules.specs.Box.{Box}
 use Rattle.rules.specs.Calls.{Done, settle, of_batch, row_argument}
 use Rattle.rules.specs.Prewrite.{PrewriteTerms, prewrite_terms_step, prewrite_entry, prewrite_entries, prewrite_room, prewrite_steps, apply_prewrite, apply_prewrites, prewrite_all, prewrite_batch, prewrite}

@@ -6,10 +6,7 @@ use mathlib.Core.Path.{◌≡◌, refl, sym, ap}
 use mathlib.Core.Bool.{Bool, true, false, ◌&&◌, ◌||◌, not}
 use mathlib.Core.Option.{Option, none, some}
 use Rattle.forms.specs.Readers.{is_some}
-use Rattle.rules.specs.declared.answers.Holder.{Holder}
-use Rattle.rules.specs.declared.answers.Answer.{Answer}
-use Rattle.rules.specs.declared.answers.Answer.TheVariants.{Accepted, No, Held}
-use Rattle.rules.specs.Answers.{number, holder, Answered, ◌▸◌, need, need_own}
+use Rattle.rules.specs.Answers.{Answer, Accepted, No, Held, Holder, number, holder, Answered, ◌▸◌, need, need_own}
 
 pub answered : {due got : Answer} → got ≡ due → Answered due got
 answered e = record { number_is = ap number e; holder_is = ap holder e; case_is = e }

@@ -10,8 +10,7 @@ use borrow.Author.Tests.{leb-true}
 use Rattle.forms.specs.Bytes.{Bytes}
 use Rattle.forms.specs.Key.{Key, key_form}
 use Rattle.forms.specs.Batch.{Mutation, key_inside, ascend, mutations, keys}
-use Rattle.rules.specs.declared.answers.Answer.{Answer}
-use Rattle.rules.specs.declared.answers.Answer.TheVariants.{Accepted, No, Held}
+use Rattle.rules.specs.Answers.{Answer, Accepted, No, Held}
 use Rattle.rules.specs.Box.{Box, fresh}
 use Rattle.rules.specs.Calls.{Done, settle, settle_state, of_batch, row_argument}
 use Rattle.rules.specs.Prewrite.{PrewriteTerms, prewrite_terms_step, prewrite_all, prewrite_batch, prewrite_steps, prewrite_entry, prewrite_entries, apply_prewrite, apply_prewrites}

@@ -10,11 +10,9 @@ use mathlib.Core.Option.{Option, none, some}
 use borrow.Author.Tests.{lt-ltb, ltb-true}
 use Rattle.forms.specs.Key.{Key}
 use Rattle.forms.specs.Batch.{Mutation, key_inside, ascend, mutations, keys}
-use Rattle.rules.specs.declared.answers.Answer.{Answer}
-use Rattle.rules.specs.declared.answers.Answer.TheVariants.{Accepted, No, Held}
+use Rattle.rules.specs.Answers.{Answer, Accepted, No, Held, ◌▸◌, need}
 use Rattle.rules.specs.declared.room.Load.{Load}
 use Rattle.rules.specs.declared.terms.CommitTerms.{CommitTerms}
-use Rattle.rules.specs.Answers.{◌▸◌, need}
 use Rattle.rules.specs.Box.{Box, in_order}
 use Rattle.rules.specs.Room.{load_of, room_for}
 use Rattle.rules.specs.Calls.{Done, settle, of_batch, non_empty}

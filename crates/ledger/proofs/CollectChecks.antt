@@ -10,10 +10,9 @@ use mathlib.Core.Option.{Option, none, some}
 use Rattle.forms.specs.Key.{Key}
 use Rattle.forms.specs.Row.{Row}
 use Rattle.forms.specs.Batch.{Mutation}
-use Rattle.rules.specs.declared.answers.Answer.{Answer}
+use Rattle.rules.specs.Answers.{Answer, ◌▸◌, need, need_own}
 use Rattle.rules.specs.declared.records.Record.{Record}
 use Rattle.rules.specs.declared.terms.CommitTerms.{CommitTerms}
-use Rattle.rules.specs.Answers.{◌▸◌, need, need_own}
 use Rattle.rules.specs.Box.{Box, Lock, holder_of, records_of, lock_of, row_of}
 use Rattle.rules.specs.Sound.{all_sound}
 use Rattle.rules.specs.Calls.{owns, all_below, kind_ready, stamped_at}

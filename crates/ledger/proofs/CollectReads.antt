@@ -12,11 +12,9 @@ use Rattle.forms.specs.Key.{Key, key_form}
 use Rattle.forms.specs.Row.{Row}
 use Rattle.forms.specs.Bytes.{lt_bytes}
 use Rattle.forms.proofs.Orders.{lt_bytes-irrefl}
-use Rattle.rules.specs.declared.answers.Answer.{Answer}
-use Rattle.rules.specs.declared.answers.Answer.TheVariants.{Accepted, No, Held}
+use Rattle.rules.specs.Answers.{Answer, Accepted, No, Held, ◌▸◌, need, Reply, nothing, if_passed, count_if}
 use Rattle.rules.specs.declared.records.Kind.TheVariants.{Put}
 use Rattle.rules.specs.declared.records.Record.{Record}
-use Rattle.rules.specs.Answers.{◌▸◌, need, Reply, nothing, if_passed, count_if}
 use Rattle.rules.specs.Box.{Box, Lock, Finished, records_of, lock_of, row_of, in_order}
 use Rattle.rules.specs.Read.{lock_lets, newest_first, walk, read_steps, examine, read, at_or_below}
 use Rattle.rules.specs.Intent.{judge_lock, intent_at}

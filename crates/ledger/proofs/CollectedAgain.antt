@@ -11,10 +11,9 @@ use borrow.Author.Tests.{lt-ltb, lt-leb, le-leb}
 use Rattle.forms.specs.Key.{Key}
 use Rattle.forms.specs.Bytes.{eq_bytes}
 use Rattle.forms.specs.Batch.{Mutation}
-use Rattle.rules.specs.declared.answers.Answer.TheVariants.{Accepted}
+use Rattle.rules.specs.Answers.{Accepted, ◌▸◌, need, need_own}
 use Rattle.rules.specs.declared.records.Kind.TheVariants.{Put}
 use Rattle.rules.specs.declared.records.Record.{Record}
-use Rattle.rules.specs.Answers.{◌▸◌, need, need_own}
 use Rattle.rules.specs.Box.{Box, Lock, Line, Standing, Finished, KeyLine, Default, fresh, eq_kind, records_of, add_record, lock_of, before, put_in, insert_by, insert_line, unless_lock, drop_lock}
 use Rattle.rules.specs.Read.{keep_if}
 use Rattle.rules.specs.Calls.{State, settle_state, kind_of}

@@ -3,7 +3,7 @@ use mathlib.Core.Path.{◌≡◌, refl}
 use mathlib.Core.List.{List, ◌∷◌}
 use mathlib.Core.Option.{some}
 use Rattle.forms.specs.Key.{Key}
-use Rattle.rules.specs.declared.answers.Answer.TheVariants.{Accepted}
+use Rattle.rules.specs.Answers.{Accepted}
 use Rattle.rules.specs.Box.{Box, Lock, Standing, Finished, lock_of}
 use Rattle.rules.specs.Calls.{record_for}
 use Rattle.rules.specs.declared.terms.CommitTerms.{CommitTerms}

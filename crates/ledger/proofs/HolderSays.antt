@@ -14,13 +14,10 @@ use Rattle.forms.specs.Row.{Row}
 use Rattle.forms.specs.Readers.{is_some}
 use Rattle.forms.specs.Batch.{Mutation, key_inside, mutations, keys}
 use Rattle.forms.proofs.Orders.{eq_bytes-refl, eq_bytes-true}
-use Rattle.rules.specs.declared.answers.Holder.{Holder}
-use Rattle.rules.specs.declared.answers.Answer.{Answer}
-use Rattle.rules.specs.declared.answers.Answer.TheVariants.{Accepted, No, Held}
+use Rattle.rules.specs.Answers.{Answer, Accepted, No, Held, Holder, number, no_holder, holder, ◌▸◌, need_own, Reply, nothing, shown, refused, answer_of}
 use Rattle.rules.specs.declared.records.Kind.{Kind}
 use Rattle.rules.specs.declared.records.Record.{Record}
 use Rattle.rules.specs.declared.terms.CommitTerms.{CommitTerms}
-use Rattle.rules.specs.Answers.{number, no_holder, holder, ◌▸◌, need_own, Reply, nothing, shown, refused, answer_of}
 use Rattle.rules.specs.Box.{Box, Lock, Line, Standing, Finished, KeyLine, holder_of, records_of, lock_of, add_lock, row_of, before, all_after, ordered, in_order}
 use Rattle.rules.specs.Read.{keep_if, lock_lets, read_steps, examine, read}
 use Rattle.rules.specs.Page.{Bounds, Limits, in_bounds, keys_of, keys_within, with_key, read_key, row_cost, page, row_page_steps, intent_page, conflict_page}

@@ -10,7 +10,7 @@ use Rattle.forms.specs.Key.{Key}
 use Rattle.forms.specs.Row.{Row}
 use Rattle.forms.specs.Bytes.{eq_bytes}
 use Rattle.forms.specs.Batch.{Mutation}
-use Rattle.rules.specs.declared.answers.Answer.TheVariants.{Accepted}
+use Rattle.rules.specs.Answers.{Accepted}
 use Rattle.rules.specs.declared.records.Kind.{Kind}
 use Rattle.rules.specs.declared.records.Kind.TheVariants.{Delete}
 use Rattle.rules.specs.declared.records.Record.{Record}

@@ -10,7 +10,7 @@ use Rattle.forms.specs.Row.{Row}
 use Rattle.forms.specs.Bytes.{eq_bytes}
 use Rattle.forms.specs.Batch.{Mutation}
 use Rattle.forms.proofs.Orders.{eq_bytes-true}
-use Rattle.rules.specs.declared.answers.Answer.TheVariants.{Accepted}
+use Rattle.rules.specs.Answers.{Accepted}
 use Rattle.rules.specs.Box.{Box, Lock, Standing, KeyLine, Default, before, records_of, lock_of, row_of, insert_line}
 use Rattle.rules.specs.Sound.{all_sound}
 use Rattle.rules.specs.Calls.{kind_of, all_below, row_stands}

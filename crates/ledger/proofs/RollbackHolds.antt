@@ -5,7 +5,7 @@ use mathlib.Core.List.{List, ◌∷◌}
 use mathlib.Core.Option.{Option, none}
 use Rattle.forms.specs.Key.{Key}
 use Rattle.forms.specs.Row.{Row}
-use Rattle.rules.specs.declared.answers.Answer.TheVariants.{Accepted}
+use Rattle.rules.specs.Answers.{Accepted}
 use Rattle.rules.specs.declared.records.Kind.TheVariants.{Rollback}
 use Rattle.rules.specs.Box.{Box, Lock, Finished, records_of, lock_of}
 use Rattle.rules.specs.Calls.{record_for}

@@ -9,10 +9,9 @@ use Rattle.forms.specs.Bytes.{Bytes}
 use Rattle.forms.specs.Key.{Key}
 use Rattle.forms.specs.Row.{Row}
 use Rattle.forms.specs.Batch.{Mutation}
-use Rattle.rules.specs.declared.answers.Holder.{Holder}
+use Rattle.rules.specs.Answers.{Holder, answer_of}
 use Rattle.rules.specs.declared.records.Record.{Record}
 use Rattle.rules.specs.declared.terms.CommitTerms.{CommitTerms}
-use Rattle.rules.specs.Answers.{answer_of}
 use Rattle.rules.specs.Box.{Box, Lock, lock_of}
 use Rattle.rules.specs.Intent as intent
 use Rattle.rules.specs.Page.{Bounds, Limits, locks_of, locks_within, bounds_step, page_arguments, intent_arguments, intent_page, unless_above, conflicting, lock_cost, conflict_page}

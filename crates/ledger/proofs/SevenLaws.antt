@@ -10,10 +10,7 @@ use lib.Dec.{leb, eqb}
 use lib.ListN.{length}
 use borrow.Author.Tests.{eq-eqb}
 use Rattle.forms.specs.Bytes.{Bytes}
-use Rattle.rules.specs.declared.answers.Holder.{Holder}
-use Rattle.rules.specs.declared.answers.Answer.{Answer}
-use Rattle.rules.specs.declared.answers.Answer.TheVariants.{Accepted, No, Held}
-use Rattle.rules.specs.Answers.{number, ◌▸◌, need, need_own, Reply, nothing, shown, refused, answer_of, if_passed}
+use Rattle.rules.specs.Answers.{Answer, Accepted, No, Held, Holder, number, ◌▸◌, need, need_own, Reply, nothing, shown, refused, answer_of, if_passed}
 use Rattle.rules.specs.Box.{Box}
 use Rattle.rules.specs.Calls.{Done, settle, State, settle_state, of_batch}
 use Rattle.rules.specs.OneStep.{then_applied}

@@ -13,7 +13,7 @@ use Rattle.forms.specs.Row.{Row}
 use Rattle.forms.specs.Bytes.{eq_bytes}
 use Rattle.forms.specs.Batch.{Mutation}
 use Rattle.forms.proofs.Orders.{eq_bytes-true}
-use Rattle.rules.specs.declared.answers.Answer.TheVariants.{Accepted}
+use Rattle.rules.specs.Answers.{Accepted}
 use Rattle.rules.specs.declared.records.Kind.{Kind}
 use Rattle.rules.specs.declared.records.Kind.TheVariants.{Put, Delete, Rollback}
 use Rattle.rules.specs.declared.records.Record.{Record}

@@ -9,10 +9,9 @@ use lib.Dec.{leb}
 use borrow.Author.Tests.{lt-ltb}
 use Rattle.forms.specs.Key.{Key}
 use Rattle.forms.specs.Batch.{Mutation}
-use Rattle.rules.specs.declared.answers.Answer.TheVariants.{Accepted}
+use Rattle.rules.specs.Answers.{Accepted, need}
 use Rattle.rules.specs.declared.records.Kind.TheVariants.{Rollback}
 use Rattle.rules.specs.declared.records.Record.{Record}
-use Rattle.rules.specs.Answers.{need}
 use Rattle.rules.specs.Box.{Box, Lock, Line, Standing, Finished, KeyLine, fresh, before, records_of, lock_of, insert_line, drop_lock}
 use Rattle.rules.specs.Calls.{State, kind_of, stamped_at, record_for}
 use Rattle.rules.specs.Prewrite.{PrewriteTerms, lock_for, lock_line, unless_locked, apply_prewrite}

@@ -13,14 +13,12 @@ use borrow.Author.Tests.{eqb-true}
 use Rattle.forms.specs.Key.{Key, key_form}
 use Rattle.forms.specs.Row.{Row, row_form}
 use Rattle.forms.specs.Readers.{is_some}
-use Rattle.rules.specs.declared.answers.Answer.{Answer}
-use Rattle.rules.specs.declared.answers.Answer.TheVariants.{Accepted, No, Held}
+use Rattle.rules.specs.Answers.{Answer, Accepted, No, Held, answer_of, if_passed, count_if}
 use Rattle.rules.specs.declared.records.Kind.{Kind}
 use Rattle.rules.specs.declared.records.Kind.TheVariants.{Put, Delete, Rollback}
 use Rattle.rules.specs.declared.records.Record.{Record}
 use Rattle.rules.specs.Box.{Box, Lock, Line, Standing, Finished, KeyLine, Default, kind_in, line_is, at_pair, eq_kind, records_of, lock_of, row_of}
 use Rattle.rules.specs.Sound.{sound_record, sound_lock, all_sound}
-use Rattle.rules.specs.Answers.{answer_of, if_passed, count_if}
 use Rattle.rules.specs.Calls.{owns, all_below, kind_ready, decodes, lock_at, stamped_at}
 use Rattle.rules.specs.Read.{Examined, newest_first, walk, read_steps, examine}
 use Rattle.rules.specs.Page.{Bounds, KeyLock, locks_of, locks_within}

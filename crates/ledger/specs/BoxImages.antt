@@ -3,7 +3,7 @@
 -- their floors; proofs/BoxImages.antt has the theorems.
 -- Assumes nothing.
 use Rattle.std.specs.Prelude.{ℕ, ◌^◌, ◌<◌, ◌≡◌, true}
-use Rattle.rules.specs.declared.answers.Answer.TheVariants.{Accepted}
+use Rattle.rules.specs.Answers.{Accepted}
 use Rattle.rules.specs.Box.{Box, in_order}
 use Rattle.rules.specs.Room.{room_for}
 use Rattle.rules.specs.Calls.{State}

@@ -8,8 +8,7 @@ use mathlib.Core.List.{List, Memᴰ}
 use Rattle.forms.specs.Bytes.{Bytes}
 use Rattle.forms.specs.Key.{Key}
 use Rattle.forms.specs.Batch.{Mutation}
-use Rattle.rules.specs.declared.answers.Answer.{Answer}
-use Rattle.rules.specs.declared.answers.Answer.TheVariants.{No}
+use Rattle.rules.specs.Answers.{Answer, No}
 use Rattle.rules.specs.declared.terms.CommitTerms.{CommitTerms}
 use Rattle.rules.specs.declared.records.Kind.TheVariants.{Put}
 use Rattle.rules.specs.declared.records.Record.{Record}

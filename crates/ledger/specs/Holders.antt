@@ -8,9 +8,7 @@ use Rattle.std.proofs.Math.Option.{Option, some}
 use Rattle.forms.specs.Bytes.{Bytes, lt_bytes}
 use Rattle.forms.specs.Key.{Key}
 use Rattle.forms.specs.Batch.{key_inside, mutations, keys}
-use Rattle.rules.specs.declared.answers.Answer.{Answer}
-use Rattle.rules.specs.declared.answers.Answer.TheVariants.{Accepted, Held}
-use Rattle.rules.specs.Answers.{number, no_holder, holder, answer_of}
+use Rattle.rules.specs.Answers.{Answer, Accepted, Held, number, no_holder, holder, answer_of}
 use Rattle.rules.specs.Box.{Box, Lock, kind_byte, lock_of, in_order}
 use Rattle.rules.specs.Sound.{sound_lock}
 use Rattle.rules.specs.Read.{read}

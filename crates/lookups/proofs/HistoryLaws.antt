@@ -1,5 +1,6 @@
 -- One record more: what a history says then, and what a key has in two lists of lines, one after the other.
 -- Assumes nothing.
+use Rattle.std.specs.Prelude.{None, Some}
 use Prim.Native.Nat.{ℕ, ◌+◌, ◌≤◌, ◌<◌}
 use native.Mathlib.Omega.{arith}
 use mathlib.Core.Path.{◌≡◌, refl, sym, ap, ◌∙◌}
@@ -19,16 +20,13 @@ use Rattle.rules.specs.Calls.{all_below, stamped_at, found_if}
 use Rattle.rules.specs.Commit.{with_start}
 use Rattle.rules.specs.Read.{newest_first, at_or_below, keep_if}
 use Rattle.store.specs.declared.views.RecordView.{RecordView}
-use Rattle.lookups.specs.declared.lookup.Found.{Found}
-use Rattle.lookups.specs.declared.lookup.Found.TheVariants.{Nothing, Is}
 use Rattle.lookups.specs.declared.lookup.History.{History}
-use Rattle.lookups.specs.declared.lookup.Locked.TheVariants.{By}
 use Rattle.lookups.specs.declared.lookup.KeyState.{KeyState}
 use Rattle.store.specs.declared.views.LockView.{LockView}
 use Rattle.store.specs.declared.views.LineView.{LineView}
 use Rattle.store.specs.declared.views.LineView.TheVariants as view
 use Rattle.store.specs.Views.{record_in, RowThere}
-use Rattle.lookups.specs.KeyStates.{said, is_if, first_found, examined_if, sight_after, no_history, history_after, see_line, not_rolled, examined_in, FoundThere, HistoryAt}
+use Rattle.lookups.specs.KeyStates.{Found, said, is_if, first_found, examined_if, sight_after, no_history, history_after, see_line, not_rolled, examined_in, FoundThere, HistoryAt}
 
 -- a test of each
 module _ (t : Record → Bool) (all : List Record → Bool) (nil : all [] ≡ true) (cons : (w : Record) (ws : List Record) → all (w ∷ ws) ≡ t w && all ws) where
@@ -88,9 +86,9 @@ examined-snoc m ws w = ap examined_in (first_more m ws w) ∙ go (leb w.stamp m)
 
 said_or : (f : Found) (hit : Bool) (w : RecordView) → said (first_found f hit w) ≡ or_some (said f) hit (record_in w)
 unfolding found_if
-said_or (Is v) hit w = refl
-said_or Nothing true w = refl
-said_or Nothing false w = refl
+said_or (Some v) hit w = refl
+said_or None true w = refl
+said_or None false w = refl
 
 said-if : (hit : Bool) (w : RecordView) (old : Found) → said (is_if hit w old) ≡ found_if hit (record_in w) (said old)
 unfolding found_if
@@ -108,8 +106,8 @@ module _ {top : ℕ} {area : Bytes} {ds : List box.Default} {key : Key} where
     if-there false old f = f
 
     or-there : (f : Found) (hit : Bool) → FoundThere top area ds key f → FoundThere top area ds key (first_found f hit w)
-    or-there (Is v) hit f = f
-    or-there Nothing hit f = if-there hit Nothing f
+    or-there (Some v) hit f = f
+    or-there None hit f = if-there hit None f
 
     pub history-more : {start stamp : ℕ} {ws : List Record} {h : History} → HistoryAt top area ds key start stamp ws h → HistoryAt top area ds key start stamp (ws ++ record_in w ∷ []) (history_after start stamp h w)
     history-more {start} {stamp} {ws} {h} v = record {
@@ -130,31 +128,11 @@ module _ {top : ℕ} {area : Bytes} {ds : List box.Default} {key : Key} where
       visible_row = if-there (leb w.stamp stamp && not (box.eq_kind w.kind Rollback)) h.visible v.visible_row;
     }
 
--- ---- `sight_after`
-
-module _ (old : Found) (n moment : ℕ) (w : RecordView) where
-  pub sight-late : moment < w.stamp → record { visible = old; examined = n } ≡ sight_after old n moment w
-  sight-late h = rw (lt-leb w.stamp moment h)
-
-  pub sight-kind : {k : Kind} → w.stamp ≤ moment → w.kind ≡ k
-      → record { visible = is_if (not (box.eq_kind k Rollback)) w old; examined = examined_if true (box.eq_kind k Rollback) n } ≡ sight_after old n moment w
-  sight-kind {k} h q = rw (le-leb w.stamp moment h, q)
-
 -- one more at most
 pub examined-few : (t r : Bool) (old : ℕ) → examined_if t r old ≤ old + 1
 examined-few true true old = omega arith
 examined-few true false old = omega arith
 examined-few false r old = omega arith
-
--- ---- `see`
-
-module _ (start stamp next : ℕ) (seen : KeyState) {line : LineView} where
-  pub see-standing : {l : LockView} → line ≡ view.Standing l → record { first = seen.first; place = next; lock = By l; history = seen.history } ≡ see_line start stamp next seen line
-  see-standing e = rw e
-
-  pub see-finished : {w : RecordView} {h : History} {t : Bool} → line ≡ view.Finished w → h ≡ history_after start stamp seen.history w → ltb w.stamp stamp ≡ t
-      → record { first = seen.first; place = either_if t next seen.place; lock = seen.lock; history = h } ≡ see_line start stamp next seen line
-  see-finished e p q = rw (e, p, ← q)
 
 -- ---- two lists of lines, one after the other
 

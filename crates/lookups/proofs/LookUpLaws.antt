@@ -6,7 +6,7 @@ use native.Mathlib.Nat.{pow-zero, pow-suc}
 use native.Mathlib.Omega.{arith}
 use native.Mathlib.Numerals.{add-one}
 use mathlib.Core.Path.{◌≡◌, refl, sym, ap, ap₂, ◌∙◌, subst}
-use mathlib.Core.Logic.{inl, inr}
+use mathlib.Core.Logic.{◌⊎◌, inl, inr}
 use mathlib.Core.Bool.{Bool, true, false}
 use mathlib.Core.List.{List, [], ◌∷◌, ◌++◌, append-nil}
 use mathlib.Core.Option.{Option, none, some}
@@ -20,7 +20,8 @@ use Rattle.seqs.proofs.Tables.{shown-length, shown-at, shown-drop, shown-past}
 use Rattle.forms.specs.Bytes.{Bytes, cmp, is_less, is_equal, eq_bytes, lt_bytes}
 use Rattle.forms.specs.Key.{Key}
 use Rattle.forms.specs.Numbers.{either_if}
-use Rattle.forms.specs.declared.key.Order.TheVariants.{Equal}
+use Rattle.std.specs.declared.cmp.Ordering.{Ordering}
+use Rattle.std.specs.declared.cmp.Ordering.TheVariants.{Less, Equal, Greater}
 use Rattle.forms.proofs.Orders.{eq_bytes-sym, eq_bytes-true, lt_bytes-else, lt_bytes-not-eq'}
 use Rattle.rules.specs.declared.records.Record.{Record}
 use Rattle.rules.specs.Box as box
@@ -41,10 +42,9 @@ use Rattle.store.specs.declared.table.Store.{Store}
 use Rattle.store.specs.declared.table.Line.{Line}
 use Rattle.store.specs.declared.table.Line.TheVariants.{Standing, Finished}
 use Rattle.store.specs.declared.views.LineView.{LineView}
-use Rattle.lookups.specs.declared.lookup.History.{History}
 use Rattle.lookups.specs.declared.lookup.KeyState.{KeyState}
 use Rattle.store.specs.View.{eight_at, line_in, place_of, past, row_len, key_of, line_of, default_in, stored, no_slot}
-use Rattle.store.specs.Made.{SlotBelow, Built, store_of}
+use Rattle.store.specs.Made.{SlotBelow, Built}
 use Rattle.store.specs.Views.{view_in, view_of, RowThere}
 use Rattle.lookups.specs.KeyStates.{locked_by, nothing_at, see_line, LockThere, HistoryAt, stamp_line, record_place, KeyStateAt}
 use Rattle.store.proofs.BuiltLaws.{es, ds, slot, lines-order, same, inside, row-there}
@@ -74,6 +74,11 @@ round-left (suc r) f g = omega arith
 pub half-fits : (rounds : ℕ) {d rest : ℕ} → d < 2 ^ rounds → 0 < d → rest ≤ d / 2 → rest < 2 ^ (rounds - 1)
 half-fits zero f g h = absurd (omega (arith, round-left zero f g))
 half-fits (suc r) {rest} f g h = let e : r ≡ suc r - 1 = omega arith in subst (λ (n : ℕ). rest < 2 ^ n) e (omega (arith, f, h, pow-suc 2 r))
+
+-- a key that is below another or above it is not that key
+pub other-order : {o p : Ordering} → o ≡ p → (o ≡ Less) ⊎ (o ≡ Greater) → is_equal p ≡ false
+other-order e (inl q) = ap is_equal (sym e ∙ q)
+other-order e (inr q) = ap is_equal (sym e ∙ q)
 
 -- the search: the place of the key's first line is at least `low` and at most `high`
 pub record Halving (area key : Bytes) (slots : List Slot) (n low high : ℕ) : Type 0 where
@@ -287,7 +292,3 @@ module _ {st : Store} {area : Bytes} (b : Built st area) (k : Key) (start stamp 
 
         pub looking-equal : {t : LineView} {r : KeyState} → t ≡ view_of area (slot b i) → r ≡ see_line start stamp (i + 1) seen t → Looking area k start stamp st.lines st.load.lines (i + 1) r
         looking-equal p q = subst (Looking area k start stamp st.lines st.load.lines (i + 1)) (sym (q ∙ ap (see_line start stamp (i + 1) seen) p)) (seen-line here.line refl)
-
--- the floor says nothing of a key
-pub looked-on : {st : Store} {area key : Bytes} {start stamp : ℕ} {seen : KeyState} (floor : ℕ) → KeyStateAt st area key start stamp seen → KeyStateAt (store_of st.lines st.load st.top floor) area key start stamp seen
-looked-on floor k = record { first_is = k.first_is; place_is = k.place_is; lock_is = k.lock_is; lock_there = k.lock_there; history = k.history }

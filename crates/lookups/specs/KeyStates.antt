@@ -1,6 +1,7 @@
 -- What the lookup says of a key in the box.
 -- Assumes nothing.
-use Rattle.std.specs.Prelude.{◌≡◌, Bool, true, false, ◌&&◌, not, List, [], ◌∷◌, ℕ, ◌+◌, ◌≤◌, ltb, leb, eqb}
+use Rattle.std.specs.Prelude.{◌≡◌, Bool, true, false, ◌&&◌, not, List, [], ◌∷◌, ℕ, ◌+◌, ◌≤◌, ltb, leb, eqb, None, Some}
+use Rattle.std.specs.Prelude.{Option as Maybe}
 use Rattle.std.proofs.Math.Option.{Option, none, some}
 use Rattle.forms.specs.Bytes.{Bytes}
 use Rattle.forms.specs.Key.{Key}
@@ -19,33 +20,35 @@ use Rattle.store.specs.declared.views.LockView.{LockView}
 use Rattle.store.specs.declared.views.RecordView.{RecordView}
 use Rattle.store.specs.declared.views.LineView.{LineView}
 use Rattle.store.specs.declared.views.LineView.TheVariants as view
-use Rattle.lookups.specs.declared.lookup.Found.{Found}
-use Rattle.lookups.specs.declared.lookup.Found.TheVariants.{Nothing, Is}
 use Rattle.lookups.specs.declared.lookup.History.{History}
-use Rattle.lookups.specs.declared.lookup.Sight.{Sight}
-use Rattle.lookups.specs.declared.lookup.Locked.{Locked}
-use Rattle.lookups.specs.declared.lookup.Locked.TheVariants.{Nobody, By}
 use Rattle.lookups.specs.declared.lookup.KeyState.{KeyState}
 
 -- ---- what was found, in the box
 
+-- a record of the key, if one was found; the key's lock, if it has one
+abbrev pub Found : Type 0
+Found = Maybe RecordView
+
+abbrev pub Locked : Type 0
+Locked = Maybe LockView
+
 abbrev pub said : Found → Option Record
-said Nothing = none
-said (Is w) = some (record_in w)
+said None = none
+said (Some w) = some (record_in w)
 
 abbrev pub locked_by : Bytes → Locked → Option box.Lock
-locked_by area Nobody = none
-locked_by area (By i) = some (lock_in area i)
+locked_by area None = none
+locked_by area (Some i) = some (lock_in area i)
 
 -- ---- one record more, after those before it
 
 abbrev pub is_if : Bool → RecordView → Found → Found
-is_if true w old = Is w
+is_if true w old = Some w
 is_if false w old = old
 
 abbrev pub first_found : Found → Bool → RecordView → Found
-first_found (Is v) hit w = Is v
-first_found Nothing hit w = is_if hit w Nothing
+first_found (Some v) hit w = Some v
+first_found None hit w = is_if hit w None
 
 -- "Rollback, go on": of records in the way of a read, a Rollback is one more, and any other begins the count anew
 abbrev pub examined_if : Bool → Bool → ℕ → ℕ
@@ -53,14 +56,11 @@ examined_if true true n = n + 1
 examined_if true false n = 1
 examined_if false rolled n = n
 
-abbrev pub sight_after : Found → ℕ → ℕ → RecordView → Sight
-sight_after old n moment w = record {
-  visible = is_if (leb w.stamp moment && not (box.eq_kind w.kind Rollback)) w old;
-  examined = examined_if (leb w.stamp moment) (box.eq_kind w.kind Rollback) n;
-}
+abbrev pub sight_after : Found → ℕ → ℕ → RecordView → Found × ℕ
+sight_after old n moment w = (is_if (leb w.stamp moment && not (box.eq_kind w.kind Rollback)) w old, examined_if (leb w.stamp moment) (box.eq_kind w.kind Rollback) n)
 
 abbrev pub no_history : History
-no_history = record { below = true; above = true; started = Nothing; stamped = Nothing; visible = Nothing; examined = 0 }
+no_history = record { below = true; above = true; started = None; stamped = None; visible = None; examined = 0 }
 
 abbrev pub history_after : ℕ → ℕ → History → RecordView → History
 history_after start stamp h w = record {
@@ -68,17 +68,17 @@ history_after start stamp h w = record {
   above = h.above && ltb w.stamp stamp;
   started = first_found h.started (eqb start w.start) w;
   stamped = first_found h.stamped (eqb stamp w.stamp) w;
-  visible = (sight_after h.visible h.examined stamp w).visible;
-  examined = (sight_after h.visible h.examined stamp w).examined;
+  visible = (sight_after h.visible h.examined stamp w).0;
+  examined = (sight_after h.visible h.examined stamp w).1;
 }
 
 -- before the first line of the key
 abbrev pub nothing_at : ℕ → KeyState
-nothing_at first = record { first = first; place = first; lock = Nobody; history = no_history }
+nothing_at first = record { first = first; place = first; lock = None; history = no_history }
 
 -- one line more of the key, before the place `next`
 abbrev pub see_line : ℕ → ℕ → ℕ → KeyState → LineView → KeyState
-see_line start stamp next seen (view.Standing l) = record { first = seen.first; place = next; lock = By l; history = seen.history }
+see_line start stamp next seen (view.Standing l) = record { first = seen.first; place = next; lock = Some l; history = seen.history }
 see_line start stamp next seen (view.Finished w) =
     record { first = seen.first; place = either_if (ltb w.stamp stamp) next seen.place; lock = seen.lock; history = history_after start stamp seen.history w }
 
@@ -95,16 +95,16 @@ examined_in [] = 0
 examined_in (w ∷ ws) = examined_if true (box.eq_kind w.kind Rollback) (examined_in ws)
 
 abbrev pub FoundThere : ℕ → Bytes → List box.Default → Key → Found → Type 0
-FoundThere top area ds key Nothing = Unit {0}
-FoundThere top area ds key (Is w) = RowThere top area ds key w.start w.kind w.rowat w.rowlen
+FoundThere top area ds key None = Unit {0}
+FoundThere top area ds key (Some w) = RowThere top area ds key w.start w.kind w.rowat w.rowlen
 
 pub record IntentThere (top : ℕ) (area : Bytes) (ds : List box.Default) (key : Key) (i : LockView) : Type 0 where
   pub primary_in : i.at + i.len ≤ top
   pub row : RowThere top area ds key i.start i.kind i.rowat i.rowlen
 
 abbrev pub LockThere : ℕ → Bytes → List box.Default → Key → Locked → Type 0
-LockThere top area ds key Nobody = Unit {0}
-LockThere top area ds key (By i) = IntentThere top area ds key i
+LockThere top area ds key None = Unit {0}
+LockThere top area ds key (Some i) = IntentThere top area ds key i
 
 pub record HistoryAt (top : ℕ) (area : Bytes) (ds : List box.Default) (key : Key) (start stamp : ℕ) (ws : List Record) (h : History) : Type 0 where
   pub below : h.below ≡ all_below start ws

@@ -4,4 +4,4 @@
 
 pub mod lookup;
 
-pub use lookup::{Found, History, KeyState, Locked, look_up};
+pub use lookup::{History, KeyState, look_up};

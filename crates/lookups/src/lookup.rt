@@ -1,19 +1,12 @@
 // What stands at a key, as every call asks of it: its lock, and what its records say to a start and to a stamp. A search by halves for
 // its first line, then a walk over its lines.
-ghost use Rattle.std.specs.Prelude.{◌≡◌, ℕ, ◌<◌};
-ghost use Rattle.store.specs.Made.{Built, store_of};
+ghost use Rattle.std.specs.Prelude.{◌≡◌, ◌<◌};
+ghost use Rattle.store.specs.Made.{Built};
 ghost use Rattle.lookups.specs.KeyStates.{first_found, sight_after, history_after, nothing_at, see_line, KeyStateAt};
 
-use forms::{Order, both};
-use rules::{Kind, Load};
-use store::{LineView, LockView, RecordView, Slot, slot_order, view_of};
-
-// A record that may be missing.
-#[derive(Clone, Copy)]
-pub enum Found {
-    Nothing,
-    Is(RecordView),
-}
+use rules::Kind;
+use std::cmp::Ordering;
+use store::{LineView, LockView, RecordView, Store, slot_order, view_of};
 
 // What the records of a key say to a start and a stamp.
 #[derive(Clone, Copy)]
@@ -23,27 +16,13 @@ pub struct History {
     // the stamp is newer than each
     pub above: bool,
     // the record with this start
-    pub started: Found,
+    pub started: Option<RecordView>,
     // the record at the stamp
-    pub stamped: Found,
+    pub stamped: Option<RecordView>,
     // the newest at or below the stamp that is no Rollback: what a read sees
-    pub visible: Found,
+    pub visible: Option<RecordView>,
     // that one, and the Rollbacks above it at or below the stamp: how many a read examines
     pub examined: usize,
-}
-
-// Of these, what a read sees, and how many it examines.
-#[derive(Clone, Copy)]
-pub struct Sight {
-    pub visible: Found,
-    pub examined: usize,
-}
-
-// The lock of a key, if it has one.
-#[derive(Clone, Copy)]
-pub enum Locked {
-    Nobody,
-    By(LockView),
 }
 
 // What stands at a key: the place of its first line, the place of a record of the key at the stamp, its lock and its history.
@@ -51,48 +30,34 @@ pub enum Locked {
 pub struct KeyState {
     pub first: usize,
     pub place: usize,
-    pub lock: Locked,
+    pub lock: Option<LockView>,
     pub history: History,
 }
 
 // Keep the first match.
-fn first_found(old: Found, hit: bool, w: RecordView) -> Found
+fn first_found(old: Option<RecordView>, hit: bool, w: RecordView) -> Option<RecordView>
     ensures { result ≡ first_found old hit w }
 {
-    match old {
-        Found::Is(v) => Found::Is(v),
-        Found::Nothing => {
-            if hit {
-                return Found::Is(w);
-            }
-            Found::Nothing
-        }
-    }
+    old.or(hit.then_some(w))
 }
 
 // What a read at the moment sees, and how many records it examines: "from the newest at or below the moment downward: Rollback, go on". The walk
 // goes upward, so each record that is no Rollback counts anew.
-fn sight_after(visible: Found, examined: usize, moment: u64, w: RecordView) -> Sight
+fn sight_after(
+    visible: Option<RecordView>,
+    examined: usize,
+    moment: u64,
+    w: RecordView,
+) -> (Option<RecordView>, usize)
     requires { examined < 1024 }
     ensures { result ≡ sight_after visible examined moment w }
 {
     if moment < w.stamp {
-        return Sight { visible, examined };
+        return (visible, examined);
     }
-    let kind = w.kind;
-    match kind {
-        Kind::Put => Sight {
-            visible: Found::Is(w),
-            examined: 1,
-        },
-        Kind::Delete => Sight {
-            visible: Found::Is(w),
-            examined: 1,
-        },
-        Kind::Rollback => Sight {
-            visible: visible,
-            examined: examined + 1,
-        },
+    match w.kind {
+        Kind::Put | Kind::Delete => (Some(w), 1),
+        Kind::Rollback => (visible, examined + 1),
     }
 }
 
@@ -101,22 +66,14 @@ fn see_record(h: History, w: RecordView, start: u64, stamp: u64) -> History
     requires { h.examined < 1024 }
     ensures { result ≡ history_after start stamp h w }
 {
-    let below = both(h.below, w.stamp < start);
-    let above = both(h.above, w.stamp < stamp);
-    let old_started = h.started;
-    let started = first_found(old_started, start == w.start, w);
-    let old_stamped = h.stamped;
-    let stamped = first_found(old_stamped, stamp == w.stamp, w);
-    let old_visible = h.visible;
-    let sight = sight_after(old_visible, h.examined, stamp, w);
-    let visible = sight.visible;
+    let (visible, examined) = sight_after(h.visible, h.examined, stamp, w);
     History {
-        below: below,
-        above: above,
-        started: started,
-        stamped: stamped,
-        visible: visible,
-        examined: sight.examined,
+        below: h.below && w.stamp < start,
+        above: h.above && w.stamp < stamp,
+        started: first_found(h.started, start == w.start, w),
+        stamped: first_found(h.stamped, stamp == w.stamp, w),
+        visible,
+        examined,
     }
 }
 
@@ -125,15 +82,15 @@ fn nothing_at(first: usize) -> KeyState
     ensures { result ≡ nothing_at first }
 {
     KeyState {
-        first: first,
+        first,
         place: first,
-        lock: Locked::Nobody,
+        lock: None,
         history: History {
             below: true,
             above: true,
-            started: Found::Nothing,
-            stamped: Found::Nothing,
-            visible: Found::Nothing,
+            started: None,
+            stamped: None,
+            visible: None,
             examined: 0,
         },
     }
@@ -145,30 +102,16 @@ fn see(seen: KeyState, line: LineView, start: u64, stamp: u64, next: usize) -> K
     ensures { result ≡ see_line start stamp next seen line }
 {
     match line {
-        LineView::Standing(l) => {
-            let history = seen.history;
-            KeyState {
-                first: seen.first,
-                place: next,
-                lock: Locked::By(l),
-                history: history,
-            }
-        }
-        LineView::Finished(w) => {
-            let old = seen.history;
-            let history = see_record(old, w, start, stamp);
-            let lock = seen.lock;
-            let mut place = seen.place;
-            if w.stamp < stamp {
-                place = next;
-            }
-            KeyState {
-                first: seen.first,
-                place: place,
-                lock: lock,
-                history: history,
-            }
-        }
+        LineView::Standing(l) => KeyState {
+            place: next,
+            lock: Some(l),
+            ..seen
+        },
+        LineView::Finished(w) => KeyState {
+            place: if w.stamp < stamp { next } else { seen.place },
+            history: see_record(seen.history, w, start, stamp),
+            ..seen
+        },
     }
 }
 
@@ -177,45 +120,30 @@ const ROUNDS: usize = 11;
 
 // The search compares one key a round and takes one of the rounds for it. It is proved that each time one is left, so nothing tests for it, and
 // the compiler leaves the count out. A key without lines has the place where one would stand. The walk from there ends at the first line of
-// another key. Both loops stand in one function, since a second one that indexes the table would copy it. It takes the parts of a store: a
-// whole store would be copied on the way here. The floor is none of them, since it says nothing of a key.
-pub fn look_up(
-    lines: [Slot; 1024],
-    load: Load,
-    top: usize,
-    area: &[u8],
-    key: &[u8],
-    start: u64,
-    stamp: u64,
-) -> KeyState
-    requires { (floor : ℕ) × Built (store_of lines load top floor) area.now }
-    ensures { (floor : ℕ) → KeyStateAt (store_of lines load top floor) area.now key.now start stamp result }
+// another key.
+pub fn look_up(store: &Store, area: &[u8], key: &[u8], start: u64, stamp: u64) -> KeyState
+    requires { Built store.now area.now }
+    ensures { KeyStateAt store.now area.now key.now start stamp result }
 {
-    let n = load.lines;
-    let mut low: usize = 0;
-    let mut high = n;
+    let mut low = 0;
+    let mut high = store.load.lines;
     let mut rounds = ROUNDS;
+    // a `while`, since a search by halves has no index that counts
     while low < high {
         rounds -= 1;
         let mid = low + (high - low) / 2;
-        match slot_order(lines[mid], area, key) {
-            Order::Less => low = mid + 1,
-            Order::Equal => high = mid,
-            Order::Greater => high = mid,
+        match slot_order(store.lines[mid], area, key) {
+            Ordering::Less => low = mid + 1,
+            Ordering::Equal => high = mid,
+            Ordering::Greater => high = mid,
         }
     }
     let mut seen = nothing_at(low);
-    let mut i = low;
-    while i < n {
-        let s = lines[i];
-        i += 1;
+    for i in low..store.load.lines {
+        let s = store.lines[i];
         match slot_order(s, area, key) {
-            Order::Less => return seen,
-            Order::Equal => {
-                let line = view_of(s, area);
-                seen = see(seen, line, start, stamp, i);
-            }
-            Order::Greater => return seen,
+            Ordering::Equal => seen = see(seen, view_of(s, area), start, stamp, i + 1),
+            Ordering::Less | Ordering::Greater => return seen,
         }
     }
     seen

@@ -13,7 +13,7 @@ use Rattle.rules.specs.Answers.{Reply, nothing, shown, refused}
 use Rattle.rules.specs.Box.{Box}
 use Rattle.rules.specs.Page.{Bounds, Limits, Page, page, intent_page, conflict_page}
 use Rattle.rules.specs.Written.{Written, page_bytes, key_row_bytes, key_lock_bytes, write_if, written, scan_page, scan_intent_page, scan_conflicting_intents, WroteAs}
-use Rattle.rules.specs.declared.written.Wrote.{Wrote}
+use Rattle.rules.specs.Outcomes.{Wrote}
 use Rattle.rules.specs.Capture.{image_of, capture_if, capture_image}
 use Rattle.rules.specs.Image.{old_image}
 use Rattle.rules.specs.Convert.{convertible, converted_bytes, convert_if, convert_image}

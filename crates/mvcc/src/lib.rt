@@ -33,13 +33,9 @@ pub use collects::collect;
 // Figures of the whole store.
 pub use figures::{allocator_high_water_marks, stats};
 
-// Whether a call was accepted.
-pub use calls::accepted;
-
 // The types that calls take and give back.
-pub use bones::{BoneShown, BonesShown};
-pub use calls::Changed;
-pub use onesteps::Stepped;
+pub use bounds::Bounds;
+pub use forms::Part;
 pub use reads::{LockSeen, Reading, RowSeen, ShownLock};
-pub use rules::{Answer, Figures, Holder, Kind, Load, Marks, Stats, Wrote};
+pub use rules::{Figures, Holder, Kind, Load, Marks, Refusal, Stats};
 pub use store::{AREA, Line, LockSlot, RecordSlot, Slot, Store};

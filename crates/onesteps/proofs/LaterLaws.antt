@@ -8,10 +8,8 @@ use mathlib.Core.Bool.{Bool, true, false, not, ◌&&◌, ◌||◌, true≢false,
 use mathlib.Core.List.{List, [], ◌∷◌}
 use lib.ListN.{length, length-append}
 use Rattle.forms.specs.Batch.{Mutation, key_inside, ascend}
-use Rattle.rules.specs.declared.answers.Answer.{Answer}
-use Rattle.rules.specs.declared.answers.Answer.TheVariants.{Accepted, No, Held}
+use Rattle.rules.specs.Answers.{Answer, Accepted, No, Held, ◌▸◌, need}
 use Rattle.rules.specs.declared.room.Load.{Load}
-use Rattle.rules.specs.Answers.{◌▸◌, need}
 use Rattle.rules.specs.Box as box
 use Rattle.rules.specs.Room.{room_for}
 use Rattle.rules.specs.Sound.{all_sound}

@@ -1,22 +1,19 @@
 -- The applying pass of a one-step batch: what each entry asks of the store as it is then, and what is left after it.
 -- Assumes nothing.
-use Prim.Native.Nat.{ℕ, ◌+◌, ◌≤◌, ◌<◌}
+use Prim.Native.Nat.{ℕ, ◌≤◌, ◌<◌}
 use native.Mathlib.Omega.{arith}
 use mathlib.Core.Path.{◌≡◌, refl, sym, ap, ◌∙◌, subst}
-use mathlib.Core.List.{List, [], ◌∷◌}
+use mathlib.Core.List.{List, [], ◌∷◌, map}
 use mathlib.Core.Option.{Option, none, some}
 use borrow.Author.Tests.{ltb-true}
-use Rattle.seqs.specs.Tables.{shown}
 use Rattle.forms.specs.Bytes.{Bytes}
 use Rattle.forms.specs.Key.{Key, key_form}
 use Rattle.forms.specs.Row.{Row}
 use Rattle.forms.specs.Batch.{Mutation, key_inside}
-use Rattle.forms.specs.Places.{key_at, mutation_of, InForm}
+use Rattle.forms.specs.Places.{key_at, mutation_of, given_part, InForm}
 use Rattle.forms.specs.declared.batch.Entry.{Entry}
 use Rattle.forms.proofs.DecodeLaws.{mutations-by-keys}
-use Rattle.rules.specs.declared.answers.Answer.{Answer}
-use Rattle.rules.specs.declared.answers.Answer.TheVariants.{Accepted}
-use Rattle.rules.specs.Answers.{◌▸◌, need}
+use Rattle.rules.specs.Answers.{Answer, Accepted, ◌▸◌, need}
 use Rattle.rules.specs.Box.{Box, Lock, lock_of, row_of}
 use Rattle.rules.specs.Room.{load_of, Fits}
 use Rattle.rules.specs.Calls.{row_argument}
@@ -30,12 +27,10 @@ use Rattle.laws.proofs.BatchLaws.{check_all, Depends}
 use Rattle.laws.proofs.OneStepLaws.{step_check, step-depends, step-only, apply_steps-all, steps-load}
 use Rattle.ledger.proofs.SoundEntries.{commit-above}
 use Rattle.store.specs.View.{box_of}
-use Rattle.changes.specs.Changes.{entry_for}
 use Rattle.actions.specs.declared.action.Action.{Action}
 use Rattle.actions.specs.declared.action.Action.TheVariants.{Step}
-use Rattle.calls.specs.Entries.{row_at}
-use Rattle.calls.specs.Passes.{EntryReady, Ready, counted}
-use Rattle.calls.proofs.EntryPartLaws.{parts_are, row_fits}
+use Rattle.calls.specs.Passes.{EntryReady, Ready}
+use Rattle.calls.proofs.EntryPartLaws.{row_fits}
 use Rattle.calls.proofs.ApplyAllLaws.{Changes, Applying, applying-passed, ready-all}
 use Rattle.calls.specs.Steps.{argument_step}
 use Rattle.onesteps.proofs.LaterLaws.{entries-check}
@@ -54,7 +49,7 @@ abbrev pub changes_of : CommitTerms → Changes Mutation
 changes_of h = record { key = key_inside; start = h.start; check = entry_check h; apply = apply_step h; depends = entry-depends h; only = step-only h h.start }
 
 abbrev pub deed_of : CommitTerms → Action
-deed_of h = Step h.txn h.start h.commit
+deed_of h = Step h
 
 both-check : (h : CommitTerms) (b : Box) (ms : List Mutation) → arguments_step ms ≡ Accepted → check_all (step_check h) b ms ≡ Accepted → check_all (entry_check h) b ms ≡ Accepted
 unfolding arguments_step argument_step check_all entry_check
@@ -100,7 +95,7 @@ module _ (floor : ℕ) (h : CommitTerms) (primary : Key) (s : Bytes) (head : com
     floor = floor;
     head = head;
     form = need-true _ 1 (then-left _ _ arguments);
-    row_fits = row_fits s e (need-true _ 2 (then-right (need (key_form (key_at s e)) 1) _ arguments));
+    row_fits = row_fits (given_part s e.row) (need-true _ 2 (then-right (need (key_form (key_at s e)) 1) _ arguments));
     passed = then-left (step_entry h (box_of st area) x) _ steps;
     newest = need-true _ 8 (then-right (step_entry h (box_of st area) x) _ steps);
     slot_free = slot_free;
@@ -111,13 +106,13 @@ module _ (floor : ℕ) (h : CommitTerms) (primary : Key) (s : Bytes) (head : com
       m = mutation_of s e
 
       x : Mutation
-      x = entry_for (key_at s e) e.put (row_at s e)
+      x = mutation_of s e
 
       here : Applying (changes_of h) want (box_of st area) (m ∷ rest)
       here = subst (λ (y : Box). Applying (changes_of h) want y (m ∷ rest)) (sym q) v
 
       checked : entry_check h (box_of st area) x ≡ Accepted
-      checked = ap (entry_check h (box_of st area)) (parts_are s e) ∙ applying-passed here
+      checked = applying-passed here
 
       arguments : argument_step x ≡ Accepted
       arguments = then-left (argument_step x) _ checked
@@ -134,9 +129,9 @@ module _ (floor : ℕ) (h : CommitTerms) (primary : Key) (s : Bytes) (head : com
           let g : (step_frees h (box_of st area) m).lines ≡ 0 = frees-lines h (box_of st area) m ∙ ap (λ (o : Option Lock). (of_lock m.key o).lines) f in
           omega (arith, y.lines, w.lines, z.lines, g, sums-grow h (box_of st area) rest, fit.lines)
 
-pub steps-ready : (floor : ℕ) (h : CommitTerms) (primary : Key) {s : Bytes} {n : ℕ} {es : List Entry} (b : Box) → commit_terms_step floor h ≡ Accepted → InForm s n es → arguments_step (shown (mutation_of s) n es) ≡ Accepted
-    → step_entries h b (shown (mutation_of s) n es) ≡ Accepted → Fits (load_of (apply_steps h (shown (mutation_of s) n es) b)) → Ready (deed_of h) primary s (counted n es) b
-steps-ready floor h primary {s} {n} {es} b head form a p f =
-    let ms = shown (mutation_of s) n es in
-    ready-all (changes_of h) (mutation_of s) (deed_of h) primary s (λ e x. refl) (entry_ready floor h primary s head f) n es b
-    (record { ascends = mutations-by-keys s n es ∙ form.ascends; passed = both-check h b ms a (entries-check h (ltb-true _ _ (commit-above floor h head)) b ms p); is = sym (apply_steps-all h ms b) })
+pub steps-ready : (floor : ℕ) (h : CommitTerms) (primary : Key) {s : Bytes} {es : List Entry} (b : Box) → commit_terms_step floor h ≡ Accepted → InForm s es → arguments_step (map (mutation_of s) es) ≡ Accepted
+    → step_entries h b (map (mutation_of s) es) ≡ Accepted → Fits (load_of (apply_steps h (map (mutation_of s) es) b)) → Ready (deed_of h) primary s es b
+steps-ready floor h primary {s} {es} b head form a p f =
+    let ms = map (mutation_of s) es in
+    ready-all (changes_of h) (mutation_of s) (deed_of h) primary s (λ e x. refl) (entry_ready floor h primary s head f) es b
+    (record { ascends = mutations-by-keys s es ∙ form.ascends; passed = both-check h b ms a (entries-check h (ltb-true _ _ (commit-above floor h head)) b ms p); is = sym (apply_steps-all h ms b) })

@@ -3,24 +3,20 @@
 use Prim.Native.Nat.{ℕ, ◌<◌}
 use native.Mathlib.Omega.{arith}
 use mathlib.Core.Path.{◌≡◌, refl, sym, ap, ap₂, ◌∙◌, subst}
-use mathlib.Core.Bool.{Bool, true, false, not, ◌&&◌}
-use mathlib.Core.List.{List}
-use mathlib.Core.Option.{Option}
+use mathlib.Core.Bool.{Bool, true, false}
+use mathlib.Core.List.{List, map}
+use Rattle.std.proofs.lemmas.List.{length-map}
+use mathlib.Core.Option.{Option, none}
 use lib.ListN.{length}
 use borrow.Author.Tests.{ltb-true}
-use Rattle.seqs.specs.Tables.{shown}
-use Rattle.seqs.proofs.Tables.{shown-length}
 use Rattle.forms.specs.Bytes.{Bytes}
 use Rattle.forms.specs.Key.{Key}
 use Rattle.forms.specs.Batch.{Mutation, key_inside, ascend, mutations}
-use Rattle.forms.specs.Places.{mutation_of, Decoded}
+use Rattle.forms.specs.Places.{mutation_of, AreEntries}
 use Rattle.forms.specs.declared.batch.Entry.{Entry}
-use Rattle.forms.specs.declared.batch.Entries.{Entries}
-use Rattle.forms.proofs.DecodeLaws.{decoded-bad, decoded-good, mutations-in-form, mutations-by-keys}
-use Rattle.rules.specs.declared.answers.Answer.{Answer}
-use Rattle.rules.specs.declared.answers.Answer.TheVariants.{Accepted, No, Held}
+use Rattle.forms.proofs.DecodeLaws.{mutations-in-form, mutations-by-keys}
+use Rattle.rules.specs.Answers.{Answer, Accepted, No, Held, ◌▸◌, need}
 use Rattle.rules.specs.declared.room.Load.{Load}
-use Rattle.rules.specs.Answers.{◌▸◌, need}
 use Rattle.rules.specs.Box.{Box}
 use Rattle.rules.specs.Room.{load_of, fits, room_for, Fits}
 use Rattle.rules.specs.Calls.{Done, settle}
@@ -29,7 +25,7 @@ use Rattle.rules.specs.Commit.{commit_terms_step}
 use Rattle.rules.specs.OneStep.{Counted, arguments_step, none_other, all_applied, step_entries, apply_step, apply_steps, step_applied, step_arguments, then_applied, count_if, step_done, step_all, of_counted, one_step}
 use Rattle.rules.proofs.RoomLaws.{fits_out}
 use Rattle.laws.specs.Adds.{plus, minus, sum_loads, step_adds, step_frees}
-use Rattle.laws.proofs.StepLaws.{then-left, then-right, need-true, and_left, and_right, not-true}
+use Rattle.laws.proofs.StepLaws.{then-left, then-right, need-true}
 use Rattle.laws.proofs.SettleLaws.{settle-new, settle-old}
 use Rattle.laws.proofs.LoadLaws.{load_fields, load-left, freed-at-most}
 use Rattle.laws.proofs.OneStepLaws.{steps-load, apply_steps-all}
@@ -37,30 +33,21 @@ use Rattle.ledger.proofs.SoundEntries.{commit-above}
 use Rattle.store.specs.declared.table.Store.{Store}
 use Rattle.store.specs.View.{box_of}
 use Rattle.store.specs.Made.{Made}
-use Rattle.calls.specs.Settled.{is_accepted, Untouched, Settled}
-use Rattle.calls.specs.Entries.{only_if, AllAsks}
-use Rattle.calls.specs.Passes.{Ready, counted, AllApplied}
+use Rattle.calls.specs.Settled.{Settled}
+use Rattle.calls.specs.Entries.{AllAsks}
+use Rattle.calls.specs.Passes.{ApplyAsks, AllApplied}
 use Rattle.calls.specs.Weights.{LeftAsks}
-use Rattle.calls.proofs.SettledLaws.{is-accepted, is-refusal, then-refused, settled_same, settled-new}
+use Rattle.calls.proofs.SettledLaws.{then-refused, settled_same, settled-new}
 use Rattle.calls.proofs.ApplyAllLaws.{applied-is}
 use Rattle.calls.proofs.AnswerLaws.{then-end}
-use Rattle.onesteps.specs.Checks.{all_new, AllChecked, left_by, unless_all, judged}
-use Rattle.onesteps.specs.Counts.{Counts, later_done, later_counted}
-use Rattle.onesteps.specs.declared.batch.Stepped.{Stepped}
-use Rattle.onesteps.specs.declared.checks.Checks.{Checks}
+use Rattle.onesteps.specs.Checks.{all_new, Met, AllChecked, left_by, unless_all, judged}
+use Rattle.onesteps.specs.Counts.{Stepped, Counts, later_done, later_counted}
 use Rattle.onesteps.proofs.StepApplyLaws.{deed_of, steps-ready}
 use Rattle.onesteps.proofs.LaterLaws.{entries-check, after-step, later-all, later-new, sums-passed, steps-differ}
 
 -- nothing has changed
 counts_same : {st : Store} {area : Bytes} {d : Counted} {a : Answer} {n : ℕ} → Made st area → d ≡ record { done = record { answer = a; box = box_of st area }; count = n } → Counts st area d (record { store = st; answer = a; count = n }) area
 counts_same m e = record { settled = settled_same m (ap (λ (x : Counted). x.done) e); count_is = sym (ap (λ (x : Counted). x.count) e) }
-
--- the store is the one that came
-counts-left : {st t : Store} {area area' : Bytes} {d : Counted} {a : Answer} {n c : ℕ} → Untouched st area t area' → n ≡ c → Counts st area d (record { store = st; answer = a; count = n }) area → Counts st area d (record { store = t; answer = a; count = c }) area'
-counts-left {st} {t} {area} {area'} {d} {a} {n} {c} u e k =
-    subst (λ (i : ℕ). Counts st area d (record { store = t; answer = a; count = i }) area') e
-    (subst (λ (x : Store). Counts st area d (record { store = x; answer = a; count = n }) area') (sym u.store_is)
-    (subst (λ (y : Bytes). Counts st area d (record { store = st; answer = a; count = n }) y) (sym u.area_is) k))
 
 count_none : (a : Answer) (n : ℕ) → (a ≡ Accepted → ⊥) → count_if a n ≡ 0
 unfolding count_if
@@ -70,17 +57,17 @@ count_none (Held o) n f = refl
 
 -- ---- "6; 3", 14
 
-module _ {st : Store} {area : Bytes} (made : Made st area) (h : CommitTerms) {s : Bytes} {r : Entries} (d : Decoded (mutation_of s) s (mutations s) r) where
-  pub not-form : not r.ok ≡ true → Counts st area (one_step st.floor h s (box_of st area)) (record { store = st; answer = No 6; count = 0 }) area
+module _ {st : Store} {area : Bytes} (made : Made st area) (h : CommitTerms) (s : Bytes) where
+  pub not-form : mutations s ≡ none → Counts st area (one_step st.floor h s (box_of st area)) (record { store = st; answer = No 6; count = 0 }) area
   unfolding one_step of_counted
-  not-form n = counts_same made (ap (λ (o : Option (List Mutation)). of_counted o (step_all st.floor h) (box_of st area)) (decoded-bad d n))
+  not-form n = counts_same made (ap (λ (o : Option (List Mutation)). of_counted o (step_all st.floor h) (box_of st area)) n)
 
-  module _ (good : not r.ok ≡ false) {a : Answer} (e : a ≡ commit_terms_step st.floor h) where
+  module _ {es : List Entry} (d : AreEntries (mutation_of s) s (mutations s) es) {a : Answer} (e : a ≡ commit_terms_step st.floor h) where
     abbrev b : Box
     b = box_of st area
 
     abbrev ms : List Mutation
-    ms = shown (mutation_of s) r.count r.list
+    ms = map (mutation_of s) es
 
     abbrev later : Done
     later = step_applied (all_applied h b ms) h ms b
@@ -90,7 +77,7 @@ module _ {st : Store} {area : Bytes} (made : Made st area) (h : CommitTerms) {s 
 
     one-is : one_step st.floor h s b ≡ counted_by (a ▸ arguments_step ms ▸ need (none_other h b ms) 9)
     unfolding one_step of_counted step_all step_done step_arguments
-    one-is = ap (λ (o : Option (List Mutation)). of_counted o (step_all st.floor h) b) (decoded-good d good) ∙ ap (λ (x : Answer). counted_by (x ▸ arguments_step ms ▸ need (none_other h b ms) 9)) (sym e)
+    one-is = ap (λ (o : Option (List Mutation)). of_counted o (step_all st.floor h) b) d.is ∙ ap (λ (x : Answer). counted_by (x ▸ arguments_step ms ▸ need (none_other h b ms) 9)) (sym e)
 
     pub head-out : (a ≡ Accepted → ⊥) → Counts st area (one_step st.floor h s (box_of st area)) (record { store = st; answer = a; count = 0 }) area
     unfolding then_applied count_if
@@ -102,21 +89,21 @@ module _ {st : Store} {area : Bytes} (made : Made st area) (h : CommitTerms) {s 
         out (Held o) f = refl
 
     module _ (p : a ≡ Accepted) where
-      pub batch-asks : (AllAsks st area s r.count r.list) × (commit_terms_step st.floor h ≡ Accepted)
-      batch-asks = (record { made = made; form = mutations-in-form d good }, sym e ∙ p)
+      pub batch-asks : (AllAsks st area s es) × (commit_terms_step st.floor h ≡ Accepted)
+      batch-asks = (record { made = made; form = mutations-in-form d }, sym e ∙ p)
 
-      pub batch-done : {t : Stepped} {area' : Bytes} → Counts st area (later_counted h (shown (mutation_of s) r.count r.list) (box_of st area)) t area' → Counts st area (one_step st.floor h s (box_of st area)) t area'
+      pub batch-done : {t : Stepped} {area' : Bytes} → Counts st area (later_counted h (map (mutation_of s) es) (box_of st area)) t area' → Counts st area (one_step st.floor h s (box_of st area)) t area'
       unfolding later_done ◌▸◌
       batch-done {t} {area'} k = subst (λ (x : Counted). Counts st area x t area') (sym (one-is ∙ ap (λ (x : Answer). counted_by (x ▸ arguments_step ms ▸ need (none_other h b ms) 9)) p)) k
 
 -- ---- what the checks come to
 
-module _ {st : Store} {area s : Bytes} {n : ℕ} {es : List Entry} (a : AllAsks st area s n es) {h : CommitTerms} (head : commit_terms_step st.floor h ≡ Accepted) {met : Checks} (k : AllChecked h (box_of st area) (shown (mutation_of s) n es) met) where
+module _ {st : Store} {area s : Bytes} {es : List Entry} (a : AllAsks st area s es) {h : CommitTerms} (head : commit_terms_step st.floor h ≡ Accepted) {met : Met} (k : AllChecked h (box_of st area) (map (mutation_of s) es) met) where
   abbrev was : Box
   was = box_of st area
 
   abbrev entries : List Mutation
-  entries = shown (mutation_of s) n es
+  entries = map (mutation_of s) es
 
   abbrev after : Box
   after = apply_steps h entries was
@@ -124,11 +111,14 @@ module _ {st : Store} {area s : Bytes} {n : ℕ} {es : List Entry} (a : AllAsks 
   ends-later : h.start < h.commit
   ends-later = ltb-true _ _ (commit-above st.floor h head)
 
-  count_is : length entries ≡ n
-  count_is = shown-length a.form.listed (mutation_of s)
+  abbrev n : ℕ
+  n = length es
+
+  count_is : length entries ≡ length es
+  count_is = length-map es (mutation_of s)
 
   ascends : ascend key_inside entries ≡ true
-  ascends = mutations-by-keys s n es ∙ a.form.ascends
+  ascends = mutations-by-keys s es ∙ a.form.ascends
 
   module _ (p : step_entries h was entries ≡ Accepted) where
     weighs : plus (load_of was) (sum_loads step_adds entries) ≡ plus (sum_loads (step_frees h was) entries) (load_of after)
@@ -182,11 +172,11 @@ module _ {st : Store} {area s : Bytes} {n : ℕ} {es : List Entry} (a : AllAsks 
     unfolding ◌▸◌
     done_all q = later-all h was entries (sym k.all_is ∙ q) ∙ ap (λ (x : Answer). record { answer = x; box = was }) (sym (by_all q ∙ then-end (arguments_step entries)))
 
-    counted_is : {w : Box} → later_done h entries was ≡ record { answer = v; box = w } → later_counted h entries was ≡ record { done = record { answer = v; box = w }; count = count_if v n }
+    counted_is : {w : Box} → later_done h entries was ≡ record { answer = v; box = w } → later_counted h entries was ≡ record { done = record { answer = v; box = w }; count = count_if v (length es) }
     counted_is {w} q = ap (λ (x : Done). record { done = x; count = count_if x.answer (length entries) }) q ∙ ap (λ (c : ℕ). record { done = record { answer = v; box = w }; count = count_if v c }) count_is
 
     -- a refusal
-    all-refused : (v ≡ Accepted → ⊥) → Counts st area (later_counted h (shown (mutation_of s) n es) (box_of st area)) (record { store = st; answer = v; count = 0 }) area
+    pub all-refused : (v ≡ Accepted → ⊥) → Counts st area (later_counted h (map (mutation_of s) es) (box_of st area)) (record { store = st; answer = v; count = 0 }) area
     all-refused f = counts_same a.made (counted_is (go met.tally.all refl) ∙ ap (λ (c : ℕ). record { done = record { answer = v; box = was }; count = c }) (count_none v n f))
       where
         go : (t : Bool) → met.tally.all ≡ t → later_done h entries was ≡ record { answer = v; box = was }
@@ -199,7 +189,7 @@ module _ {st : Store} {area s : Bytes} {n : ℕ} {es : List Entry} (a : AllAsks 
       counts_all = ap (λ (x : Answer). count_if x n) p
 
       -- "All applied: accepted, unchanged"
-      all-applied : met.tally.all ≡ true → Counts st area (later_counted h (shown (mutation_of s) n es) (box_of st area)) (record { store = st; answer = v; count = n }) area
+      pub all-applied : met.tally.all ≡ true → Counts st area (later_counted h (map (mutation_of s) es) (box_of st area)) (record { store = st; answer = v; count = length es }) area
       all-applied q = counts_same a.made (counted_is (done_all q) ∙ ap (λ (c : ℕ). record { done = record { answer = v; box = was }; count = c }) counts_all)
 
       module _ (part : met.tally.all ≡ false) where
@@ -220,13 +210,13 @@ module _ {st : Store} {area s : Bytes} {n : ℕ} {es : List Entry} (a : AllAsks 
         fit = fits_out _ (need-true _ 11 (then-right (step_entries h was entries) _ entries-passed))
 
         -- what the entries ask of the store that came
-        all-ready : (primary : Key) → Ready (deed_of h) primary s (counted n es) (box_of st area)
-        all-ready primary = steps-ready st.floor h primary was head a.form arguments-passed passed fit
+        pub batch-ready : (primary : Key) → ApplyAsks (deed_of h) primary st area s es
+        batch-ready primary = record { made = a.made; listed = a.form.listed; ready = steps-ready st.floor h primary was head a.form arguments-passed passed fit; above = λ _. tt }
 
         -- the box is another one
-        all_new_lem : {primary : Key} {t : Store} {area' : Bytes} → AllApplied (deed_of h) primary st area s n es t area'
-            → Counts st area (later_counted h (shown (mutation_of s) n es) (box_of st area)) (record { store = t; answer = v; count = n }) area'
-        all_new_lem {primary} {t} {area'} g = record {
+        pub all-stepped : {primary : Key} {t : Store} {area' : Bytes} → AllApplied (deed_of h) primary st area s es t area'
+            → Counts st area (later_counted h (map (mutation_of s) es) (box_of st area)) (record { store = t; answer = v; count = length es }) area'
+        all-stepped {primary} {t} {area'} g = record {
           settled = subst (λ (x : Answer). Settled st area (later_done h entries was) (record { store = t; answer = x }) area') (sym p)
               (settled-new (record { built = g.built; fit = subst Fits (sym (g.built.kept.load_is ∙ ap load_of is)) fit; above = g.above }) g.floor_is
               (done-is part ∙ settle-new v after was p ∙ ap (λ (c : Box). record { answer = Accepted; box = c }) (sym is))
@@ -235,34 +225,7 @@ module _ {st : Store} {area s : Bytes} {n : ℕ} {es : List Entry} (a : AllAsks 
         }
           where
             is : box_of t area' ≡ after
-            is = g.shown ∙ sym (applied-is (apply_step h) (mutation_of s) (deed_of h) primary s (λ e x. refl) n es was) ∙ sym (apply_steps-all h entries was)
+            is = g.shown ∙ sym (applied-is (apply_step h) (mutation_of s) (deed_of h) primary s (λ e x. refl) es was) ∙ sym (apply_steps-all h entries was)
 
             go : count_if Accepted (length entries) ≡ n
             go = sym (ap (λ (x : Answer). count_if x (length entries)) p) ∙ ap (count_if v) count_is ∙ counts_all
-
-    -- ---- the ways out: the entries are applied where the batch passes and not all of it is applied
-
-    module _ {passed moves : Bool} (ps : passed ≡ is_accepted v) (mv : moves ≡ passed && not met.tally.all) where
-      moving : moves ≡ true → (v ≡ Accepted) × (met.tally.all ≡ false)
-      moving x = let z = sym mv ∙ x in (is-accepted v ps (ap not (and_left passed (not met.tally.all) z)), not-true _ (and_right passed (not met.tally.all) z))
-
-      pub batch-ready : (primary : Key) → moves ≡ true → Ready (deed_of h) primary s (counted n es) (box_of st area)
-      batch-ready primary x = all-ready (moving x).0 (moving x).1 primary
-
-      pub batch-left : {primary : Key} {m c : ℕ} → m ≡ only_if moves n → c ≡ only_if passed n → {t : Store} {area' : Bytes} → AllApplied (deed_of h) primary st area s m es t area'
-          → Counts st area (later_counted h (shown (mutation_of s) n es) (box_of st area)) (record { store = t; answer = v; count = c }) area'
-      batch-left {primary} {m} {c} q r {t} {area'} w = go (is_accepted v) met.tally.all refl refl
-        where
-          still : passed && not met.tally.all ≡ false → Untouched st area t area'
-          still z = w.still (q ∙ ap (λ (x : Bool). only_if x n) (mv ∙ z))
-
-          go : (x y : Bool) → is_accepted v ≡ x → met.tally.all ≡ y → Counts st area (later_counted h entries was) (record { store = t; answer = v; count = c }) area'
-          go false y f z =
-              counts-left (still (ap (λ (b : Bool). b && not met.tally.all) (ps ∙ f))) (sym (r ∙ ap (λ (b : Bool). only_if b n) (ps ∙ f)))
-              (all-refused (is-refusal v (sym f) refl))
-          go true true f z =
-              counts-left (still (ap₂ (λ (b d : Bool). b && not d) (ps ∙ f) z)) (sym (r ∙ ap (λ (b : Bool). only_if b n) (ps ∙ f)))
-              (all-applied (is-accepted v (sym f) refl) z)
-          go true false f z =
-              subst (λ (i : ℕ). Counts st area (later_counted h entries was) (record { store = t; answer = v; count = i }) area') (sym (r ∙ ap (λ (b : Bool). only_if b n) (ps ∙ f)))
-              (all_new_lem (is-accepted v (sym f) refl) z (subst (λ (i : ℕ). AllApplied (deed_of h) primary st area s i es t area') (q ∙ ap (λ (x : Bool). only_if x n) (mv ∙ ap₂ (λ (b d : Bool). b && not d) (ps ∙ f) z)) w))

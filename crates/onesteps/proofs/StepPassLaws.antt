@@ -2,22 +2,18 @@
 -- Assumes nothing.
 use Prim.Native.Nat.{ℕ, ◌+◌, ◌≤◌, ◌<◌}
 use native.Mathlib.Omega.{arith}
-use mathlib.Core.Path.{◌≡◌, refl, sym, ap, ap₂, ◌∙◌, subst}
-use mathlib.Core.Bool.{Bool, true, false, not, ◌&&◌}
-use mathlib.Core.List.{List}
-use lib.ListN.{get_or}
-use borrow.Author.Tests.{not-true, not-false}
-use Rattle.seqs.specs.Tables.{shown}
-use Rattle.seqs.proofs.Tables.{shown-length}
+use mathlib.Core.Path.{◌≡◌, refl, sym, ap, ◌∙◌}
+use mathlib.Core.Bool.{Bool, true, false, ◌&&◌}
+use mathlib.Core.List.{List, map}
+use Rattle.std.proofs.lemmas.List.{length-map}
+use Rattle.changes.specs.Changes.{row_bytes}
+use lib.ListN.{length, get_or}
 use Rattle.forms.specs.Bytes.{Bytes}
-use Rattle.forms.specs.Readers.{when}
 use Rattle.forms.specs.Batch.{Mutation}
-use Rattle.forms.specs.Places.{key_at, mutation_of, no_entry, EntryIn, Listed}
+use Rattle.forms.specs.Places.{key_at, mutation_of, given_part, EntryIn, Listed}
 use Rattle.forms.specs.declared.batch.Entry.{Entry}
-use Rattle.rules.specs.declared.answers.Answer.{Answer}
-use Rattle.rules.specs.declared.answers.Answer.TheVariants.{Accepted, No}
+use Rattle.rules.specs.Answers.{Answer, Accepted, No, ◌▸◌, need}
 use Rattle.rules.specs.declared.room.Load.{Load}
-use Rattle.rules.specs.Answers.{◌▸◌, need}
 use Rattle.rules.specs.Box.{Box}
 use Rattle.rules.specs.Room.{fits}
 use Rattle.rules.specs.declared.terms.CommitTerms.{CommitTerms}
@@ -26,23 +22,19 @@ use Rattle.laws.proofs.StepLaws.{then-assoc}
 use Rattle.laws.proofs.ChainLaws.{out, on, last_out, last_on, call-on}
 use Rattle.store.specs.declared.table.Store.{Store}
 use Rattle.store.specs.Made.{Made}
-use Rattle.forms.proofs.WriterLaws.{bytes-long}
-use Rattle.calls.specs.Entries.{only_if, row_at}
 use Rattle.calls.specs.Weights.{Sums}
-use Rattle.calls.specs.declared.weights.Weight.{Weight}
-use Rattle.calls.proofs.EntryPartLaws.{size_few, parts_are}
+use Rattle.calls.proofs.EntryPartLaws.{key_short, row-short}
 use Rattle.calls.proofs.SettledLaws.{then-refused}
 use Rattle.calls.proofs.AnswerLaws.{then-end}
 use Rattle.calls.proofs.CheckAllLaws.{added_small, Summing, summing_start, summing-more, summing-small, summing-few, summing-end}
 use Rattle.calls.proofs.PassLaws.{Pass, pass-start, pass-more, pass-end}
 use Rattle.calls.specs.Steps.{argument_step}
-use Rattle.onesteps.specs.Checks.{all_new, adds_of, frees_of, CheckAsks, CheckedAt, NothingChecked, Joined, AllChecked, left_by, unless_all, judged}
+use Rattle.onesteps.specs.Checks.{all_new, adds_of, frees_of, CheckAsks, CheckedAt, Met, nothing_checked, Joined, AllChecked, left_by, unless_all, judged}
 use Rattle.onesteps.specs.declared.checks.Tally.{Tally}
-use Rattle.onesteps.specs.declared.checks.Checks.{Checks}
 
 -- ---- what is left
 
-pub record Meeting (h : CommitTerms) (b : Box) (all rest : List Mutation) (t : Checks) : Type 0 where
+pub record Meeting (h : CommitTerms) (b : Box) (all rest : List Mutation) (t : Met) : Type 0 where
   pub argument : arguments_step all ≡ t.argument ▸ arguments_step rest
   pub every : all_applied h b all ≡ t.tally.all && all_applied h b rest
   pub new : all_new h b all ≡ t.tally.none && all_new h b rest
@@ -62,40 +54,30 @@ and-true : (a : Bool) → a && true ≡ a
 and-true true = refl
 and-true false = refl
 
-abbrev pub MeetingAll : CommitTerms → Box → Bytes → ℕ → List Entry → ℕ → Checks → Type 0
-MeetingAll h b s n es i t = Pass (Meeting h b (shown (mutation_of s) n es)) (mutation_of s) s n es i t
+abbrev pub MeetingAll : CommitTerms → Box → Bytes → List Entry → ℕ → Met → Type 0
+MeetingAll h b s es i t = Pass (Meeting h b (map (mutation_of s) es)) (mutation_of s) s es i t
 
 -- the parts of an entry
-pub check-asks : {st : Store} {area s : Bytes} (e : Entry) → Made st area → EntryIn s e → CheckAsks st area (key_at s e) (row_at s e)
-check-asks {s = s} e made i =
-    let count_fits = size_few e.put e.rowlen in
-    let k = bytes-long s e.at e.len i.key_in in
-    let r = bytes-long s e.rowat (only_if e.put e.rowlen) (omega (arith, count_fits, i.row-in)) in
-    record { made = made; key_short = omega (arith, k, i.key_small); row_short = omega (arith, r, count_fits, i.row_small) }
+pub check-asks : {st : Store} {area s : Bytes} (e : Entry) → Made st area → EntryIn s e → CheckAsks st area (key_at s e) (row_bytes (given_part s e.row))
+check-asks {s = s} e made i = record { made = made; key_short = key_short e i; row_short = row-short e i }
 
-module _ (h : CommitTerms) (b : Box) {s : Bytes} {n : ℕ} {es : List Entry} where
-  pub meeting-start : Listed s n es → {z : Checks} → NothingChecked z → MeetingAll h b s n es 0 z
+module _ (h : CommitTerms) (b : Box) {s : Bytes} {es : List Entry} where
+  pub meeting-start : Listed s es → MeetingAll h b s es 0 nothing_checked
   unfolding ◌▸◌
-  meeting-start l z =
-      let ms = shown (mutation_of s) n es in
-      let count_fits = shown-length l (mutation_of s) in
+  meeting-start l =
+      let ms = map (mutation_of s) es in
+      let few : length (map (mutation_of s) es) ≤ 32 = omega (arith, length-map es (mutation_of s), l.short) in
       pass-start (Meeting h b ms) (mutation_of s) l (record {
-        argument = sym (ap (λ (a : Answer). a ▸ arguments_step ms) z.argument_is);
-        every = sym (ap (λ (t : Bool). t && all_applied h b ms) z.all_is);
-        new = sym (ap (λ (t : Bool). t && all_new h b ms) z.none_is);
-        answer = sym (ap (λ (a : Answer). a ▸ step_entries h b ms) z.answer_is);
-        added = summing_start (adds_of h b) 765 ms (omega (arith, count_fits, l.count_fits)) (ap (λ (w : Weight). w.added) z.weight_is);
-        freed = summing_start (frees_of h b) 49152 ms (omega (arith, count_fits, l.count_fits)) (ap (λ (w : Weight). w.freed) z.weight_is);
+        argument = refl;
+        every = refl;
+        new = refl;
+        answer = refl;
+        added = summing_start (adds_of h b) 765 ms few refl;
+        freed = summing_start (frees_of h b) 49152 ms few refl;
       })
 
-  module _ {i : ℕ} {t : Checks} (v : MeetingAll h b s n es i t) where
-    module _ (more : i < n) {key row : Bytes} (kp : key ≡ key_at s (get_or es i no_entry)) (rp : row ≡ row_at s (get_or es i no_entry)) {m : Checks} (k : CheckedAt h b (record { key = key; row = when (get_or es i no_entry).put row }) m) where
-      abbrev e : Entry
-      e = get_or es i no_entry
-
-      here : CheckedAt h b (mutation_of s e) m
-      here = subst (λ (x : Mutation). CheckedAt h b x m) (ap₂ (λ (x : Bytes) (y : Bytes). record { key = x; row = when e.put y }) kp rp ∙ parts_are s e) k
-
+  module _ {i : ℕ} {t : Met} (v : MeetingAll h b s es i t) where
+    module _ (d : Entry) (more : i < length es) {m : Met} (here : CheckedAt h b (mutation_of s (get_or es i d)) m) where
       pub meeting-small : Sums t.seen.weight m.seen.weight
       meeting-small = record {
         added = summing-small v.left.added (omega arith);
@@ -104,9 +86,9 @@ module _ (h : CommitTerms) (b : Box) {s : Bytes} {n : ℕ} {es : List Entry} whe
         more_freed = added_small (omega arith) here.light.freed;
       }
 
-      pub meeting-more : {r : Checks} → Joined t m r → MeetingAll h b s n es (i + 1) r
+      pub meeting-more : {r : Met} → Joined t m r → MeetingAll h b s es (i + 1) r
       unfolding arguments_step argument_step all_applied all_new step_entries
-      meeting-more j = pass-more v more (λ w. record {
+      meeting-more j = pass-more v d more (λ w. record {
         argument = then-more t.argument _ _ (w.argument ∙ ap (λ (x : Answer). t.argument ▸ x) (sym (then-assoc _ _ _))) here.argument_is j.argument_is;
         every = and-more t.tally.all _ _ w.every (ap (λ (x : Tally). x.all) here.tally_is) j.all_is;
         new = and-more t.tally.none _ _ w.new (ap (λ (x : Tally). x.none) here.tally_is) j.none_is;
@@ -115,7 +97,7 @@ module _ (h : CommitTerms) (b : Box) {s : Bytes} {n : ℕ} {es : List Entry} whe
         freed = summing-more w.freed here.freed_is here.light.freed j.freed_is;
       })
 
-    pub meeting-end : n ≤ i → AllChecked h b (shown (mutation_of s) n es) t
+    pub meeting-end : length es ≤ i → AllChecked h b (map (mutation_of s) es) t
     unfolding arguments_step all_applied all_new step_entries
     meeting-end z =
         let w = pass-end v z in
@@ -131,7 +113,7 @@ module _ (h : CommitTerms) (b : Box) {s : Bytes} {n : ℕ} {es : List Entry} whe
 
 -- ---- the judging
 
-module _ (t : Checks) (load : Load) where
+module _ (t : Met) (load : Load) where
   abbrev last : Answer
   last = need (fits (left_by load t.seen.weight)) 11
 
@@ -149,19 +131,19 @@ module _ (t : Checks) (load : Load) where
     judge-all e = by_all e refl
 
     module _ (part : t.tally.all ≡ false) where
-      pub judge-some : not t.tally.none ≡ true → No 9 ≡ judged t load
-      judge-some n = by_all part (out _ 9 _ (not-true _ n))
+      pub judge-some : t.tally.none ≡ false → No 9 ≡ judged t load
+      judge-some n = by_all part (out _ 9 _ n)
 
-      module _ (fresh : not t.tally.none ≡ false) where
+      module _ (fresh : t.tally.none ≡ true) where
         pub judge-entry : (t.seen.answer ≡ Accepted → ⊥) → t.seen.answer ≡ judged t load
-        judge-entry n = by_all part (on _ 9 _ _ (not-false _ fresh) (then-refused t.seen.answer last n))
+        judge-entry n = by_all part (on _ 9 _ _ fresh (then-refused t.seen.answer last n))
 
         module _ (q : t.seen.answer ≡ Accepted) {left : Load} (e : left ≡ left_by load t.seen.weight) {u : Bool} (g : u ≡ fits left) where
           room : {a : Answer} → a ≡ last → a ≡ judged t load
-          room {a} r = by_all part (on _ 9 _ _ (not-false _ fresh) (call-on a t.seen.answer _ last refl q r))
+          room {a} r = by_all part (on _ 9 _ _ fresh (call-on a t.seen.answer _ last refl q r))
 
-          pub judge-full : not u ≡ true → No 11 ≡ judged t load
-          judge-full n = room (last_out _ 11 (sym (g ∙ ap fits e) ∙ not-true u n))
+          pub judge-full : u ≡ false → No 11 ≡ judged t load
+          judge-full n = room (last_out _ 11 (sym (g ∙ ap fits e) ∙ n))
 
-          pub judge-fits : not u ≡ false → Accepted ≡ judged t load
-          judge-fits n = room (last_on _ 11 (sym (g ∙ ap fits e) ∙ not-false u n))
+          pub judge-fits : u ≡ true → Accepted ≡ judged t load
+          judge-fits n = room (last_on _ 11 (sym (g ∙ ap fits e) ∙ n))

@@ -1,44 +1,50 @@
 -- What the checking pass of a one-step batch asks and finds, an entry at a time and whole, and what that comes to.
 -- Assumes nothing.
-use Rattle.std.specs.Prelude.{ℕ, ◌+◌, ◌≤◌, ◌≡◌, Bool, true, false, ◌&&◌, List, [], ◌∷◌, length}
+use Rattle.lookups.specs.KeyStates.{Found, Locked}
+use Rattle.std.specs.Prelude.{ℕ, ◌+◌, ◌≤◌, ◌≡◌, Bool, true, false, ◌&&◌, List, [], ◌∷◌, length, None, Some}
 use Rattle.std.proofs.Math.Option.{Option, none, some}
 use Rattle.forms.specs.Bytes.{Bytes, bytes_at}
 use Rattle.forms.specs.Row.{Row}
 use Rattle.forms.specs.Batch.{Mutation}
-use Rattle.rules.specs.declared.answers.Answer.{Answer}
-use Rattle.rules.specs.declared.answers.Answer.TheVariants.{Accepted, No, Held}
+use Rattle.rules.specs.Answers.{Answer, Accepted, No, Held, ◌▸◌, need}
 use Rattle.rules.specs.declared.records.Kind.{Kind}
+use Rattle.rules.specs.Outcomes.{outcome}
 use Rattle.rules.specs.declared.room.Load.{Load}
-use Rattle.rules.specs.Answers.{◌▸◌, need}
 use Rattle.rules.specs.Box.{Box, Lock, eq_kind}
 use Rattle.rules.specs.Room.{fits}
 use Rattle.rules.specs.declared.terms.CommitTerms.{CommitTerms}
 use Rattle.rules.specs.OneStep.{Applied, already, not_yet, otherwise, applied_in, is_already, arguments_step, all_applied, step_entry, step_entries}
 use Rattle.laws.specs.Adds.{no_load, plus, minus, sum_loads, step_adds, step_frees}
 use Rattle.store.specs.declared.table.Store.{Store}
-use Rattle.lookups.specs.declared.lookup.Found.{Found}
-use Rattle.lookups.specs.declared.lookup.Found.TheVariants.{Nothing, Is}
-use Rattle.lookups.specs.declared.lookup.Locked.{Locked}
 use Rattle.store.specs.Made.{Made}
 use Rattle.changes.specs.Loads.{record_size, freed_by, FreedAsks}
 use Rattle.calls.specs.Steps.{argument_step}
-use Rattle.calls.specs.Weights.{no_weight, Light}
+use Rattle.calls.specs.Weights.{no_weight, Light, Checked}
 use Rattle.calls.specs.declared.weights.Weight.{Weight}
-use Rattle.calls.specs.declared.weights.Checked.{Checked}
 use Rattle.onesteps.specs.declared.checks.Tally.{Tally}
 use Rattle.onesteps.specs.declared.checks.Checks.{Checks}
+
+-- ---- what the checks come to, in the paper's answers
+
+pub record Met : Type 0 where
+  pub argument : Answer
+  pub tally : Tally
+  pub seen : Checked
+
+abbrev pub met : Checks → Met
+met c = record { argument = outcome c.argument; tally = c.tally; seen = record { answer = outcome c.steps; weight = c.weight } }
 
 -- ---- the record at commit
 
 -- the row that a record carries
 abbrev pub row_held : Bytes → Found → Option Row
-row_held area Nothing = none
-row_held area (Is w) = some (bytes_at area w.rowat w.rowlen)
+row_held area None = none
+row_held area (Some w) = some (bytes_at area w.rowat w.rowlen)
 
 -- it ends by n
 abbrev pub FoundIn : ℕ → Found → Type 0
-FoundIn n Nothing = Unit {0}
-FoundIn n (Is w) = w.rowat + w.rowlen ≤ n
+FoundIn n None = Unit {0}
+FoundIn n (Some w) = w.rowat + w.rowlen ≤ n
 
 abbrev pub is_new : Applied → Bool
 is_new already = false
@@ -93,7 +99,7 @@ pub record CheckAsks (st : Store) (area key row : Bytes) : Type 0 where
   pub row_short : length row ≤ 255
 
 -- at most a key twice and a row come, each in a part of 255 bytes, and what goes was within the limits
-pub record CheckedAt (h : CommitTerms) (b : Box) (m : Mutation) (r : Checks) : Type 0 where
+pub record CheckedAt (h : CommitTerms) (b : Box) (m : Mutation) (r : Met) : Type 0 where
   pub argument_is : r.argument ≡ argument_step m
   pub tally_is : r.tally ≡ tally_of (applied_in h b m)
   pub answer_is : r.seen.answer ≡ step_entry h b m
@@ -103,15 +109,11 @@ pub record CheckedAt (h : CommitTerms) (b : Box) (m : Mutation) (r : Checks) : T
 
 -- ---- all entries
 
-pub record NothingChecked (r : Checks) : Type 0 where
-  pub argument_is : r.argument ≡ Accepted
-  pub all_is : r.tally.all ≡ true
-  pub none_is : r.tally.none ≡ true
-  pub answer_is : r.seen.answer ≡ Accepted
-  pub weight_is : r.seen.weight ≡ no_weight
+abbrev pub nothing_checked : Met
+nothing_checked = record { argument = Accepted; tally = record { all = true; none = true }; seen = record { answer = Accepted; weight = no_weight } }
 
 -- what one more makes of it
-pub record Joined (t m r : Checks) : Type 0 where
+pub record Joined (t m r : Met) : Type 0 where
   pub argument_is : r.argument ≡ t.argument ▸ m.argument
   pub all_is : r.tally.all ≡ t.tally.all && m.tally.all
   pub none_is : r.tally.none ≡ t.tally.none && m.tally.none
@@ -119,7 +121,7 @@ pub record Joined (t m r : Checks) : Type 0 where
   pub added_is : r.seen.weight.added ≡ plus t.seen.weight.added m.seen.weight.added
   pub freed_is : r.seen.weight.freed ≡ plus t.seen.weight.freed m.seen.weight.freed
 
-pub record AllChecked (h : CommitTerms) (b : Box) (ms : List Mutation) (r : Checks) : Type 0 where
+pub record AllChecked (h : CommitTerms) (b : Box) (ms : List Mutation) (r : Met) : Type 0 where
   pub argument_is : r.argument ≡ arguments_step ms
   pub all_is : r.tally.all ≡ all_applied h b ms
   pub none_is : r.tally.none ≡ all_new h b ms
@@ -140,7 +142,7 @@ unless_all true a = Accepted
 unless_all false a = a
 
 -- "each entry in turn 1, 2; .. same start but other kind or row, 9. All applied: accepted, unchanged. Some: 9. None: per entry ..; 11"
-abbrev pub judged : Checks → Load → Answer
+abbrev pub judged : Met → Load → Answer
 judged t load =
     t.argument ▸
     unless_all t.tally.all

@@ -1,16 +1,21 @@
 -- The promise of `commit_batch`: that of every changing call, and the count.
 -- Assumes nothing.
-use Rattle.std.specs.Prelude.{◌≡◌, List, length}
+use Rattle.std.specs.Prelude.{ℕ, ◌≡◌, List, length}
 use Rattle.forms.specs.Bytes.{Bytes}
 use Rattle.forms.specs.Batch.{Mutation}
-use Rattle.rules.specs.Answers.{◌▸◌, need}
+use Rattle.rules.specs.Answers.{Answer, ◌▸◌, need}
 use Rattle.rules.specs.Box as box
 use Rattle.rules.specs.Calls.{Done}
 use Rattle.rules.specs.declared.terms.CommitTerms.{CommitTerms}
 use Rattle.rules.specs.OneStep.{Counted, count_if, arguments_step, none_other, all_applied, step_applied, then_applied}
 use Rattle.store.specs.declared.table.Store.{Store}
 use Rattle.calls.specs.Settled.{Settled}
-use Rattle.onesteps.specs.declared.batch.Stepped.{Stepped}
+
+-- what a one-step batch gives: the store after it, its answer, and "The count is the number of entries"
+pub record Stepped : Type 0 where
+  pub store : Store
+  pub answer : Answer
+  pub count : ℕ
 
 -- `d` is the definition's answer, the box after it, and its count
 pub record Counts (st : Store) (area : Bytes) (d : Counted) (r : Stepped) (area' : Bytes) : Type 0 where

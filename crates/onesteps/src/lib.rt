@@ -6,4 +6,4 @@ pub mod batch;
 pub mod checks;
 pub mod passes;
 
-pub use batch::{Stepped, commit_batch};
+pub use batch::commit_batch;

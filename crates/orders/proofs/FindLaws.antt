@@ -17,7 +17,7 @@ use Rattle.rules.specs.Box.{Default, at_pair, row_of, add_row, before, row_befor
 use Rattle.laws.specs.Places.{pairs_before, row_first}
 use Rattle.laws.proofs.PlaceLaws.{how_many-le}
 use Rattle.laws.proofs.DefaultPlaces.{pair_of, pair-below, row_is}
-use Rattle.images.specs.Entries.{EntryAt}
+use Rattle.images.specs.Entries.{Stood}
 use Rattle.images.specs.declared.entries.Section.TheVariants as sections
 use Rattle.images.specs.declared.entries.ImageEntry.{ImageEntry}
 use Rattle.images.specs.Good.{default_of}
@@ -82,8 +82,8 @@ module _ {s : Bytes} {rows : List ℕ} {e : ImageEntry} (asks : PlaceAsks s rows
   pub search-start : Searching s rows (key_inside s e) e.second 0 (length rows)
   search-start = record { from = omega arith; to = omega (arith, how_many-le (λ (d : Default). row_before d (pair_of k e.second)) ds, length-map rows (row_at s)); count_fits = omega arith }
 
-  module _ {low high i : ℕ} (v : Searching s rows (key_inside s e) e.second low high) (h : i < high) {d : ImageEntry} (u : EntryAt sections.Default s (get_or rows i 0) d) {t : Bool}
-      (q : t ≡ before (mark_of s (record { at = d.at; len = d.len; lock = false; value = d.first })) (mark_of s (record { at = e.at; len = e.len; lock = false; value = e.second }))) where
+  module _ {low high i : ℕ} (v : Searching s rows (key_inside s e) e.second low high) (h : i < high) {d : ImageEntry} (u : Stood sections.Default s (get_or rows i 0) d) {t : Bool}
+      (q : t ≡ before (mark_of s (record { key = d.key; lock = false; value = d.first })) (mark_of s (record { key = e.key; lock = false; value = e.second }))) where
     test : ltb i place ≡ t
     unfolding before row_before
     test =

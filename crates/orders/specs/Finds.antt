@@ -1,7 +1,8 @@
 -- Where the default of a key and a start stands among defaults in order.
 -- Assumes nothing.
 use Rattle.std.specs.Prelude.{ℕ, ◌+◌, ◌≤◌, ◌≡◌, true, List, map, length}
-use Rattle.forms.specs.Bytes.{Bytes, bytes_at}
+use Rattle.forms.specs.Bytes.{Bytes}
+use Rattle.forms.specs.Places.{part_of}
 use Rattle.forms.specs.Key.{Key}
 use Rattle.rules.specs.Box.{Default, row_before, ordered}
 use Rattle.laws.specs.Places.{pairs_before}
@@ -14,7 +15,7 @@ rows_at s rows = map (row_at s) rows
 
 -- an entry's key
 abbrev pub key_inside : Bytes → ImageEntry → Key
-key_inside s e = bytes_at s e.at e.len
+key_inside s e = part_of s e.key
 
 -- where the default of a key and a start stands
 abbrev pub place_of : Bytes → List ℕ → Key → ℕ → ℕ
@@ -23,4 +24,4 @@ place_of s rows k n = pairs_before k n (rows_at s rows)
 -- defaults in order
 pub record PlaceAsks (s : Bytes) (rows : List ℕ) (e : ImageEntry) : Type 0 where
   pub sorted : ordered row_before (rows_at s rows) ≡ true
-  pub key_in : e.at + e.len ≤ length s
+  pub key_in : e.key.at + e.key.len ≤ length s

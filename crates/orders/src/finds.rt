@@ -3,24 +3,20 @@ ghost use Rattle.std.specs.Prelude.{◌≡◌, ◌≤◌, ◌<◌};
 ghost use Rattle.orders.specs.Finds.{key_inside, place_of, PlaceAsks};
 
 use crate::marks::{Mark, mark_before};
-use images::{ImageEntry, Section, entry_at};
+use images::{ImageEntry, Section, stood_at};
 
 // Where a search looks: at the last place that was found and at the one after it, if they may be it, else in the middle.
 fn probe(low: usize, high: usize, last: usize) -> usize
     requires { low < high }
     ensures { (low ≤ result) × (result < high) }
 {
-    if last < low {
-        if low - last == 1 {
-            return low;
-        }
+    if low.checked_sub(1) == Some(last) {
+        low
+    } else if low <= last && last < high {
+        last
+    } else {
+        low + (high - low) / 2
     }
-    if low <= last {
-        if last < high {
-            return last;
-        }
-    }
-    low + (high - low) / 2
 }
 
 // By halves, so that an image whose starts stand in any order costs no more. In most images it is the one after the last.
@@ -29,8 +25,7 @@ pub fn row_place(s: &[u8], rows: &[u32], e: ImageEntry, last: usize) -> usize
     ensures { result ≡ place_of s.now rows.now (key_inside s.now e) e.second }
 {
     let pair = Mark {
-        at: e.at,
-        len: e.len,
+        key: e.key,
         lock: false,
         value: e.second,
     };
@@ -38,10 +33,9 @@ pub fn row_place(s: &[u8], rows: &[u32], e: ImageEntry, last: usize) -> usize
     let mut high = rows.len();
     while low < high {
         let i = probe(low, high, last);
-        let d = entry_at(s, rows[i] as usize, Section::Default);
+        let d = stood_at(s, rows[i], Section::Default);
         let mark = Mark {
-            at: d.at,
-            len: d.len,
+            key: d.key,
             lock: false,
             value: d.first,
         };

@@ -5,83 +5,76 @@ use native.Mathlib.Omega.{arith}
 use mathlib.Core.Path.{◌≡◌, refl, sym, ap, ap₂, ◌∙◌, subst}
 use mathlib.Core.Bool.{Bool, true, false}
 use mathlib.Core.List.{List, [], ◌∷◌, ◌++◌, map}
-use lib.ListN.{length, get_or, take, drop, length-map}
+use lib.ListN.{length, take, drop, length-map}
 use lib.Dec.{leb}
 use borrow.Author.Tests.{le-leb, lt-leb}
 use borrow.Rule.Slice.PartMut.{put_mid}
-use Rattle.seqs.proofs.Tables.{table_at, shown-length, shown-at}
+use Rattle.seqs.proofs.Tables.{shown-length}
+use mir.Val.{bool_byte as from_bool}
 use Rattle.forms.specs.Bytes.{Bytes}
 use Rattle.forms.specs.Numbers.{digits}
 use Rattle.forms.specs.Writers.{Laid}
 use Rattle.forms.proofs.WriterLaws.{laid_as, laid_then, laid-lent, rest-long}
-use Rattle.rules.specs.declared.answers.Holder.{Holder}
-use Rattle.rules.specs.declared.answers.Answer.{Answer}
-use Rattle.rules.specs.declared.answers.Answer.TheVariants.{Accepted, No, Held}
-use Rattle.rules.specs.Answers.{Reply, nothing, shown, refused, if_passed}
+use Rattle.rules.specs.Answers.{Answer, Accepted, No, Held, Holder, Reply, nothing, shown, refused, if_passed}
 use Rattle.rules.specs.Page.{Page}
+use Rattle.rules.specs.declared.answers.Refusal.{Refusal}
+use Rattle.rules.proofs.OutcomeLaws.{of-refusals}
 use Rattle.rules.specs.Written.{Written, all_bytes, more_byte, page_bytes, write_if, written, WroteAs}
-use Rattle.rules.proofs.EntryWriterLaws.{Listing, listing_start, listing-room, listing-more, listing-end}
 use Rattle.laws.proofs.StepLaws.{answered}
-use Rattle.store.specs.View.{no_slot}
-use Rattle.walks.specs.declared.walked.Walked.{Walked}
-use Rattle.walks.specs.Walked.{same, page_on, entry_bytes, page_of, WalkedAs}
+use Rattle.walks.specs.Walked.{Walked, same, page_on, entry_bytes, page_of, WalkedAs}
 use Rattle.walks.proofs.WalkLaws.{page-long}
-use Rattle.rules.specs.declared.written.Wrote.{Wrote}
-use Rattle.pages.specs.Asks.{EntryAsks, WriteAsks}
+use Rattle.rules.specs.Outcomes.{refusal, Wrote}
+use Rattle.pages.specs.Asks.{EntriesAsk, PageAsks}
+use Rattle.seqs.specs.Tables.{shown as shown_in}
+use Rattle.store.specs.declared.table.Slot.{Slot}
 
--- ---- the entries, one after the other
+-- ---- entries as their bytes
 
-module _ {area : Bytes} {w : Walked} {s : Bytes} (q : WriteAsks area w (all_bytes same (page_of area w).rows) s) where
-  all : length (page_of area w).rows ≡ w.count
-  all = shown-length q.table (entry_bytes area)
-
-  pub entries-start : Listing same (page_of area w).rows 0 s 0 0 s
-  entries-start = listing_start same (page_of area w).rows 0 s (omega arith)
-
-  module _ {at i : ℕ} {t : Bytes} (v : Listing same (page_of area w).rows 0 s at i t) where
-    pub entries-end : w.count ≤ i → Laid 0 (length (all_bytes same (page_of area w).rows)) (all_bytes same (page_of area w).rows) s at t
-    entries-end h = listing-end v (omega (arith, all))
-
-    module _ (h : i < w.count) where
-      entry_at : get_or (page_of area w).rows i (entry_bytes area no_slot) ≡ entry_bytes area (get_or w.slots i no_slot)
-      entry_at = shown-at q.table (entry_bytes area) i h
-
-      pub entries-ask : EntryAsks area (get_or w.slots i no_slot) at t
-      entries-ask = record {
-        line = table_at q.table i h;
-        room = rw entry_at at (listing-room v (entry_bytes area no_slot) (omega (arith, all)) (omega (arith, q.room)));
-      }
-
-      pub entries-more : {n r : ℕ} {u : Bytes} → Laid at n (entry_bytes area (get_or w.slots i no_slot)) t r u → Listing same (page_of area w).rows 0 s r (i + 1) u
-      entries-more {n} {r} {u} x = listing-more v (entry_bytes area no_slot) (omega (arith, all)) (subst (λ (b : Bytes). Laid at n b t r u) (sym entry_at) x)
+all-on : {A : Type 0} (f : A → Bytes) (xs : List A) → all_bytes same (map f xs) ≡ all_bytes f xs
+unfolding all_bytes
+all-on f [] = refl
+all-on f (x ∷ xs) = ap (λ (b : Bytes). f x ++ b) (all-on f xs)
 
 -- ---- the page: count, entries, the more byte
 
-module _ {area : Bytes} {w : Walked} {s : Bytes} (q : WriteAsks area w (page_bytes same (page_of area w)) s) where
-  pub page-room : length (all_bytes same (page_of area w).rows) + 3 ≤ length s
-  page-room = omega (arith, q.room, page-long (page_of area w))
+-- "a byte, 1 if more, else 0"
+more_is : (b : Bool) → from_bool b ≡ more_byte b
+more_is true = refl
+more_is false = refl
+
+module _ {area : Bytes} {w : Walked} {s : Bytes} (q : PageAsks area w s) where
+  -- the lines that the page holds
+  abbrev slots : List Slot
+  slots = take w.count w.slots
+
+  entries : all_bytes same (page_of area w).rows ≡ all_bytes (entry_bytes area) (take w.count w.slots)
+  unfolding shown_in
+  entries = all-on (entry_bytes area) (take w.count w.slots)
+
+  pub page-room : length (all_bytes (entry_bytes area) (take w.count w.slots)) + 3 ≤ length s
+  page-room = omega (arith, q.room, page-long (page_of area w), ap length entries)
 
   module _ {a : ℕ} {t : Bytes} (v : Laid 0 2 (digits 2 w.count) s a t) where
-    pub entries-asked : WriteAsks area w (all_bytes same (page_of area w).rows) (take (length t - a) (drop a t))
-    entries-asked = record { table = q.table; room = omega (arith, page-room, rest-long t a, v.next, v.length_is) }
+    pub entries-asked : EntriesAsk area (take w.count w.slots) (take (length t - a) (drop a t))
+    entries-asked = record { lines = q.table.holds; room = omega (arith, page-room, rest-long t a, v.next, v.length_is) }
 
-    module _ {k : ℕ} {part : Bytes} (x : Laid 0 (length (all_bytes same (page_of area w).rows)) (all_bytes same (page_of area w).rows) (take (length t - a) (drop a t)) k part) where
+    module _ {k : ℕ} {part : Bytes} (x : Laid 0 (length (all_bytes (entry_bytes area) (take w.count w.slots))) (all_bytes (entry_bytes area) (take w.count w.slots)) (take (length t - a) (drop a t)) k part) where
       -- the buffer after them
       abbrev after : Bytes
       after = put_mid a (length t - a) t part
 
-      entries-laid : Laid a (length (all_bytes same (page_of area w).rows)) (all_bytes same (page_of area w).rows) t (a + k) after
+      entries-laid : Laid a (length (all_bytes (entry_bytes area) slots)) (all_bytes (entry_bytes area) slots) t (a + k) after
       entries-laid = laid-lent t a (omega arith) x
 
       pub more_room : 0 < length (take (length after - (a + k)) (drop (a + k) after))
       more_room = omega (arith, page-room, rest-long after (a + k), entries-laid.next, entries-laid.length_is)
 
-      pub page-laid : {n m : ℕ} {rest : Bytes} → m ≡ more_byte w.more → Laid 0 1 (m ∷ []) (take (length after - (a + k)) (drop (a + k) after)) n rest
+      pub page-laid : {n m : ℕ} {rest : Bytes} → m ≡ from_bool w.more → Laid 0 1 (m ∷ []) (take (length after - (a + k)) (drop (a + k) after)) n rest
           → Laid 0 (length (page_bytes same (page_of area w))) (page_bytes same (page_of area w)) s (a + k + n) (put_mid (a + k) (length after - (a + k)) after rest)
       unfolding page_bytes
-      page-laid e y =
+      page-laid {n} {m} {rest} e y =
           laid_as (laid_then v (laid_then entries-laid (laid-lent after (a + k) (omega (arith, entries-laid.within, entries-laid.length_is)) y)))
-          (ap₂ (λ (i j : ℕ). digits 2 i ++ (all_bytes same (page_of area w).rows ++ (j ∷ []))) (sym (shown-length q.table (entry_bytes area))) e)
+          (ap₂ (λ (i : ℕ) (b : Bytes). digits 2 i ++ (b ++ (m ∷ []))) (sym (shown-length q.table (entry_bytes area))) (sym entries) ∙ ap (λ (j : ℕ). digits 2 (length (page_of area w).rows) ++ (all_bytes same (page_of area w).rows ++ (j ∷ []))) (e ∙ more_is w.more))
 
 -- ---- the answer
 
@@ -92,13 +85,16 @@ module _ {area : Bytes} {want : Reply (Page Bytes)} {w : Walked} (v : WalkedAs a
 
   -- "A refusal changes nothing in store or buffers"
   module _ {r : Wrote} where
-    pub paged-no : {n : ℕ} → w.answer ≡ No n → r ≡ record { answer = No n; count = 0 } → WroteAs (written same want out) r out
+    paged-no : {n : ℕ} → w.answer ≡ No n → r ≡ record { answer = No n; count = 0 } → WroteAs (written same want out) r out
     unfolding if_passed written
     paged-no e p = by e (record { answer_is = answered (ap (λ (x : Wrote). x.answer) p); count_is = ap (λ (x : Wrote). x.count) p; out_is = refl })
 
-    pub paged-held : {h : Holder} → w.answer ≡ Held h → r ≡ record { answer = Held h; count = 0 } → WroteAs (written same want out) r out
+    paged-held : {h : Holder} → w.answer ≡ Held h → r ≡ record { answer = Held h; count = 0 } → WroteAs (written same want out) r out
     unfolding if_passed written
     paged-held e p = by e (record { answer_is = answered (ap (λ (x : Wrote). x.answer) p); count_is = ap (λ (x : Wrote). x.count) p; out_is = refl })
+
+    pub paged-refused : (why : Refusal) → w.answer ≡ refusal why → r ≡ record { answer = refusal why; count = 0 } → WroteAs (written same want out) r out
+    paged-refused why = of-refusals (λ (x : Answer). w.answer ≡ x → r ≡ record { answer = x; count = 0 } → WroteAs (written same want out) r out) (λ n e p. paged-no e p) (λ h e p. paged-held e p) why
 
   module _ (e : w.answer ≡ Accepted) where
     size : w.size ≡ length (page_bytes same (page_of area w))
@@ -116,7 +112,7 @@ module _ {area : Bytes} {want : Reply (Page Bytes)} {w : Walked} (v : WalkedAs a
         (record { answer_is = answered (ap (λ (x : Wrote). x.answer) p); count_is = ap (λ (x : Wrote). x.count) p; out_is = refl })
 
     module _ (h : w.size ≤ length out) where
-      pub page-asked : WriteAsks area w (page_bytes same (page_of area w)) out
+      pub page-asked : PageAsks area w out
       page-asked = record { table = v.table; room = omega (arith, size) }
 
       pub paged-put : {n : ℕ} {out' : Bytes} → Laid 0 (length (page_bytes same (page_of area w))) (page_bytes same (page_of area w)) out n out' → WroteAs (written same want out) (record { answer = Accepted; count = n }) out'
@@ -129,11 +125,6 @@ module _ {area : Bytes} {want : Reply (Page Bytes)} {w : Walked} (v : WalkedAs a
           all = omega (arith, x.next)
 
 -- ---- the calls: what is written of entries as their bytes
-
-all-on : {A : Type 0} (f : A → Bytes) (xs : List A) → all_bytes same (map f xs) ≡ all_bytes f xs
-unfolding all_bytes
-all-on f [] = refl
-all-on f (x ∷ xs) = ap (λ (b : Bytes). f x ++ b) (all-on f xs)
 
 page-on : {A : Type 0} (f : A → Bytes) (p : Page A) → page_bytes same (record { rows = map f p.rows; more = p.more }) ≡ page_bytes f p
 unfolding page_bytes

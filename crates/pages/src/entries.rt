@@ -14,8 +14,7 @@ fn put_stretch(out: &mut [u8], at: usize, area: &[u8], from: usize, len: usize) 
     requires { StretchAsks area.now from len 1 at out.old }
     ensures { Laid at (len + 1) (piece_bytes (bytes_at area.now from len)) out.old result out.new }
 {
-    let e = from + len;
-    put_piece(out, at, &area[from..e])
+    put_piece(out, at, &area[from..from + len])
 }
 
 // A line's key, and a record's row or an intent's lock.

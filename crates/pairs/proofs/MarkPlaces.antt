@@ -12,7 +12,6 @@ use Rattle.forms.specs.Bytes.{Bytes}
 use Rattle.forms.specs.Row.{Row}
 use Rattle.forms.specs.Readers.{Read, Reader, read_on, ◌>>=◌, just, piece, is_some}
 use Rattle.forms.specs.Numbers.{number_of}
-use Rattle.forms.specs.Places.{found}
 use Rattle.rules.specs.Box.{Line, Standing, Finished, start_of}
 use Rattle.images.specs.Entries.{Raw, or_else, has_piece, has_tail, tail_from, no_end, entry_from, raw_or, raw_at}
 use Rattle.images.specs.declared.entries.Section.{Section}
@@ -57,9 +56,9 @@ heads section s =
 
 pub head-is : {form : Row → Bool} {section : Section} {t : ℕ} {s : Bytes} {a b p : ℕ} → Stands form section t s a b p → head_or (head_from (drop p s)) ≡ first (raw_at section s p)
 unfolding raw_at good_from pass
-head-is {form} {section} {t} {s} {p = p} v = go (entry_from section (drop p s)) v.is (heads section (drop p s))
+head-is {form} {section} {t} {s} {p = p} v = go (entry_from section (drop p s)) v.read.is (heads section (drop p s))
   where
-    go : (o : Option (Read Raw)) → pass (fits form section t) o ≡ found s true (raw_at section s p) v.next → Heads (head_or (head_from (drop p s))) o → head_or (head_from (drop p s)) ≡ first (raw_or o)
+    go : (o : Option (Read Raw)) → pass (fits form section t) o ≡ some (record { got = raw_at section s p; rest = drop v.next s }) → Heads (head_or (head_from (drop p s))) o → head_or (head_from (drop p s)) ≡ first (raw_or o)
     go none e h = absurd (false≢true (ap is_some e))
     go (some q) e h = h
 

@@ -6,23 +6,16 @@ ghost use Rattle.images.specs.Sections.{row_at};
 ghost use Rattle.pairs.specs.Puts.{raw_pair, puts_match};
 
 use forms::same;
-use images::{ImageEntry, Section, entry_at};
-use orders::section_of;
+use images::{ImageEntry, Section, stood_at};
+use orders::line_at;
 
 // Whether a line is of the key and start of the default at a place.
 pub fn points_to(s: &[u8], e: ImageEntry, place: u32) -> bool
-    requires { e.at + e.len ≤ length s.now }
+    requires { e.key.at + e.key.len ≤ length s.now }
     ensures { result ≡ like_default (raw_pair (raw_of s.now e)) (row_at s.now place) }
 {
-    let d = entry_at(s, place as usize, Section::Default);
-    if e.second != d.first {
-        return false;
-    }
-    let a = e.at;
-    let b = a + e.len;
-    let x = d.at;
-    let y = x + d.len;
-    same(&s[a..b], &s[x..y])
+    let d = stood_at(s, place, Section::Default);
+    e.second == d.first && same(e.key.of(s), d.key.of(s))
 }
 
 // "a Put lock without its default; a default to which no Put lock or Put record of its key and start points": each Put is of the next default's
@@ -30,18 +23,11 @@ pub fn points_to(s: &[u8], e: ImageEntry, place: u32) -> bool
 pub fn puts_match(s: &[u8], writes: usize, ds: &[u32], ps: &[u32]) -> bool
     ensures { result ≡ puts_match s.now writes ds.now ps.now }
 {
-    let mut i: usize = 0;
     let mut j: usize = 0;
-    while i < ps.len() {
-        let p = ps[i] as usize;
-        let section = section_of(p, writes);
-        let e = entry_at(s, p, section);
-        i += 1;
-        if e.kind == 1 {
-            if ds.len() <= j {
-                return false;
-            }
-            if !points_to(s, e, ds[j]) {
+    for place in ps {
+        let e = line_at(s, *place, writes);
+        if e.is_put() {
+            if ds.len() <= j || !points_to(s, e, ds[j]) {
                 return false;
             }
             j += 1;

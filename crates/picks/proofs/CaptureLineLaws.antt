@@ -2,36 +2,30 @@
 -- Assumes nothing.
 use Prim.Native.Nat.{ℕ, ◌+◌, ◌-◌, ◌≤◌}
 use native.Mathlib.Omega.{arith}
-use mathlib.Core.Path.{◌≡◌, refl, sym, ap, ap₂, ◌∙◌}
+use mathlib.Core.Path.{◌≡◌, refl, sym, ap, ◌∙◌}
 use mathlib.Core.Bool.{Bool, true, false, ◌&&◌, not}
 use lib.Dec.{leb, eqb}
 use lib.ListN.{length, take, drop}
 use borrow.Author.Tests.{leb-true}
 use Rattle.seqs.proofs.Tables.{part_in}
-use Rattle.forms.specs.Bytes.{Bytes, bytes_at, eq_bytes}
+use Rattle.forms.specs.Bytes.{Bytes}
 use Rattle.forms.specs.Key.{key_form, table_of}
 use Rattle.forms.specs.Numbers.{number, only_if}
 use Rattle.forms.specs.Places.{NumberAt}
-use Rattle.forms.specs.declared.number.Number.{Number}
-use Rattle.forms.proofs.NumberLaws.{number-value}
-use Rattle.rules.specs.declared.records.Kind.{Kind}
-use Rattle.rules.specs.declared.records.Kind.TheVariants.{Put, Delete, Rollback}
-use Rattle.rules.specs.Box as box
-use Rattle.rules.specs.Box.{start_of, kind_in}
+use Rattle.std.specs.Prelude.{None, Some}
+use Rattle.std.specs.Prelude.{Option as Maybe}
+use Rattle.std.specs.Option.{option_eq}
+use Rattle.forms.proofs.NumberLaws.{number-value, number_short}
+use Rattle.rules.specs.Box.{start_of}
 use Rattle.rules.specs.Restore.{of_table}
 use Rattle.laws.proofs.StepLaws.{passed, and_left}
 use Rattle.store.specs.declared.table.Line.{Line}
 use Rattle.store.specs.declared.table.Line.TheVariants.{Standing, Finished}
-use Rattle.store.specs.declared.table.LockSlot.{LockSlot}
-use Rattle.store.specs.declared.table.RecordSlot.{RecordSlot}
 use Rattle.store.specs.declared.table.Slot.{Slot}
 use Rattle.store.specs.View.{eight_at, place_of, row_len, line_in, key_of, line_of, row_in}
 use Rattle.forms.proofs.WriterLaws.{bytes-long}
 use Rattle.store.proofs.ViewLaws.{past-numbers, past_row}
-use Rattle.store.proofs.StretchLaws.{stretch}
-use Rattle.picks.specs.declared.slots.Section.{Section}
-use Rattle.picks.specs.declared.slots.Section.TheVariants.{Locks, Writes}
-use Rattle.picks.specs.Lines.{belongs, is_put, put_start, ShortLine, SlotIn}
+use Rattle.picks.specs.Lines.{ShortLine, SlotIn}
 
 pub form-long : (k : Bytes) → key_form k ≡ true → (5 ≤ length k) × (length k ≤ 48)
 unfolding key_form
@@ -73,56 +67,12 @@ module _ {area : Bytes} {s : Slot} (q : SlotIn area s) where
   start_is = line-start area (place_of s + s.len) s.line
 
   -- "key of this table"
-  pub table_is : (t : ℕ) {p : ℕ} {n : Number} → p ≡ place_of s → NumberAt 4 area p n → eqb n.value t ≡ of_table t (key_of area s)
+  pub table_is : (t : ℕ) {p : ℕ} (o : Maybe ℕ) → p ≡ place_of s → NumberAt 4 area p o → option_eq eqb o (Some t) ≡ of_table t (key_of area s)
   unfolding table_of
-  table_is t {p} {n} e v =
-      let l : 4 ≤ length area - p = omega (arith, key_in, key-some.0) in
-      let f : n.value ≡ number (take 4 (key_of area s)) = number-value v l ∙ ap (λ (k : ℕ). number (take 4 (drop k area))) e ∙ ap number (sym (part_in (drop (place_of s) area) 0 4 s.len (omega (arith, key-some.0)))) in
+  table_is t {p} None e v = let h = number_short 4 area p v in absurd (omega (arith, key_in, key-some.0))
+  table_is t {p} (Some n) e v =
+      let f : n ≡ number (take 4 (key_of area s)) = number-value v ∙ ap (λ (k : ℕ). number (take 4 (drop k area))) e ∙ ap number (sym (part_in (drop (place_of s) area) 0 4 s.len (omega (arith, key-some.0)))) in
       rw (q.form, f)
-
-  -- ---- sections
-
-  pub belongs-lock : (t : ℕ) {r : Bool} {what : Section} {l : LockSlot} → s.line ≡ Standing l → what ≡ Locks → r ≡ of_table t (key_of area s) → r ≡ belongs what t (line_of area s)
-  belongs-lock t e f g = rw (e, f) g
-
-  pub belongs-write : (t : ℕ) {r : Bool} {what : Section} {w : RecordSlot} → s.line ≡ Finished w → what ≡ Writes → r ≡ of_table t (key_of area s) → r ≡ belongs what t (line_of area s)
-  belongs-write t e f g = rw (e, f) g
-
-  pub no-lock : (t : ℕ) {what : Section} {l : LockSlot} → s.line ≡ Standing l → what ≡ Writes → false ≡ belongs what t (line_of area s)
-  no-lock t e f = rw (e, f)
-
-  pub no_write : (t : ℕ) {what : Section} {w : RecordSlot} → s.line ≡ Finished w → what ≡ Locks → false ≡ belongs what t (line_of area s)
-  no_write t e f = rw (e, f)
-
-  -- ---- a Put
-
-  pub put_is : (t : ℕ) {r : Bool} {kind : Kind} → kind ≡ kind_in (line_of area s).line → kind ≡ Put → r ≡ of_table t (key_of area s) → r ≡ is_put t (line_of area s)
-  put_is t e f g = rw (sym e ∙ f) g
-
-  pub not-delete : (t : ℕ) {kind : Kind} → kind ≡ kind_in (line_of area s).line → kind ≡ Delete → false ≡ is_put t (line_of area s)
-  not-delete t e f = rw (sym e ∙ f)
-
-  pub not-rollback : (t : ℕ) {kind : Kind} → kind ≡ kind_in (line_of area s).line → kind ≡ Rollback → false ≡ is_put t (line_of area s)
-  not-rollback t e f = rw (sym e ∙ f)
-
-  pub start-put : (t : ℕ) {r p : ℕ} {b : Bool} → b ≡ is_put t (line_of area s) → b ≡ true → p ≡ place_of s → r ≡ eight_at area (p + s.len + 8) → r ≡ put_start t (line_of area s)
-  start-put t {r} {p} e f g h = rw (sym e ∙ f) (h ∙ ap (λ (k : ℕ). eight_at area (k + s.len + 8)) g ∙ sym start_is)
-
-  pub start_none : (t : ℕ) {b : Bool} → b ≡ is_put t (line_of area s) → b ≡ false → 0 ≡ put_start t (line_of area s)
-  start_none t e f = rw (sym e ∙ f)
-
-pub kind-standing : (s : Slot) {l : LockSlot} → s.line ≡ Standing l → (area : Bytes) → l.kind ≡ kind_in (line_of area s).line
-kind-standing s e area = rw e
-
-pub kind-finished : (s : Slot) {w : RecordSlot} → s.line ≡ Finished w → (area : Bytes) → w.kind ≡ kind_in (line_of area s).line
-kind-finished s e area = rw e
-
--- ---- two keys
-
-pub both-same : (area : Bytes) (a b : Slot) {there r : Bool} {p q : ℕ} → p ≡ place_of a → q ≡ place_of b → there ≡ true
-    → r ≡ eq_bytes (take (p + a.len - p) (drop p area)) (take (q + b.len - q) (drop q area)) → r ≡ there && eq_bytes (key_of area a) (key_of area b)
-both-same area a b {p = p} {q = q} e f g h =
-    rw g (h ∙ ap₂ eq_bytes (stretch area p a.len ∙ ap (λ (k : ℕ). bytes_at area k a.len) e) (stretch area q b.len ∙ ap (λ (k : ℕ). bytes_at area k b.len) f))
 
 -- ---- what counts only where a test holds
 

@@ -1,6 +1,5 @@
 -- The laws that the proofs of this crate's functions stand on. Assumes nothing.
 pub mod CaptureLineLaws
 pub mod EntrySizeLaws
-pub mod PickLaws
 pub mod SumLaws
 pub mod SizeLaws

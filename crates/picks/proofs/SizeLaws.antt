@@ -6,9 +6,8 @@ use mathlib.Core.Path.{◌≡◌, refl, sym, ap, ap₂, ◌∙◌}
 use mathlib.Core.Bool.{Bool, true, false, ◌&&◌}
 use mathlib.Core.List.{List, [], ◌∷◌, map}
 use lib.ListN.{length, get_or, take}
-use lib.Seq.{take-suc}
-use Rattle.seqs.specs.Tables.{shown}
-use Rattle.seqs.proofs.Tables.{table_at}
+use lib.Seq.{take-suc, take_all}
+use Rattle.seqs.proofs.Alls.{all-at}
 use Rattle.forms.specs.Bytes.{Bytes, AllBytes}
 use Rattle.forms.specs.Numbers.{only_if}
 use Rattle.rules.specs.Read.{those}
@@ -151,40 +150,40 @@ module _ {area : Bytes} {z : Sizes} {s : Slot} (q : CountAsks area z s) where
 
 -- ---- the walk
 
-pub record Counting (lines : List Slot) (n : ℕ) (area : Bytes) (t : ℕ) (z : Sizes) (i : ℕ) : Type 0 where
-  pub low : i ≤ n
-  pub defaults : z.defaults ≡ sum_of (λ (s : Slot). only_if (is_put t (line_of area s)) 1) (take i lines)
-  pub locks : z.locks ≡ sum_of (λ (s : Slot). only_if (belongs Locks t (line_of area s)) 1) (take i lines)
-  pub writes : z.writes ≡ sum_of (λ (s : Slot). only_if (belongs Writes t (line_of area s)) 1) (take i lines)
-  pub held : z.held ≡ sum_of (λ (s : Slot). only_if (belongs Locks t (line_of area s)) (length (entry_bytes (line_of area s)))) (take i lines)
-  pub bytes : z.bytes ≡ sum_of (λ (s : Slot). line_size t (line_of area s)) (take i lines) + sum_of (λ (s : Slot). only_if (is_put t (line_of area s)) (length (default_bytes (row_at area s)))) (take i lines)
+pub record Counting (slots : List Slot) (area : Bytes) (t : ℕ) (z : Sizes) (i : ℕ) : Type 0 where
+  pub low : i ≤ length slots
+  pub defaults : z.defaults ≡ sum_of (λ (s : Slot). only_if (is_put t (line_of area s)) 1) (take i slots)
+  pub locks : z.locks ≡ sum_of (λ (s : Slot). only_if (belongs Locks t (line_of area s)) 1) (take i slots)
+  pub writes : z.writes ≡ sum_of (λ (s : Slot). only_if (belongs Writes t (line_of area s)) 1) (take i slots)
+  pub held : z.held ≡ sum_of (λ (s : Slot). only_if (belongs Locks t (line_of area s)) (length (entry_bytes (line_of area s)))) (take i slots)
+  pub bytes : z.bytes ≡ sum_of (λ (s : Slot). line_size t (line_of area s)) (take i slots) + sum_of (λ (s : Slot). only_if (is_put t (line_of area s)) (length (default_bytes (row_at area s)))) (take i slots)
   pub few : Small (i * 800) z
 
-module _ {lines : List Slot} {n : ℕ} {area : Bytes} (v : Lined lines n area) (t : ℕ) where
-  pub counting-start : Counting lines n area t (record { defaults = 0; locks = 0; writes = 0; held = 0; bytes = 0 }) 0
+module _ {slots : List Slot} {area : Bytes} (v : Lined slots area) (t : ℕ) where
+  pub counting-start : Counting slots area t (record { defaults = 0; locks = 0; writes = 0; held = 0; bytes = 0 }) 0
   unfolding sum_of
   counting-start = record { low = omega arith; defaults = refl; locks = refl; writes = refl; held = refl; bytes = refl; few = record { defaults = omega arith; locks = omega arith; writes = omega arith; held = omega arith; bytes = omega arith } }
 
-  next-sum : (f : Slot → ℕ) (i : ℕ) → i < n → sum_of f (take (i + 1) lines) ≡ sum_of f (take i lines) + f (get_or lines i no_slot)
+  next-sum : (f : Slot → ℕ) (i : ℕ) → i < length slots → sum_of f (take (i + 1) slots) ≡ sum_of f (take i slots) + f (get_or slots i no_slot)
   next-sum f i h =
-      ap (λ (k : ℕ). sum_of f (take k lines)) (add-one i) ∙ ap (sum_of f) (take-suc lines i no_slot (omega (arith, v.table.length_is, v.table.count_fits))) ∙ sum-snoc f (take i lines) (get_or lines i no_slot)
+      ap (λ (k : ℕ). sum_of f (take k slots)) (add-one i) ∙ ap (sum_of f) (take-suc slots i no_slot h) ∙ sum-snoc f (take i slots) (get_or slots i no_slot)
 
-  module _ {z : Sizes} {i : ℕ} (w : Counting lines n area t z i) (h : i < n) where
-    pub counting-asks : CountAsks area z (get_or lines i no_slot)
+  module _ {z : Sizes} {i : ℕ} (w : Counting slots area t z i) (h : i < length slots) where
+    pub counting-asks : CountAsks area z (get_or slots i no_slot)
     counting-asks = record {
-      slot = table_at v.table i h;
+      slot = all-at (SlotIn area) no_slot slots i v.holds h;
       small = record {
-        defaults = omega (arith, w.few.defaults, v.table.count_fits);
-        locks = omega (arith, w.few.locks, v.table.count_fits);
-        writes = omega (arith, w.few.writes, v.table.count_fits);
-        held = omega (arith, w.few.held, v.table.count_fits);
-        bytes = omega (arith, w.few.bytes, v.table.count_fits);
+        defaults = omega (arith, w.few.defaults, v.few);
+        locks = omega (arith, w.few.locks, v.few);
+        writes = omega (arith, w.few.writes, v.few);
+        held = omega (arith, w.few.held, v.few);
+        bytes = omega (arith, w.few.bytes, v.few);
       };
     }
 
-    pub counting_more : {r : Sizes} → LineCounted area t z (get_or lines i no_slot) r → Counting lines n area t r (i + 1)
+    pub counting_more : {r : Sizes} → LineCounted area t z (get_or slots i no_slot) r → Counting slots area t r (i + 1)
     counting_more {r} c =
-        let s = get_or lines i no_slot in
+        let s = get_or slots i no_slot in
         let a : only_if (is_put t (line_of area s)) 1 ≤ 1 = if-few 1 (is_put t (line_of area s)) refl in
         let b : only_if (belongs Locks t (line_of area s)) 1 ≤ 1 = if-few 1 (belongs Locks t (line_of area s)) refl in
         let d : only_if (belongs Writes t (line_of area s)) 1 ≤ 1 = if-few 1 (belongs Writes t (line_of area s)) refl in
@@ -209,18 +208,15 @@ module _ {lines : List Slot} {n : ℕ} {area : Bytes} (v : Lined lines n area) (
             defaults = omega (arith, c.defaults, w.few.defaults, a);
             locks = omega (arith, c.locks, w.few.locks, b);
             writes = omega (arith, c.writes, w.few.writes, d);
-            held = omega (arith, c.held, w.few.held, g, entry-small (table_at v.table i h));
-            bytes = omega (arith, c.bytes, w.few.bytes, e, f, entry-small (table_at v.table i h), default-small (table_at v.table i h));
+            held = omega (arith, c.held, w.few.held, g, entry-small (all-at (SlotIn area) no_slot slots i v.holds h));
+            bytes = omega (arith, c.bytes, w.few.bytes, e, f, entry-small (all-at (SlotIn area) no_slot slots i v.holds h), default-small (all-at (SlotIn area) no_slot slots i v.holds h));
           };
         }
 
-  pub counting-end : {z : Sizes} {i : ℕ} → Counting lines n area t z i → n ≤ i → AllBytes area → SizesAre lines n area t z
-  unfolding shown
+  pub counting-end : {z : Sizes} {i : ℕ} → Counting slots area t z i → length slots ≤ i → AllBytes area → SizesAre slots area t z
   counting-end {z} {i} w h g =
-      let e : i ≡ n = omega (arith, w.low) in
-      let slots = take n lines in
       let es = map (line_of area) slots in
-      let at : (f : Slot → ℕ) → sum_of f (take i lines) ≡ sum_of f slots = λ f. ap (λ (k : ℕ). sum_of f (take k lines)) e in
+      let at : (f : Slot → ℕ) → sum_of f (take i slots) ≡ sum_of f slots = λ f. ap (sum_of f) (take_all i slots h) in
       record {
         defaults = w.defaults ∙ at _ ∙ rows-sum area t (λ (d : box.Default). 1) slots ∙ those-count (row_of_table t) (stored (map (default_in area) slots));
         locks = w.locks ∙ at _ ∙ sym (sum-map (line_of area) (λ (e : box.KeyLine). only_if (belongs Locks t e) 1) slots) ∙ those-count (belongs Locks t) es;
@@ -229,6 +225,6 @@ module _ {lines : List Slot} {n : ℕ} {area : Bytes} (v : Lined lines n area) (
         bytes =
             w.bytes ∙ ap₂ ◌+◌ (at _ ∙ sym (sum-map (line_of area) (line_size t) slots) ∙ lines-sum t es)
             (at _ ∙ rows-sum area t (λ (d : box.Default). length (default_bytes d)) slots ∙ those-bytes (row_of_table t) default_bytes (stored (map (default_in area) slots)));
-        small = omega (arith, w.few.bytes, v.table.count_fits);
+        small = omega (arith, w.few.bytes, v.few);
         octets = g;
       }

@@ -1,7 +1,7 @@
--- What an image takes from a table of slots: which lines are of its sections, the bytes of a line's entry, and the rows that Put lines carry.
+-- What an image takes from a list of slots: which lines are of its sections, the bytes of a line's entry, and the rows that Put lines carry.
 -- Assumes nothing.
-use Rattle.std.specs.Prelude.{ℕ, ◌+◌, ◌≤◌, ◌<◌, ◌≡◌, Bool, true, false, ◌&&◌, List, ◌++◌, length}
-use Rattle.seqs.specs.Tables.{Table, shown}
+use Rattle.std.specs.Prelude.{ℕ, ◌+◌, ◌≤◌, ◌<◌, ◌≡◌, Bool, true, false, ◌&&◌, List, ◌++◌, map, length}
+use Rattle.seqs.specs.Tables.{All}
 use Rattle.forms.specs.Bytes.{Bytes, piece_bytes}
 use Rattle.forms.specs.Key.{key_form}
 use Rattle.forms.specs.Numbers.{digits, only_if}
@@ -16,7 +16,7 @@ use Rattle.rules.specs.Capture.{row_of_table, entries_of, record_bytes}
 use Rattle.store.specs.declared.table.Line.{Line}
 use Rattle.store.specs.declared.table.Line.TheVariants.{Standing, Finished}
 use Rattle.store.specs.declared.table.Slot.{Slot}
-use Rattle.store.specs.View.{place_of, past, key_of, line_of, row_in, default_in, stored, no_slot}
+use Rattle.store.specs.View.{place_of, past, key_of, line_of, row_in, default_in, stored}
 use Rattle.picks.specs.declared.slots.Section.{Section}
 use Rattle.picks.specs.declared.slots.Section.TheVariants.{Locks, Writes}
 
@@ -66,27 +66,28 @@ pub record SlotIn (area : Bytes) (s : Slot) : Type 0 where
   pub short : ShortLine s.line
   pub starts : 0 < start_of (line_of area s).line
 
--- ---- tables of which n slots count
+-- ---- lists of slots
 
 -- in order, and with no second line of a key and start
-pub record Lined (lines : List Slot) (n : ℕ) (area : Bytes) : Type 0 where
-  pub table : Table (SlotIn area) no_slot 1024 n lines
-  pub sorted : box.ordered box.before (shown (line_of area) n lines) ≡ true
-  pub once : no_second like_line (shown (line_of area) n lines) ≡ true
+pub record Lined (slots : List Slot) (area : Bytes) : Type 0 where
+  pub few : length slots ≤ 1024
+  pub holds : All (SlotIn area) slots
+  pub sorted : box.ordered box.before (map (line_of area) slots) ≡ true
+  pub once : no_second like_line (map (line_of area) slots) ≡ true
 
-abbrev pub box_in : List Slot → ℕ → Bytes → box.Box
-box_in lines n area = record { lines = shown (line_of area) n lines; defaults = stored (shown (default_in area) n lines) }
+abbrev pub box_in : List Slot → Bytes → box.Box
+box_in slots area = record { lines = map (line_of area) slots; defaults = stored (map (default_in area) slots) }
 
 -- its lines of a section, and its rows of the table
-abbrev pub lines_in : List Slot → ℕ → Bytes → ℕ → Section → List box.KeyLine
-lines_in lines n area t what = those (belongs what t) (shown (line_of area) n lines)
+abbrev pub lines_in : List Slot → Bytes → ℕ → Section → List box.KeyLine
+lines_in slots area t what = those (belongs what t) (map (line_of area) slots)
 
-abbrev pub rows_in : List Slot → ℕ → Bytes → ℕ → List box.Default
-rows_in lines n area t = those (row_of_table t) (stored (shown (default_in area) n lines))
+abbrev pub rows_in : List Slot → Bytes → ℕ → List box.Default
+rows_in slots area t = those (row_of_table t) (stored (map (default_in area) slots))
 
 -- the locks, and after them the count of the writes and the writes
-abbrev pub lines_bytes : List Slot → ℕ → Bytes → ℕ → ℕ → Bytes
-lines_bytes lines n area t writes = all_bytes entry_bytes (lines_in lines n area t Locks) ++ (digits 2 writes ++ all_bytes entry_bytes (lines_in lines n area t Writes))
+abbrev pub lines_bytes : List Slot → Bytes → ℕ → ℕ → Bytes
+lines_bytes slots area t writes = all_bytes entry_bytes (lines_in slots area t Locks) ++ (digits 2 writes ++ all_bytes entry_bytes (lines_in slots area t Writes))
 
-abbrev pub entries_in : ℕ → List Slot → ℕ → Bytes → ℕ → Image
-entries_in floor lines n area t = entries_of floor t (box_in lines n area)
+abbrev pub entries_in : ℕ → List Slot → Bytes → ℕ → Image
+entries_in floor slots area t = entries_of floor t (box_in slots area)

@@ -55,11 +55,11 @@ pub record LineCounted (area : Bytes) (t : ℕ) (z : Sizes) (s : Slot) (r : Size
   pub bytes : r.bytes ≡ z.bytes + only_if (of_table t (key_of area s)) (length (entry_bytes (line_of area s))) + only_if (is_put t (line_of area s)) (length (default_bytes (row_at area s)))
 
 -- the sizes of a table's image; and that the area holds bytes, as the walk over it knows
-pub record SizesAre (lines : List Slot) (n : ℕ) (area : Bytes) (t : ℕ) (z : Sizes) : Type 0 where
-  pub defaults : z.defaults ≡ length (rows_in lines n area t)
-  pub locks : z.locks ≡ length (lines_in lines n area t Locks)
-  pub writes : z.writes ≡ length (lines_in lines n area t Writes)
-  pub held : z.held ≡ length (all_bytes entry_bytes (lines_in lines n area t Locks))
-  pub bytes : z.bytes ≡ length (all_bytes entry_bytes (lines_in lines n area t Locks)) + length (all_bytes entry_bytes (lines_in lines n area t Writes)) + length (all_bytes default_bytes (rows_in lines n area t))
+pub record SizesAre (slots : List Slot) (area : Bytes) (t : ℕ) (z : Sizes) : Type 0 where
+  pub defaults : z.defaults ≡ length (rows_in slots area t)
+  pub locks : z.locks ≡ length (lines_in slots area t Locks)
+  pub writes : z.writes ≡ length (lines_in slots area t Writes)
+  pub held : z.held ≡ length (all_bytes entry_bytes (lines_in slots area t Locks))
+  pub bytes : z.bytes ≡ length (all_bytes entry_bytes (lines_in slots area t Locks)) + length (all_bytes entry_bytes (lines_in slots area t Writes)) + length (all_bytes default_bytes (rows_in slots area t))
   pub small : z.bytes ≤ 2097152
   pub octets : AllBytes area

@@ -6,6 +6,6 @@ pub mod chains;
 pub mod sizes;
 pub mod slots;
 
-pub use chains::{best_of, either_place, joined, least_above};
+pub use chains::{is_less, same_key};
 pub use sizes::{Sizes, sizes_of};
 pub use slots::{Section, belongs_to, put_start, row_len};

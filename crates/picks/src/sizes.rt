@@ -23,24 +23,20 @@ fn with_line(z: Sizes, s: Slot) -> Sizes
     ensures { (area : Bytes) → SlotIn area s → LineAdded area z s result }
 {
     let key = s.len as usize;
-    let line = s.line;
-    match line {
+    match s.line {
         Line::Standing(l) => {
             let size = key + l.plen as usize + 27;
             Sizes {
-                defaults: z.defaults,
                 locks: z.locks + 1,
-                writes: z.writes,
                 held: z.held + size,
                 bytes: z.bytes + size,
+                ..z
             }
         }
         Line::Finished(_) => Sizes {
-            defaults: z.defaults,
-            locks: z.locks,
             writes: z.writes + 1,
-            held: z.held,
             bytes: z.bytes + key + 26,
+            ..z
         },
     }
 }
@@ -50,17 +46,13 @@ fn with_row(z: Sizes, s: Slot) -> Sizes
     requires { RowAsks z s }
     ensures { (area : Bytes) → SlotIn area s → RowAdded area z s result }
 {
-    let kind = kind_of(s);
-    match kind {
+    match kind_of(s) {
         Kind::Put => Sizes {
             defaults: z.defaults + 1,
-            locks: z.locks,
-            writes: z.writes,
-            held: z.held,
             bytes: z.bytes + s.len as usize + row_len(s) + 10,
+            ..z
         },
-        Kind::Delete => z,
-        Kind::Rollback => z,
+        Kind::Delete | Kind::Rollback => z,
     }
 }
 
@@ -70,15 +62,16 @@ fn count_line(z: Sizes, s: Slot, area: &[u8], table: u32) -> Sizes
     ensures { LineCounted area.now table z s result }
 {
     if of_table(s, area, table) {
-        return with_row(with_line(z, s), s);
+        with_row(with_line(z, s), s)
+    } else {
+        z
     }
-    z
 }
 
 // One walk over the lines.
-pub fn sizes_of(lines: [Slot; 1024], n: usize, area: &[u8], table: u32) -> Sizes
-    requires { Lined lines n area.now }
-    ensures { SizesAre lines n area.now table result }
+pub fn sizes_of(slots: &[Slot], area: &[u8], table: u32) -> Sizes
+    requires { Lined slots.now area.now }
+    ensures { SizesAre slots.now area.now table result }
 {
     let mut z = Sizes {
         defaults: 0,
@@ -87,11 +80,8 @@ pub fn sizes_of(lines: [Slot; 1024], n: usize, area: &[u8], table: u32) -> Sizes
         held: 0,
         bytes: 0,
     };
-    let mut i: usize = 0;
-    while i < n {
-        let s = lines[i];
-        z = count_line(z, s, area, table);
-        i += 1;
+    for s in slots {
+        z = count_line(z, *s, area, table);
     }
     z
 }

@@ -23,15 +23,13 @@ pub(crate) fn of_table(s: Slot, area: &[u8], table: u32) -> bool
     requires { SlotIn area.now s }
     ensures { result ≡ of_table table (key_of area.now s) }
 {
-    let n = forms::number_at(area, place_of(s), Width::Four);
-    n.value == table as u64
+    forms::number_at(area, place_of(s), Width::Four) == Some(u64::from(table))
 }
 
 pub(crate) fn kind_of(s: Slot) -> Kind
     ensures { (area : Bytes) → result ≡ kind_in (line_of area s).line }
 {
-    let line = s.line;
-    match line {
+    match s.line {
         Line::Standing(l) => l.kind,
         Line::Finished(w) => w.kind,
     }
@@ -40,8 +38,7 @@ pub(crate) fn kind_of(s: Slot) -> Kind
 pub fn row_len(s: Slot) -> usize
     ensures { result ≡ row_len s.line }
 {
-    let line = s.line;
-    match line {
+    match s.line {
         Line::Standing(l) => l.rowlen as usize,
         Line::Finished(w) => w.rowlen as usize,
     }
@@ -52,16 +49,10 @@ pub fn belongs_to(s: Slot, area: &[u8], table: u32, what: Section) -> bool
     requires { SlotIn area.now s }
     ensures { result ≡ belongs what table (line_of area.now s) }
 {
-    let line = s.line;
-    match line {
-        Line::Standing(_) => match what {
-            Section::Locks => of_table(s, area, table),
-            Section::Writes => false,
-        },
-        Line::Finished(_) => match what {
-            Section::Locks => false,
-            Section::Writes => of_table(s, area, table),
-        },
+    match (s.line, what) {
+        (Line::Standing(_), Section::Locks) => of_table(s, area, table),
+        (Line::Finished(_), Section::Writes) => of_table(s, area, table),
+        (Line::Standing(_), Section::Writes) | (Line::Finished(_), Section::Locks) => false,
     }
 }
 
@@ -70,12 +61,7 @@ pub(crate) fn is_put(s: Slot, area: &[u8], table: u32) -> bool
     requires { SlotIn area.now s }
     ensures { result ≡ is_put table (line_of area.now s) }
 {
-    let kind = kind_of(s);
-    match kind {
-        Kind::Put => of_table(s, area, table),
-        Kind::Delete => false,
-        Kind::Rollback => false,
-    }
+    matches!(kind_of(s), Kind::Put) && of_table(s, area, table)
 }
 
 // The start of a Put of the table, and of any other line 0.

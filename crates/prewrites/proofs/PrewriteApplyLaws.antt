@@ -3,21 +3,18 @@
 use Prim.Native.Nat.{ℕ, ◌+◌, ◌≤◌, ◌<◌}
 use native.Mathlib.Omega.{arith}
 use mathlib.Core.Path.{◌≡◌, refl, sym, ap, ap₂, ◌∙◌, subst}
-use mathlib.Core.List.{List, [], ◌∷◌}
+use mathlib.Core.List.{List, [], ◌∷◌, map}
 use mathlib.Core.Option.{Option, none, some}
 use lib.Dec.{ltb}
-use Rattle.seqs.specs.Tables.{shown}
 use Rattle.forms.specs.Bytes.{Bytes}
 use Rattle.forms.specs.Key.{Key}
 use Rattle.forms.specs.Row.{Row}
 use Rattle.forms.specs.Batch.{Mutation, key_inside}
-use Rattle.forms.specs.Places.{key_at, mutation_of, InForm}
+use Rattle.forms.specs.Places.{mutation_of, given_part, InForm}
 use Rattle.forms.specs.declared.batch.Entry.{Entry}
 use Rattle.forms.proofs.DecodeLaws.{mutations-by-keys}
-use Rattle.rules.specs.declared.answers.Answer.{Answer}
-use Rattle.rules.specs.declared.answers.Answer.TheVariants.{Accepted}
+use Rattle.rules.specs.Answers.{Answer, Accepted, ◌▸◌, need}
 use Rattle.rules.specs.declared.room.Load.{Load}
-use Rattle.rules.specs.Answers.{◌▸◌, need}
 use Rattle.rules.specs.Box.{Box, Lock, lock_of}
 use Rattle.rules.specs.Room.{load_of, room_for, Fits}
 use Rattle.rules.specs.Calls.{settle, non_empty}
@@ -29,12 +26,10 @@ use Rattle.laws.proofs.BatchLaws.{check_all, apply_all}
 use Rattle.laws.proofs.PrewriteLaws.{prewrite-passed, prewrite-depends, prewrite-only, prewrite_entries-all, apply_prewrites-all}
 use Rattle.laws.proofs.PrewriteLoad.{prewrites-load}
 use Rattle.store.specs.View.{box_of}
-use Rattle.changes.specs.Changes.{entry_for}
 use Rattle.actions.specs.declared.action.Action.{Action}
 use Rattle.actions.specs.declared.action.Action.TheVariants.{Prewrite}
-use Rattle.calls.specs.Entries.{row_at}
-use Rattle.calls.specs.Passes.{EntryReady, Ready, counted}
-use Rattle.calls.proofs.EntryPartLaws.{parts_are, row_fits}
+use Rattle.calls.specs.Passes.{EntryReady, Ready}
+use Rattle.calls.proofs.EntryPartLaws.{row_fits}
 use Rattle.calls.proofs.AnswerLaws.{terms-split}
 use Rattle.calls.proofs.ApplyAllLaws.{Changes, Applying, applying-passed, ready-all}
 use Rattle.calls.proofs.RoomJudgeLaws.{Weighed, applying-free}
@@ -99,7 +94,7 @@ module _ (t : LockTerms) (primary : Key) (s : Bytes) where
     floor = 0;
     head = p;
     passed = passed;
-    row_fits = row_fits s e (prewrite-passed h (box_of st area) _ passed).row;
+    row_fits = row_fits (given_part s e.row) (prewrite-passed h (box_of st area) _ passed).row;
     slot_free = λ z. applying-free (weighed h) here built.kept f (one_more h (box_of st area) (mutation_of s e) z);
     area_room = room;
   }
@@ -107,13 +102,13 @@ module _ (t : LockTerms) (primary : Key) (s : Bytes) where
       here : Applying (changes_of h) want (box_of st area) (mutation_of s e ∷ rest)
       here = subst (λ (x : Box). Applying (changes_of h) want x (mutation_of s e ∷ rest)) (sym q) v
 
-      passed : prewrite_entry h (box_of st area) (entry_for (key_at s e) e.put (row_at s e)) ≡ Accepted
-      passed = ap (prewrite_entry h (box_of st area)) (parts_are s e) ∙ applying-passed here
+      passed : prewrite_entry h (box_of st area) (mutation_of s e) ≡ Accepted
+      passed = applying-passed here
 
-  pub locks-ready : {n : ℕ} {es : List Entry} (b : Box) → prewrite_terms_step 0 (with_primary t primary) ≡ Accepted → InForm s n es → check_all (prewrite_entry (with_primary t primary)) b (shown (mutation_of s) n es) ≡ Accepted
-      → Fits (load_of (apply_all (apply_prewrite (with_primary t primary)) (shown (mutation_of s) n es) b)) → Ready (deed_of t) primary s (counted n es) b
-  locks-ready {n} {es} b p form c f =
-      ready-all (changes_of h) (mutation_of s) (deed_of t) primary s (λ e x. refl) (entry_ready p f) n es b (record { ascends = mutations-by-keys s n es ∙ form.ascends; passed = c; is = refl })
+  pub locks-ready : {es : List Entry} (b : Box) → prewrite_terms_step 0 (with_primary t primary) ≡ Accepted → InForm s es → check_all (prewrite_entry (with_primary t primary)) b (map (mutation_of s) es) ≡ Accepted
+      → Fits (load_of (apply_all (apply_prewrite (with_primary t primary)) (map (mutation_of s) es) b)) → Ready (deed_of t) primary s es b
+  locks-ready {es} b p form c f =
+      ready-all (changes_of h) (mutation_of s) (deed_of t) primary s (λ e x. refl) (entry_ready p f) es b (record { ascends = mutations-by-keys s es ∙ form.ascends; passed = c; is = refl })
 
 -- ---- the call
 

@@ -1,25 +1,22 @@
 -- What the check of an entry of a prewrite asks and finds.
 -- Assumes nothing.
-use Rattle.std.specs.Prelude.{ℕ, ◌+◌, ◌≤◌, ◌≡◌, Bool, length}
+use Rattle.std.specs.Prelude.{ℕ, ◌+◌, ◌≤◌, ◌≡◌, Bool, length, None, Some}
 use Rattle.std.proofs.Math.Option.{Option, none, some}
 use Rattle.forms.specs.Bytes.{Bytes, bytes_at}
 use Rattle.forms.specs.Key.{Key, key_form}
 use Rattle.forms.specs.Row.{Row}
 use Rattle.forms.specs.Readers.{when}
 use Rattle.forms.specs.Batch.{Mutation}
-use Rattle.rules.specs.declared.answers.Answer.{Answer}
+use Rattle.rules.specs.Answers.{Answer, ◌▸◌, need}
 use Rattle.rules.specs.declared.room.Load.{Load}
-use Rattle.rules.specs.Answers.{◌▸◌, need}
 use Rattle.rules.specs.Box.{Lock}
 use Rattle.rules.specs.Calls.{row_argument}
 use Rattle.rules.specs.Prewrite.{PrewriteTerms, lock_step, prewrite_entry, unless_locked}
 use Rattle.laws.specs.Adds.{no_load, plus, lock_load, of_row, prewrite_adds}
 use Rattle.store.specs.declared.table.Store.{Store}
-use Rattle.lookups.specs.declared.lookup.Locked.{Locked}
-use Rattle.lookups.specs.declared.lookup.Locked.TheVariants.{Nobody, By}
 use Rattle.store.specs.declared.views.LockView.{LockView}
 use Rattle.store.specs.Made.{Built}
-use Rattle.lookups.specs.KeyStates.{locked_by}
+use Rattle.lookups.specs.KeyStates.{Locked, locked_by}
 use Rattle.calls.specs.Weights.{Light, Steps}
 use Rattle.calls.specs.declared.weights.Weight.{Weight}
 use Rattle.prewrites.specs.declared.heads.LockTerms.{LockTerms}
@@ -58,13 +55,13 @@ pub record IntentIn (n : ℕ) (i : LockView) : Type 0 where
   pub row-in : i.rowat + i.rowlen ≤ n
 
 abbrev pub LockIn : ℕ → Locked → Type 0
-LockIn n Nobody = Unit {0}
-LockIn n (By i) = IntentIn n i
+LockIn n None = Unit {0}
+LockIn n (Some i) = IntentIn n i
 
 -- the bytes at a lock's row
 abbrev pub row_held : Bytes → Locked → Option Row
-row_held area Nobody = none
-row_held area (By i) = some (bytes_at area i.rowat i.rowlen)
+row_held area None = none
+row_held area (Some i) = some (bytes_at area i.rowat i.rowlen)
 
 -- ---- one entry
 

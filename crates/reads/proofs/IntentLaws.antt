@@ -1,5 +1,6 @@
 -- An intent at a point: a key's lock is sound, so that it is shown where it starts at or below the moment.
 -- Assumes nothing.
+use Rattle.std.specs.Prelude.{None, Some, Ok, Err}
 use Prim.Native.Nat.{ℕ, ◌≤◌, ◌<◌}
 use native.Mathlib.Omega.{arith}
 use mathlib.Core.Path.{◌≡◌, sym, ap, ◌∙◌, subst}
@@ -8,29 +9,25 @@ use lib.ListN.{length}
 use borrow.Author.Tests.{lt-ltb, le-ltb}
 use Rattle.forms.specs.Bytes.{Bytes}
 use Rattle.forms.specs.Key.{Key, key_form}
-use Rattle.rules.specs.declared.answers.Answer.TheVariants.{No}
-use Rattle.rules.specs.Answers.{need, Reply, answer_of, if_passed}
+use Rattle.rules.specs.Answers.{No, need, Reply, answer_of, if_passed}
 use Rattle.rules.specs.Box.{Box, Lock}
 use Rattle.rules.specs.Intent.{lock_if, unless_above, judge_lock, intent_at}
 use Rattle.store.specs.declared.table.Store.{Store}
 use Rattle.store.specs.declared.views.LockView.{LockView}
-use Rattle.lookups.specs.declared.lookup.Locked.{Locked}
-use Rattle.lookups.specs.declared.lookup.Locked.TheVariants.{Nobody, By}
 use Rattle.lookups.specs.declared.lookup.KeyState.{KeyState}
 use Rattle.store.specs.View.{box_of}
 use Rattle.store.specs.Made.{Built}
 use Rattle.store.specs.Views.{lock_in}
-use Rattle.lookups.specs.KeyStates.{KeyStateAt, LockThere, locked_by}
+use Rattle.lookups.specs.KeyStates.{Locked, KeyStateAt, LockThere, locked_by}
 use Rattle.laws.proofs.StepLaws.{answered}
-use Rattle.reads.specs.declared.seen.LockSeen.{LockSeen}
-use Rattle.reads.specs.declared.seen.LockSeen.TheVariants as pointed
-use Rattle.reads.specs.Seen.{pointed_in, PointedBelow, PointedAs}
+use Rattle.rules.specs.declared.answers.Refusal.TheVariants.{KeyForm}
+use Rattle.reads.specs.Seen.{LockSeen, pointed_in, PointedBelow, PointedAs}
 use Rattle.store.proofs.KeySoundLaws.{sound-lock}
 
 point-as : {want : Reply Lock} {area : Bytes} {r : LockSeen} → pointed_in area r ≡ want → PointedBelow (length area) r → PointedAs want area r
 point-as e h = record { answer_is = answered (ap (λ (x : Reply Lock). answer_of x) e); is = e; within = h }
 
-pub point-invalid : (k : Key) (m : ℕ) (b : Box) (area : Bytes) → key_form k ≡ false → PointedAs (intent_at k m b) area (pointed.Refused (No 1))
+pub point-invalid : (k : Key) (m : ℕ) (b : Box) (area : Bytes) → key_form k ≡ false → PointedAs (intent_at k m b) area (Err KeyForm)
 unfolding intent_at if_passed need
 point-invalid k m b area h = point-as (sym (rw h)) tt
 
@@ -40,20 +37,20 @@ module _ {st : Store} {area k : Bytes} {start m : ℕ} {found : KeyState} (b : B
   unfolding intent_at if_passed need
   judged e = ap (λ (o : Locked). judge_lock m (locked_by area o)) (sym e) ∙ ap (judge_lock m) f.lock_is ∙ sym (rw form)
 
-  pub point-nobody : found.lock ≡ Nobody → PointedAs (intent_at k m (box_of st area)) area pointed.Nothing
+  pub point-nobody : found.lock ≡ None → PointedAs (intent_at k m (box_of st area)) area (Ok None)
   unfolding judge_lock
   point-nobody e = point-as (judged e) tt
 
-  module _ {i : LockView} (e : found.lock ≡ By i) where
-    pub point-above : m < i.start → PointedAs (intent_at k m (box_of st area)) area pointed.Nothing
+  module _ {i : LockView} (e : found.lock ≡ Some i) where
+    pub point-above : m < i.start → PointedAs (intent_at k m (box_of st area)) area (Ok None)
     unfolding judge_lock unless_above
     point-above h = point-as (sym (rw (lt-ltb m i.start h)) ∙ judged e) tt
 
     pub point-lock : i.start ≤ m
-        → PointedAs (intent_at k m (box_of st area)) area (pointed.Lock (record { txn = i.txn; start = i.start; ttl = i.ttl; kind = i.kind; at = i.at; len = i.len }))
+        → PointedAs (intent_at k m (box_of st area)) area (Ok (Some (record { txn = i.txn; start = i.start; ttl = i.ttl; kind = i.kind; primary = record { at = i.at; len = i.len } })))
     unfolding judge_lock unless_above lock_if
     point-lock h =
-        let there : LockThere st.top area (box_of st area).defaults k (By i) = subst (LockThere st.top area (box_of st area).defaults k) e f.lock_there in
+        let there : LockThere st.top area (box_of st area).defaults k (Some i) = subst (LockThere st.top area (box_of st area).defaults k) e f.lock_there in
         point-as
         (sym (rw (le-ltb m i.start h, sound-lock k (box_of st area).lines (lock_in area i) b.kept.good (sym f.lock_is ∙ ap (locked_by area) e))) ∙ judged e)
         (omega (arith, there.primary_in, b.top_in, b.area_long))

@@ -10,13 +10,9 @@ use Rattle.forms.specs.Bytes.{Bytes, bytes_at}
 use Rattle.forms.specs.Row.{Row}
 use Rattle.rules.specs.Answers.{Reply, shown}
 use Rattle.rules.specs.Box.{Lock}
-use Rattle.reads.specs.declared.seen.RowSeen.{RowSeen}
-use Rattle.reads.specs.declared.seen.RowSeen.TheVariants as seen
-use Rattle.reads.specs.declared.seen.LockSeen.{LockSeen}
-use Rattle.reads.specs.declared.seen.LockSeen.TheVariants as pointed
-use Rattle.reads.specs.declared.parts.Place.{Place}
-use Rattle.reads.specs.Seen.{seen_in, SeenBelow, SeenAs, pointed_in, PointedBelow, PointedAs}
-use Rattle.reads.specs.Parts.{part_of, row_shown, row_place, row_part, RowPart, primary_shown, primary_place, primary_part, PrimaryPart}
+use Rattle.std.specs.Prelude.{Some, None, Ok, Err}
+use Rattle.reads.specs.Seen.{RowSeen, LockSeen, seen_in, SeenBelow, SeenAs, pointed_in, PointedBelow, PointedAs}
+use Rattle.reads.specs.Parts.{part_of, row_shown, row_part, RowPart, primary_shown, primary_part, PrimaryPart}
 
 -- ---- a stretch of the area
 
@@ -30,37 +26,27 @@ module _ (area : Bytes) (at len : ℕ) where
   pub part_in : at ≤ length area → len ≤ length area - at → bytes_at area at len ≡ part_of area at len
   part_in h g = rw (le-leb at (length area) h, le-leb len (length area - at) g)
 
-  part-within : at + len ≤ length area → part_of area at len ≡ bytes_at area at len
+  pub part-within : at + len ≤ length area → part_of area at len ≡ bytes_at area at len
   part-within h = sym (part_in (omega arith) (omega arith))
 
 -- ---- what an answer shows
 
 row_within : (area : Bytes) (s : RowSeen) → SeenBelow (length area) s → row_part area s ≡ row_shown (seen_in area s)
-row_within area seen.Nothing h = refl
-row_within area (seen.Row at len) h = part-within area at len h
-row_within area (seen.Refused a) h = refl
+row_within area (Ok None) h = refl
+row_within area (Ok (Some p)) h = part-within area p.at p.len h
+row_within area (Err r) h = refl
 
 primary-within : (area : Bytes) (p : LockSeen) → PointedBelow (length area) p → primary_part area p ≡ primary_shown (pointed_in area p)
-primary-within area pointed.Nothing h = refl
-primary-within area (pointed.Lock i) h = part-within area i.at i.len h
-primary-within area (pointed.Refused a) h = refl
+primary-within area (Ok None) h = refl
+primary-within area (Ok (Some i)) h = part-within area i.primary.at i.primary.len h
+primary-within area (Err r) h = refl
 
 -- what `row_of` and `primary_of` hand back
-row-placed : (area : Bytes) (s : RowSeen) → part_of area (row_place s).at (row_place s).len ≡ row_part area s
-row-placed area seen.Nothing = part-within area 0 0 (omega arith)
-row-placed area (seen.Row at len) = refl
-row-placed area (seen.Refused a) = part-within area 0 0 (omega arith)
+pub row-part : (area : Bytes) (s : RowSeen) {part : Bytes} → part ≡ row_part area s → RowPart area s part
+row-part area s w = record { is = w; row = λ h. w ∙ row_within area s h }
 
-primary-placed : (area : Bytes) (p : LockSeen) → part_of area (primary_place p).at (primary_place p).len ≡ primary_part area p
-primary-placed area pointed.Nothing = part-within area 0 0 (omega arith)
-primary-placed area (pointed.Lock i) = refl
-primary-placed area (pointed.Refused a) = part-within area 0 0 (omega arith)
-
-pub row-part : (area : Bytes) (s : RowSeen) {p : Place} {part : Bytes} → p ≡ row_place s → part ≡ part_of area p.at p.len → RowPart area s part
-row-part area s e q = let w = q ∙ ap (λ (p : Place). part_of area p.at p.len) e ∙ row-placed area s in record { is = w; row = λ h. w ∙ row_within area s h }
-
-pub primary-part : (area : Bytes) (s : LockSeen) {p : Place} {part : Bytes} → p ≡ primary_place s → part ≡ part_of area p.at p.len → PrimaryPart area s part
-primary-part area s e q = let w = q ∙ ap (λ (p : Place). part_of area p.at p.len) e ∙ primary-placed area s in record { is = w; primary = λ h. w ∙ primary-within area s h }
+pub primary-part : (area : Bytes) (s : LockSeen) {part : Bytes} → part ≡ primary_part area s → PrimaryPart area s part
+primary-part area s w = record { is = w; primary = λ h. w ∙ primary-within area s h }
 
 -- "A read's row is handed back as that stretch of the store's own bytes": the part of what `read` answered is the row that the definition shows
 module _ {want : Reply Row} {area part : Bytes} {s : RowSeen} where

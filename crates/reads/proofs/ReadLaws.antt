@@ -1,6 +1,7 @@
 -- A read of a store whose records are sound and whose rows are in form: the newest record that is no Rollback tells all, and the count is one
 -- more than the Rollbacks passed over.
 -- Assumes nothing.
+use Rattle.std.specs.Prelude.{Option as CodeOption, None, Some, Result, Ok, Err}
 use Prim.Native.Nat.{ℕ, suc, ◌≤◌, ◌<◌}
 use native.Mathlib.Omega.{arith}
 use native.Mathlib.Numerals.{add-one}
@@ -14,13 +15,10 @@ use borrow.Author.Tests.{lt-ltb, le-ltb, lt-leb}
 use Rattle.forms.specs.Bytes.{Bytes, bytes_at}
 use Rattle.forms.specs.Key.{Key, key_form}
 use Rattle.forms.specs.Row.{Row}
-use Rattle.rules.specs.declared.answers.Answer.{Answer}
-use Rattle.rules.specs.declared.answers.Answer.TheVariants.{Accepted, No, Held}
-use Rattle.rules.specs.declared.answers.Holder.{Holder}
+use Rattle.rules.specs.Answers.{Answer, Accepted, No, Held, Holder, ◌▸◌, need, need_own, Reply, nothing, answer_of, if_passed, count_if}
 use Rattle.rules.specs.declared.records.Kind.{Kind}
 use Rattle.rules.specs.declared.records.Kind.TheVariants.{Put, Delete, Rollback}
 use Rattle.rules.specs.declared.records.Record.{Record}
-use Rattle.rules.specs.Answers.{◌▸◌, need, need_own, Reply, nothing, answer_of, if_passed, count_if}
 use Rattle.rules.specs.Box as box
 use Rattle.rules.specs.Calls.{found_if}
 use Rattle.rules.specs.Sound.{sound_record, all_sound}
@@ -29,35 +27,34 @@ use Rattle.rules.proofs.FloorLaws.{steps-above, read-on-0}
 use Rattle.laws.proofs.StepLaws.{answered, and_left, and_right, and_both}
 use Rattle.store.specs.declared.table.Store.{Store}
 use Rattle.store.specs.declared.views.LockView.{LockView}
-use Rattle.lookups.specs.declared.lookup.Found.{Found}
-use Rattle.lookups.specs.declared.lookup.Found.TheVariants.{Nothing, Is}
-use Rattle.lookups.specs.declared.lookup.Locked.{Locked}
-use Rattle.lookups.specs.declared.lookup.Locked.TheVariants.{Nobody, By}
 use Rattle.lookups.specs.declared.lookup.KeyState.{KeyState}
 use Rattle.store.specs.View.{row_if, box_of}
 use Rattle.store.specs.Made.{Built}
 use Rattle.store.specs.Views.{lock_in}
-use Rattle.lookups.specs.KeyStates.{said, locked_by, not_rolled, examined_if, examined_in, FoundThere, KeyStateAt}
-use Rattle.reads.specs.declared.seen.RowSeen.{RowSeen}
-use Rattle.reads.specs.declared.seen.RowSeen.TheVariants as seen
+use Rattle.lookups.specs.KeyStates.{Found, Locked, said, locked_by, not_rolled, examined_if, examined_in, FoundThere, KeyStateAt}
 use Rattle.reads.specs.declared.seen.Reading.{Reading}
-use Rattle.reads.specs.Seen.{seen_in, SeenBelow, ReadAs, unread, newest_seen}
+use Rattle.rules.specs.declared.answers.Refusal.{Refusal}
+use Rattle.rules.specs.declared.answers.Refusal.TheVariants.{KeyForm, BelowFloor}
+use Rattle.rules.specs.Outcomes.{refusal, outcome}
+use Rattle.rules.proofs.OutcomeLaws.{refusal-count, refusal-reply}
+use Rattle.forms.specs.declared.part.Part.{Part}
+use Rattle.reads.specs.Seen.{RowSeen, seen_in, SeenBelow, ReadAs, unread, newest_seen}
 use Rattle.store.proofs.KeySoundLaws.{sound-records, row-shown}
 
 -- ---- "lock with start at or below the moment, 7"
 
 module _ (m : ℕ) (lock : Locked) where
-  pub lets-nobody : lock ≡ Nobody → (area : Bytes) → Accepted ≡ lock_lets m (locked_by area lock)
+  pub lets-nobody : lock ≡ None → (area : Bytes) → Accepted ≡ lock_lets m (locked_by area lock)
   unfolding lock_lets
   lets-nobody e area = rw e
 
-  pub lets-above : {i : LockView} → lock ≡ By i → m < i.start → (area : Bytes) → Accepted ≡ lock_lets m (locked_by area lock)
+  pub lets-above : {i : LockView} → lock ≡ Some i → m < i.start → (area : Bytes) → Accepted ≡ lock_lets m (locked_by area lock)
   unfolding lock_lets need_own
   lets-above {i} e h area = rw (e, lt-ltb m i.start h)
 
-  pub lets-held : {i : LockView} {a : Answer} → lock ≡ By i → i.start ≤ m → ((area : Bytes) → a ≡ Held (box.holder_of (lock_in area i))) → (area : Bytes) → a ≡ lock_lets m (locked_by area lock)
+  pub lets-held : {i : LockView} (r : Refusal) → lock ≡ Some i → i.start ≤ m → ((area : Bytes) → refusal r ≡ Held (box.holder_of (lock_in area i))) → (area : Bytes) → refusal r ≡ lock_lets m (locked_by area lock)
   unfolding lock_lets need_own
-  lets-held {i} e h held area = held area ∙ rw (e, le-ltb m i.start h)
+  lets-held {i} r e h held area = held area ∙ rw (e, le-ltb m i.start h)
 
 -- ---- the walk
 
@@ -136,55 +133,47 @@ module _ (floor : ℕ) (k : Key) (m : ℕ) (b : box.Box) where
   unfolding examine
   count_is e = ap (λ (a : Answer). count_if a (walk k b.defaults (newest_first m (box.records_of k b.lines))).count) (sym e)
 
-  refused-no : (area : Bytes) {n : ℕ} {r : Reading} → read_steps floor k m b ≡ No n → r ≡ unread (No n) → ReadAs (examine floor k m b) area r
-  unfolding if_passed count_if
-  refused-no area e q = subst (ReadAs (examine floor k m b) area) (sym q) (read_as (reply-is e) tt (count_is e))
+  refused-by : (area : Bytes) {w : Refusal} {r : Reading} → read_steps floor k m b ≡ refusal w → r ≡ unread w → ReadAs (examine floor k m b) area r
+  refused-by area {w} e q = subst (ReadAs (examine floor k m b) area) (sym q) (read_as (sym (refusal-reply w _) ∙ reply-is e) tt (sym (refusal-count w _) ∙ count_is e))
 
-  refused-held : (area : Bytes) {h : Holder} {r : Reading} → read_steps floor k m b ≡ Held h → r ≡ unread (Held h) → ReadAs (examine floor k m b) area r
-  unfolding if_passed count_if
-  refused-held area e q = subst (ReadAs (examine floor k m b) area) (sym q) (read_as (reply-is e) tt (count_is e))
-
-  pub read-invalid : (area : Bytes) {r : Reading} → key_form k ≡ false → r ≡ unread (No 1) → ReadAs (examine floor k m b) area r
+  pub read-invalid : (area : Bytes) {r : Reading} → key_form k ≡ false → r ≡ unread KeyForm → ReadAs (examine floor k m b) area r
   unfolding read_steps need ◌▸◌
-  read-invalid area h q = refused-no area (rw h) q
+  read-invalid area h q = refused-by area (rw h) q
 
   -- "14, below the floor, for a read .. moment below F (in a read after 1 ..)"
-  pub read_below : (area : Bytes) {r : Reading} → key_form k ≡ true → m < floor → r ≡ unread (No 14) → ReadAs (examine floor k m b) area r
+  pub read_below : (area : Bytes) {r : Reading} → key_form k ≡ true → m < floor → r ≡ unread BelowFloor → ReadAs (examine floor k m b) area r
   unfolding read_steps need ◌▸◌
-  read_below area form h q = refused-no area (rw (form, lt-leb floor m h)) q
+  read_below area form h q = refused-by area (rw (form, lt-leb floor m h)) q
 
-module _ {st : Store} {area k : Bytes} {start m : ℕ} {found : KeyState} (b : Built st area) (form : key_form k ≡ true) (above : st.floor ≤ m) (f : KeyStateAt st area k start m found) {lets : Answer} (l : (area : Bytes) → lets ≡ lock_lets m (locked_by area found.lock)) where
+module _ {st : Store} {area k : Bytes} {start m : ℕ} {found : KeyState} (b : Built st area) (form : key_form k ≡ true) (above : st.floor ≤ m) (f : KeyStateAt st area k start m found) (lets : Result (Unit {0}) Refusal) (l : (area : Bytes) → outcome lets ≡ lock_lets m (locked_by area found.lock)) where
   abbrev ds : List box.Default
   ds = (box_of st area).defaults
 
   abbrev ws : List Record
   ws = box.records_of k (box_of st area).lines
 
-  steps : {a : Answer} → lets ≡ a → read_steps st.floor k m (box_of st area) ≡ a
+  steps : {a : Answer} → outcome lets ≡ a → read_steps st.floor k m (box_of st area) ≡ a
   unfolding need ◌▸◌
   steps {a} e = steps-above st.floor k m (box_of st area) above ∙ rw (form, ← f.lock_is, ← l area, e)
 
-  pub read_no : {n : ℕ} {r : Reading} → lets ≡ No n → r ≡ unread (No n) → ReadAs (examine st.floor k m (box_of st area)) area r
-  read_no e q = refused-no st.floor k m (box_of st area) area (steps e) q
-
-  pub read_held : {h : Holder} {r : Reading} → lets ≡ Held h → r ≡ unread (Held h) → ReadAs (examine st.floor k m (box_of st area)) area r
-  read_held e q = refused-held st.floor k m (box_of st area) area (steps e) q
+  pub read_refused : {w : Refusal} {r : Reading} → lets ≡ Err w → r ≡ unread w → ReadAs (examine st.floor k m (box_of st area)) area r
+  read_refused e q = refused-by st.floor k m (box_of st area) area (steps (ap outcome e)) q
 
   -- what the newest record that counts shows, with its row
-  newest-is : (n : Found) → FoundThere st.top area ds k n → seen_in area (newest_seen n) ≡ show_newest k ds (said n)
-  newest-is Nothing r = refl
-  newest-is (Is w) r = go w.kind refl
+  newest-is : (n : Found) → FoundThere st.top area ds k n → seen_in area (Ok (newest_seen n)) ≡ show_newest k ds (said n)
+  newest-is None r = refl
+  newest-is (Some w) r = go w.kind refl
     where
-      go : (a : Kind) → w.kind ≡ a → seen_in area (newest_seen (Is w)) ≡ by_kind a (show_row (box.row_of k w.start ds))
+      go : (a : Kind) → w.kind ≡ a → seen_in area (Ok (newest_seen (Some w))) ≡ by_kind a (show_row (box.row_of k w.start ds))
       go Put e = rw e (sym (row-shown k w.start ds _ b.kept.rows (r.is ∙ ap (λ (a : Kind). row_if a (bytes_at area w.rowat w.rowlen)) e)))
       go Delete e = rw e
       go Rollback e = rw e
 
-  newest-in : (n : Found) → FoundThere st.top area ds k n → SeenBelow (length area) (newest_seen n)
-  newest-in Nothing r = tt
-  newest-in (Is w) r = go w.kind refl
+  newest-in : (n : Found) → FoundThere st.top area ds k n → SeenBelow (length area) (Ok (newest_seen n))
+  newest-in None r = tt
+  newest-in (Some w) r = go w.kind refl
     where
-      go : (a : Kind) → w.kind ≡ a → SeenBelow (length area) (newest_seen (Is w))
+      go : (a : Kind) → w.kind ≡ a → SeenBelow (length area) (Ok (newest_seen (Some w)))
       go Put e = rw e (omega (arith, r.within, b.top_in, b.area_long))
       go Delete e = rw e tt
       go Rollback e = rw e tt
@@ -192,10 +181,10 @@ module _ {st : Store} {area k : Bytes} {start m : ℕ} {found : KeyState} (b : B
   sound-by : all_sound (newest_first m ws) ≡ true
   sound-by = sound-newest m ws (sound-records k (box_of st area).lines b.kept.good)
 
-  pub read-newest : {s : RowSeen} → lets ≡ Accepted → s ≡ newest_seen found.history.visible → ReadAs (examine st.floor k m (box_of st area)) area (record { seen = s; count = found.history.examined })
+  pub read-newest : {s : CodeOption Part} → outcome lets ≡ Accepted → s ≡ newest_seen found.history.visible → ReadAs (examine st.floor k m (box_of st area)) area (record { seen = Ok s; count = found.history.examined })
   unfolding if_passed count_if
   read-newest e q =
-      subst (λ (s : RowSeen). ReadAs (examine st.floor k m (box_of st area)) area (record { seen = s; count = found.history.examined })) (sym q)
+      subst (λ (s : CodeOption Part). ReadAs (examine st.floor k m (box_of st area)) area (record { seen = Ok s; count = found.history.examined })) (sym q)
       (read_as
       (newest-is found.history.visible f.history.visible_row ∙ ap (show_newest k ds) f.history.visible ∙ walk-newest k ds (newest_first m ws) sound-by ∙ reply-is st.floor k m (box_of st area) (steps e))
       (newest-in found.history.visible f.history.visible_row)

@@ -13,9 +13,8 @@ use Rattle.rules.proofs.ShownRows.{shown-rows}
 use Rattle.store.specs.View.{box_of}
 use Rattle.store.specs.Made.{Made}
 use Rattle.store.specs.declared.table.Store.{Store}
-use Rattle.reads.specs.declared.seen.RowSeen.{RowSeen}
-use Rattle.reads.specs.declared.seen.RowSeen.TheVariants as seen
-use Rattle.reads.specs.Seen.{seen_in}
+use Rattle.std.specs.Prelude.{Some, None, Ok, Err}
+use Rattle.reads.specs.Seen.{RowSeen, seen_in}
 use Rattle.reads.specs.Shown.{AskedOf, ShowsRow, RowsSeen}
 use Rattle.reads.proofs.PartLaws.{shows-part}
 
@@ -24,9 +23,9 @@ asked store area key m made a = record { above = a.above; valid = a.valid; sound
 
 -- an answer whose reply shows a row is a row
 is_row : (area : Bytes) (s : RowSeen) (part row : Bytes) → seen_in area s ≡ shown row → part ≡ row → ShowsRow s part row
-is_row area seen.Nothing part row e p = absurd (true≢false (cc))
-is_row area (seen.Row at len) part row e p = record { at = at; len = len; answers = refl; hands = p }
-is_row area (seen.Refused a) part row e p = absurd (true≢false (cc))
+is_row area (Ok None) part row e p = absurd (true≢false (cc))
+is_row area (Ok (Some q)) part row e p = record { place = q; answers = refl; hands = p }
+is_row area (Err w) part row e p = absurd (true≢false (cc))
 
 pub rows_seen : RowsSeen
 unfolding read
@@ -37,7 +36,7 @@ rows_seen store area key m g part row made a r p = (out, into)
 
     shows : ShowsRow g.seen part row → Shows store.floor key m (box_of store area) row
     shows q =
-        let e : read store.floor key m (box_of store area) ≡ shown (bytes_at area q.at q.len) = sym r.seen_as.is ∙ ap (seen_in area) q.answers in
+        let e : read store.floor key m (box_of store area) ≡ shown (bytes_at area q.place.at q.place.len) = sym r.seen_as.is ∙ ap (seen_in area) q.answers in
         e ∙ ap shown (sym (shows-part r.seen_as p e) ∙ q.hands)
 
     out : ShowsRow g.seen part row → NewestPut key m (box_of store area) row

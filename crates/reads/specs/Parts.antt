@@ -1,18 +1,13 @@
 -- The part of the area that an answer shows, and that it is what the reply shows: "that stretch of the store's own bytes".
 -- Assumes nothing.
-use Rattle.std.specs.Prelude.{ℕ, ◌-◌, ◌≡◌, ◌&&◌, [], length, leb}
+use Rattle.std.specs.Prelude.{ℕ, ◌-◌, ◌≡◌, ◌&&◌, [], length, leb, Option, None, Some, Result, Ok, Err}
 use Rattle.forms.specs.Bytes.{Bytes, bytes_at}
 use Rattle.forms.specs.Key.{Key}
 use Rattle.forms.specs.Row.{Row}
 use Rattle.forms.specs.Ones.{or_empty}
 use Rattle.rules.specs.Answers.{Reply, nothing, shown, refused}
 use Rattle.rules.specs.Box.{Lock}
-use Rattle.reads.specs.declared.seen.RowSeen.{RowSeen}
-use Rattle.reads.specs.declared.seen.RowSeen.TheVariants as seen
-use Rattle.reads.specs.declared.seen.LockSeen.{LockSeen}
-use Rattle.reads.specs.declared.seen.LockSeen.TheVariants as pointed
-use Rattle.reads.specs.declared.parts.Place.{Place}
-use Rattle.reads.specs.Seen.{seen_in, SeenBelow, pointed_in, PointedBelow}
+use Rattle.reads.specs.Seen.{RowSeen, LockSeen, seen_in, SeenBelow, pointed_in, PointedBelow}
 
 -- the stretch of the area, where it lies in it
 abbrev pub part_of : Bytes → ℕ → ℕ → Bytes
@@ -26,16 +21,10 @@ row_shown nothing = []
 row_shown (shown r) = r
 row_shown (refused a) = []
 
--- where it lies; nothing shown is nothing long
-abbrev pub row_place : RowSeen → Place
-row_place seen.Nothing = record { at = 0; len = 0 }
-row_place (seen.Row at len) = record { at = at; len = len }
-row_place (seen.Refused a) = record { at = 0; len = 0 }
-
 abbrev pub row_part : Bytes → RowSeen → Bytes
-row_part area seen.Nothing = []
-row_part area (seen.Row at len) = part_of area at len
-row_part area (seen.Refused a) = []
+row_part area (Ok None) = []
+row_part area (Ok (Some p)) = part_of area p.at p.len
+row_part area (Err r) = []
 
 -- the part of any answer, and of one that lies in the area its reply's row
 pub record RowPart (area : Bytes) (s : RowSeen) (part : Bytes) : Type 0 where
@@ -50,15 +39,10 @@ primary_shown nothing = []
 primary_shown (shown l) = l.primary
 primary_shown (refused a) = []
 
-abbrev pub primary_place : LockSeen → Place
-primary_place pointed.Nothing = record { at = 0; len = 0 }
-primary_place (pointed.Lock i) = record { at = i.at; len = i.len }
-primary_place (pointed.Refused a) = record { at = 0; len = 0 }
-
 abbrev pub primary_part : Bytes → LockSeen → Bytes
-primary_part area pointed.Nothing = []
-primary_part area (pointed.Lock i) = part_of area i.at i.len
-primary_part area (pointed.Refused a) = []
+primary_part area (Ok None) = []
+primary_part area (Ok (Some i)) = part_of area i.primary.at i.primary.len
+primary_part area (Err r) = []
 
 pub record PrimaryPart (area : Bytes) (p : LockSeen) (part : Bytes) : Type 0 where
   pub is : part ≡ primary_part area p

@@ -1,43 +1,41 @@
 -- The paper's replies of what a read and an intent at a point answer in numbers, and the promises of the two.
 -- Assumes nothing.
-use Rattle.std.specs.Prelude.{ℕ, ◌+◌, ◌≤◌, ◌≡◌, true, length}
+use Rattle.std.specs.Prelude.{ℕ, ◌+◌, ◌≤◌, ◌≡◌, true, length, Option, None, Some, Result, Ok, Err}
 use Rattle.forms.specs.Bytes.{Bytes, bytes_at}
 use Rattle.forms.specs.Key.{key_form}
 use Rattle.forms.specs.Row.{Row}
-use Rattle.rules.specs.declared.answers.Answer.{Answer}
+use Rattle.rules.specs.Answers.{Answer, Answered, Reply, nothing, shown, refused, answer_of}
 use Rattle.rules.specs.declared.records.Kind.{Kind}
 use Rattle.rules.specs.declared.records.Kind.TheVariants.{Put, Delete, Rollback}
-use Rattle.rules.specs.Answers.{Answered, Reply, nothing, shown, refused, answer_of}
+use Rattle.rules.specs.declared.answers.Refusal.{Refusal}
+use Rattle.rules.specs.Outcomes.{refusal}
 use Rattle.rules.specs.Box.{Lock}
+use Rattle.forms.specs.declared.part.Part.{Part}
 use Rattle.rules.specs.Read.{Examined, examine}
 use Rattle.rules.specs.Intent.{intent_at}
 use Rattle.store.specs.declared.table.Store.{Store}
 use Rattle.store.specs.View.{box_of}
 use Rattle.store.specs.Made.{Built}
-use Rattle.lookups.specs.declared.lookup.Found.{Found}
-use Rattle.lookups.specs.declared.lookup.Found.TheVariants.{Nothing, Is}
-use Rattle.lookups.specs.declared.lookup.Locked.{Locked}
 use Rattle.lookups.specs.declared.lookup.KeyState.{KeyState}
-use Rattle.lookups.specs.KeyStates.{KeyStateAt}
-use Rattle.reads.specs.declared.seen.RowSeen.{RowSeen}
-use Rattle.reads.specs.declared.seen.RowSeen.TheVariants as seen
+use Rattle.lookups.specs.KeyStates.{Found, Locked, KeyStateAt}
 use Rattle.reads.specs.declared.seen.Reading.{Reading}
 use Rattle.reads.specs.declared.seen.ShownLock.{ShownLock}
-use Rattle.reads.specs.declared.seen.LockSeen.{LockSeen}
-use Rattle.reads.specs.declared.seen.LockSeen.TheVariants as pointed
 
 -- ---- a read
 
+abbrev pub RowSeen : Type 0
+RowSeen = Result (Option Part) Refusal
+
 abbrev pub seen_in : Bytes → RowSeen → Reply Row
-seen_in area seen.Nothing = nothing
-seen_in area (seen.Row at len) = shown (bytes_at area at len)
-seen_in area (seen.Refused a) = refused a
+seen_in area (Ok None) = nothing
+seen_in area (Ok (Some p)) = shown (bytes_at area p.at p.len)
+seen_in area (Err r) = refused (refusal r)
 
 -- what is shown ends by n
 abbrev pub SeenBelow : ℕ → RowSeen → Type 0
-SeenBelow n seen.Nothing = Unit {0}
-SeenBelow n (seen.Row at len) = at + len ≤ n
-SeenBelow n (seen.Refused a) = Unit {0}
+SeenBelow n (Ok None) = Unit {0}
+SeenBelow n (Ok (Some p)) = p.at + p.len ≤ n
+SeenBelow n (Err r) = Unit {0}
 
 -- an answer is this reply, with its number and holder, and what it shows lies in the area
 pub record SeenAs (want : Reply Row) (area : Bytes) (r : RowSeen) : Type 0 where
@@ -56,34 +54,37 @@ ReadBy found m r =
     (st : Store) (area k : Bytes) → Built st area → key_form k ≡ true → st.floor ≤ m → KeyStateAt st area k 0 m found → ReadAs (examine st.floor k m (box_of st area)) area r
 
 -- a refusal before the first record: "Other refusals still count 0"
-abbrev pub unread : Answer → Reading
-unread a = record { seen = seen.Refused a; count = 0 }
+abbrev pub unread : Refusal → Reading
+unread r = record { seen = Err r; count = 0 }
 
 -- what the newest record that counts shows
-abbrev pub if_put : Kind → RowSeen → RowSeen
-if_put Put s = s
-if_put Delete s = seen.Nothing
-if_put Rollback s = seen.Nothing
+abbrev pub if_put : Kind → Part → Option Part
+if_put Put p = Some p
+if_put Delete p = None
+if_put Rollback p = None
 
-abbrev pub newest_seen : Found → RowSeen
-newest_seen Nothing = seen.Nothing
-newest_seen (Is w) = if_put w.kind (seen.Row w.rowat w.rowlen)
+abbrev pub newest_seen : Found → Option Part
+newest_seen None = None
+newest_seen (Some w) = if_put w.kind (record { at = w.rowat; len = w.rowlen })
 
 -- ---- an intent at a point
 
+abbrev pub LockSeen : Type 0
+LockSeen = Result (Option ShownLock) Refusal
+
 abbrev pub shown_lock : Bytes → ShownLock → Lock
-shown_lock area s = record { txn = s.txn; primary = bytes_at area s.at s.len; start = s.start; ttl = s.ttl; kind = s.kind }
+shown_lock area s = record { txn = s.txn; primary = bytes_at area s.primary.at s.primary.len; start = s.start; ttl = s.ttl; kind = s.kind }
 
 abbrev pub pointed_in : Bytes → LockSeen → Reply Lock
-pointed_in area pointed.Nothing = nothing
-pointed_in area (pointed.Lock s) = shown (shown_lock area s)
-pointed_in area (pointed.Refused a) = refused a
+pointed_in area (Ok None) = nothing
+pointed_in area (Ok (Some s)) = shown (shown_lock area s)
+pointed_in area (Err r) = refused (refusal r)
 
 -- the primary of what is shown ends by n
 abbrev pub PointedBelow : ℕ → LockSeen → Type 0
-PointedBelow n pointed.Nothing = Unit {0}
-PointedBelow n (pointed.Lock s) = s.at + s.len ≤ n
-PointedBelow n (pointed.Refused a) = Unit {0}
+PointedBelow n (Ok None) = Unit {0}
+PointedBelow n (Ok (Some s)) = s.primary.at + s.primary.len ≤ n
+PointedBelow n (Err r) = Unit {0}
 
 -- an answer is this reply, with its number and holder, and the primary that it shows lies in the area
 pub record PointedAs (want : Reply Lock) (area : Bytes) (r : LockSeen) : Type 0 where

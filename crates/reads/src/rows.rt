@@ -4,58 +4,49 @@
 // after 1 ..)".
 ghost use Rattle.std.specs.Prelude.{◌≡◌};
 ghost use Rattle.forms.specs.Bytes.{Bytes};
+ghost use Rattle.rules.specs.Outcomes.{outcome};
 ghost use Rattle.rules.specs.Read.{lock_lets, examine};
 ghost use Rattle.store.specs.View.{box_of};
 ghost use Rattle.store.specs.Made.{Made};
 ghost use Rattle.lookups.specs.KeyStates.{locked_by};
 ghost use Rattle.reads.specs.Seen.{newest_seen, unread, ReadAs, ReadBy};
 
-use crate::seen::{Reading, RowSeen};
-use lookups::{Found, KeyState, Locked};
-use rules::{Answer, Kind};
-use store::{AREA, Store};
+use crate::seen::Reading;
+use forms::Part;
+use lookups::KeyState;
+use rules::{Kind, Refusal};
+use store::{AREA, LockView, RecordView, Store};
 
 // "lock with start at or below the moment, 7"
-pub fn lock_lets(lock: Locked, moment: u64) -> Answer
-    ensures { (area : Bytes) → result ≡ lock_lets moment (locked_by area lock) }
+pub fn lock_lets(lock: Option<LockView>, moment: u64) -> Result<(), Refusal>
+    ensures { (area : Bytes) → outcome result ≡ lock_lets moment (locked_by area lock) }
 {
     match lock {
-        Locked::Nobody => Answer::Accepted,
-        Locked::By(l) => {
-            if moment < l.start {
-                return Answer::Accepted;
-            }
-            store::held_by(l)
-        }
+        Some(l) if l.start <= moment => Err(store::held_by(l)),
+        _ => Ok(()),
     }
 }
 
 // What the newest record that counts shows.
-fn newest_row(newest: Found) -> RowSeen
+fn newest_row(newest: Option<RecordView>) -> Option<Part>
     ensures { result ≡ newest_seen newest }
 {
-    match newest {
-        Found::Nothing => RowSeen::Nothing,
-        Found::Is(w) => {
-            let kind = w.kind;
-            match kind {
-                Kind::Put => RowSeen::Row {
-                    at: w.rowat,
-                    len: w.rowlen,
-                },
-                Kind::Delete => RowSeen::Nothing,
-                Kind::Rollback => RowSeen::Nothing,
-            }
-        }
+    let w = newest?;
+    match w.kind {
+        Kind::Put => Some(Part {
+            at: w.rowat,
+            len: w.rowlen,
+        }),
+        Kind::Delete | Kind::Rollback => None,
     }
 }
 
 // "Other refusals still count 0"
-fn refusal(answer: Answer) -> Reading
-    ensures { result ≡ unread answer }
+fn refusal(why: Refusal) -> Reading
+    ensures { result ≡ unread why }
 {
     Reading {
-        seen: RowSeen::Refused(answer),
+        seen: Err(why),
         count: 0,
     }
 }
@@ -64,34 +55,25 @@ fn refusal(answer: Answer) -> Reading
 fn read_found(found: KeyState, moment: u64) -> Reading
     ensures { ReadBy found moment result }
 {
-    let lock = found.lock;
-    match lock_lets(lock, moment) {
-        Answer::Accepted => {
-            let history = found.history;
-            let newest = history.visible;
-            let seen = newest_row(newest);
-            Reading {
-                seen: seen,
-                count: history.examined,
-            }
-        }
-        Answer::No(n) => refusal(Answer::No(n)),
-        Answer::Held(h) => refusal(Answer::Held(h)),
+    if let Err(why) = lock_lets(found.lock, moment) {
+        return refusal(why);
+    }
+    let row = newest_row(found.history.visible);
+    Reading {
+        seen: Ok(row),
+        count: found.history.examined,
     }
 }
 
-pub fn read(store: Store, area: &[u8; AREA], key: &[u8], moment: u64) -> Reading
-    requires { Made store area.now }
-    ensures { ReadAs (examine store.floor key.now moment (box_of store area.now)) area.now result }
+pub fn read(store: &Store, area: &[u8; AREA], key: &[u8], moment: u64) -> Reading
+    requires { Made store.now area.now }
+    ensures { ReadAs (examine store.now.floor key.now moment (box_of store.now area.now)) area.now result }
 {
     if !forms::key_in_form(key) {
-        return refusal(Answer::No(1));
+        return refusal(Refusal::KeyForm);
     }
     if moment < store.floor {
-        return refusal(Answer::No(14));
+        return refusal(Refusal::BelowFloor);
     }
-    let lines = store.lines;
-    let load = store.load;
-    let found = lookups::look_up(lines, load, store.top, area, key, 0, moment);
-    read_found(found, moment)
+    read_found(lookups::look_up(store, area, key, 0, moment), moment)
 }

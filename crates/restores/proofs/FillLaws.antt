@@ -4,13 +4,10 @@ use Prim.Native.Nat.{ℕ, suc, ◌+◌, ◌-◌, ◌≤◌, ◌<◌, min}
 use native.Mathlib.Omega.{arith}
 use native.Mathlib.Numerals.{add-one}
 use mathlib.Core.Path.{◌≡◌, refl, sym, ap, ap₂, ◌∙◌, subst}
-use mathlib.Core.Bool.{Bool, true, false}
 use mathlib.Core.List.{List, [], ◌∷◌, ◌++◌, map}
 use mathlib.Core.Option.{Option}
 use lib.ListN.{length, get_or, take, drop, set, replicate, length-set, length-map, length-replicate, get_or-map, take-append-drop, replicate-append-replicate, drop_of_length-le}
 use lib.Seq.{length-take-le, get_or-take, take_all, take-suc, drop-cons, drop-drop, drop_at, drop-set-lt, set_at, append_snoc, take-suc-set}
-use lib.Dec.{ltb}
-use borrow.Author.Tests.{ltb-true, ltb-false}
 use Rattle.seqs.specs.Tables.{Table, shown}
 use Rattle.seqs.proofs.Tables.{table_empty, table-wider, table-added, shown-same, shown-added}
 use Rattle.forms.specs.Bytes.{Bytes}
@@ -21,7 +18,7 @@ use Rattle.store.specs.View.{no_slot}
 use Rattle.store.specs.Made.{SlotBelow}
 use Rattle.changes.specs.Writes.{Past}
 use Rattle.changes.proofs.StretchLaws.{slot_kept, default-kept}
-use Rattle.restores.specs.Fills.{Laid, laid_in, size_of, Comes, ComesIf}
+use Rattle.restores.specs.Fills.{Laid, laid_in, size_of, Comes, Stays}
 
 -- ---- the first k slots, and empty ones after them
 
@@ -150,11 +147,11 @@ module _ {at : ℕ → Laid} {places : List ℕ} {n : ℕ} (w : LineView at plac
   unfolding sum_of
   told-past {k} l = let m : length (entries at places n) ≤ k + 1 = omega (arith, told-long) in ap (sum_of size_of) (drop_of_length-le (entries at places n) m)
 
-  pub half-comes : {old t : List Slot} {k top : ℕ} {area : Bytes} → Half old (entries at places n) k top area t → k < 1024 → (b : Bool) → ltb k n ≡ b → (x : Slot) (end : ℕ) (area' : Bytes)
-      → ComesIf b (at (get_or places k 0)) area top x end area' → Half old (entries at places n) (k + 1) end area' (set t k x)
-  half-comes {k = k} {top = top} {area = area} h l true e x end area' c =
-      let g : k < n = ltb-true k n e in
-      half-more h l (omega (arith, told-long)) (at 0) (subst (λ (y : Laid). Comes y area top x end area') (sym (told_at g)) c)
-  half-comes {old} {t} {k} {top} {area} h l false e x end area' c =
-      let g : n ≤ k = ltb-false k n e in
+  pub half-line : {old t : List Slot} {k top : ℕ} {area : Bytes} → Half old (entries at places n) k top area t → k < 1024 → k < n → (x : Slot) (end : ℕ) (area' : Bytes)
+      → Comes (at (get_or places k 0)) area top x end area' → Half old (entries at places n) (k + 1) end area' (set t k x)
+  half-line {k = k} {top = top} {area = area} h l g x end area' c = half-more h l (omega (arith, told-long)) (at 0) (subst (λ (y : Laid). Comes y area top x end area') (sym (told_at g)) c)
+
+  pub half-none : {old t : List Slot} {k top : ℕ} {area : Bytes} → Half old (entries at places n) k top area t → k < 1024 → n ≤ k → (x : Slot) (end : ℕ) (area' : Bytes)
+      → Stays area top x end area' → Half old (entries at places n) (k + 1) end area' (set t k x)
+  half-none {old} {t} {k} {top} {area} h l g x end area' c =
       subst (λ (p : Slot × ℕ × Bytes). Half old (entries at places n) (k + 1) p.1 p.2 (set t k p.0)) (λ i. (sym c.none i, sym c.end_is i, sym c.area_is i)) (half-past h l (omega (arith, told-long)))

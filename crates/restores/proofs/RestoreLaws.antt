@@ -12,7 +12,11 @@ use lib.Dec.{ltb}
 use borrow.Author.Tests.{ltb-true, ltb-false}
 use Rattle.seqs.specs.Tables.{shown}
 use Rattle.forms.specs.Bytes.{Bytes}
-use Rattle.rules.specs.declared.answers.Answer.TheVariants.{Accepted}
+use Rattle.rules.specs.Answers.{Accepted}
+use Rattle.rules.specs.declared.answers.Refusal.{Refusal}
+use Rattle.rules.specs.Outcomes.{refusal}
+use Rattle.rules.proofs.OutcomeLaws.{refusal-not}
+use Rattle.std.specs.Prelude.{Option as Maybe}
 use Rattle.rules.specs.declared.room.Load.{Load}
 use Rattle.rules.specs.Box as box
 use Rattle.rules.specs.Room.{sum_of, load_of}
@@ -33,16 +37,16 @@ use Rattle.store.specs.View.{stored}
 use Rattle.store.specs.Made.{good_line, Made}
 use Rattle.changes.specs.Changes as changes
 use Rattle.changes.proofs.ChangeLaws.{shows-box}
-use Rattle.calls.specs.Settled.{is_accepted, Replaced}
-use Rattle.calls.proofs.SettledLaws.{is-accepted, is-refusal, untouched}
+use Rattle.calls.specs.Settled.{Replaced}
+use Rattle.calls.proofs.SettledLaws.{untouched}
 use Rattle.images.specs.Sections.{row_at, line_at, Placed}
 use Rattle.verdicts.specs.declared.outcome.ImageVerdict.{ImageVerdict}
-use Rattle.verdicts.specs.Verdicts.{Decided}
+use Rattle.verdicts.specs.Verdicts.{Accepts}
 use Rattle.pairs.proofs.EntryPairLaws.{line_has}
 use Rattle.orders.specs.Finds.{rows_at}
-use Rattle.restores.specs.Fills.{Laid, laid_in, laid, size_of, ComesIf, AsksIf}
+use Rattle.restores.specs.Fills.{Laid, laid_in, laid, size_of, here, ComesIf, AsksIf}
 use Rattle.restores.proofs.CarriedLaws.{image-good, image-has, image-stored, image-kept, sizes-need}
-use Rattle.restores.proofs.FillLaws.{Seen, Half, half-start, half-comes, half-end, entries, LineView, told-long, told-next, told-past}
+use Rattle.restores.proofs.FillLaws.{Seen, Half, half-start, half-line, half-none, half-end, entries, LineView, told-long, told-next, told-past}
 
 -- ---- the lines that two lists of places tell, each with its row
 
@@ -102,10 +106,10 @@ pub record Filling (s : Bytes) (load : Load) (floor writesat : ℕ) (rows places
   pub length_is : length area ≡ 131072
   pub left : top + sum_of size_of (drop k (lines_told s load writesat rows places)) + (load.lines - k) ≤ 68608
 
-pub filling-start : {s : Bytes} {v : ImageVerdict} {rows places : List ℕ} {old : Store} {area : Bytes} {t : Bool} {end : ℕ} → Decided s v rows places → t ≡ is_accepted v.answer → t ≡ true → Made old area
+pub filling-start : {s : Bytes} {v : ImageVerdict} {rows places : List ℕ} {old : Store} {area : Bytes} {end : ℕ} → Accepts s v rows places → Made old area
     → end ≡ max v.load.lines old.load.lines → Filling s v.load v.floor v.writesat rows places old end 0 0 area old
-filling-start {v = v} {old = old} {area = area} d e h m q =
-    let p = d.placed (is-accepted v.answer e (ap not h)) in
+filling-start {v = v} {old = old} {area = area} d m q =
+    let p = d.placed in
     record {
       placed = p;
       count_fits = omega (arith, p.fit.lines, m.fit.lines);
@@ -114,12 +118,11 @@ filling-start {v = v} {old = old} {area = area} d e h m q =
       left = omega (arith, room p, p.fit.lines);
     }
 
-module _ {s : Bytes} {load : Load} {floor writesat : ℕ} {rows places : List ℕ} {old st : Store} {end k top : ℕ} {area : Bytes} (f : Filling s load floor writesat rows places old end k top area st) where
-  pub rows_few : load.defaults ≤ length rows
-  unfolding load_of
-  rows_few = omega (arith, (load_fields f.placed.load_is).defaults, ap length f.placed.rows_are, length-map (take load.defaults rows) (row_at s), length-take load.defaults rows)
+pub lines_few : {s : Bytes} {load : Load} {floor writesat : ℕ} {rows places : List ℕ} → Placed s load floor writesat rows places → load.lines ≤ length places
+lines_few p = count_fits p
 
-  asks : (b : Bool) → ltb k load.lines ≡ b → AsksIf b (line_at s writesat (get_or places k 0)) (rows_told s load rows) area top
+module _ {s : Bytes} {load : Load} {floor writesat : ℕ} {rows places : List ℕ} {old st : Store} {end k top : ℕ} {area : Bytes} (f : Filling s load floor writesat rows places old end k top area st) where
+  asks : (b : Bool) → ltb k load.lines ≡ b → AsksIf (here b (get_or places k 0)) (line_at s writesat) (rows_told s load rows) area top
   asks true e =
       let p = f.placed in
       let l : k < load.lines = ltb-true k load.lines e in
@@ -132,19 +135,33 @@ module _ {s : Bytes} {load : Load} {floor writesat : ℕ} {rows places : List �
       }
   asks false e = tt
 
-  pub line-asks : AsksIf (ltb k load.lines) (line_at s writesat (get_or places k 0)) (rows_at s (take load.defaults rows)) area top
-  line-asks = asks (ltb k load.lines) refl
+  pub line-asks : {o : Maybe ℕ} → o ≡ here (ltb k load.lines) (get_or places k 0) → AsksIf o (line_at s writesat) (rows_at s (take load.defaults rows)) area top
+  line-asks e = subst (λ (o : Maybe ℕ). AsksIf o (line_at s writesat) (rows_at s (take load.defaults rows)) area top) (sym e) (asks (ltb k load.lines) refl)
 
-  left-next : (b : Bool) → ltb k load.lines ≡ b → (x : Slot) (on : ℕ) (area' : Bytes) → ComesIf b (laid (rows_told s load rows) (line_at s writesat (get_or places k 0))) area top x on area'
-      → (length area' ≡ 131072) × (on + sum_of size_of (drop (k + 1) (lines_told s load writesat rows places)) + (load.lines - (k + 1)) ≤ 68608)
-  left-next true e x on area' c = (c.past.length_is ∙ f.length_is, omega (arith, f.left, c.end_most, told-next (told f.placed) (ltb-true k load.lines e), ltb-true k load.lines e))
-  left-next false e x on area' c = (ap length c.area_is ∙ f.length_is, omega (arith, f.left, c.end_is, told-past (told f.placed) (ltb-false k load.lines e)))
-
-  pub filling-more : (x : Slot) (on : ℕ) (area' : Bytes) → ComesIf (ltb k load.lines) (laid (rows_at s (take load.defaults rows)) (line_at s writesat (get_or places k 0))) area top x on area' → k < end
+  filled-by : (b : Bool) → ltb k load.lines ≡ b → (x : Slot) (on : ℕ) (area' : Bytes) → ComesIf (here b (get_or places k 0)) (line_at s writesat) (rows_told s load rows) area top x on area' → k < end
       → Filling s load floor writesat rows places old end (k + 1) on area' (record { lines = set st.lines k x; load = st.load; top = st.top; floor = st.floor })
-  filling-more x on area' c g =
-      let n = left-next (ltb k load.lines) refl x on area' c in
-      record { placed = f.placed; count_fits = f.count_fits; half = half-comes (told f.placed) f.half (omega (arith, f.count_fits)) (ltb k load.lines) refl x on area' c; length_is = n.0; left = n.1 }
+  filled-by true e x on area' c g =
+      let l : k < load.lines = ltb-true k load.lines e in
+      record {
+        placed = f.placed;
+        count_fits = f.count_fits;
+        half = half-line (told f.placed) f.half (omega (arith, f.count_fits)) l x on area' c;
+        length_is = c.past.length_is ∙ f.length_is;
+        left = omega (arith, f.left, c.end_most, told-next (told f.placed) l, l);
+      }
+  filled-by false e x on area' c g =
+      let l : load.lines ≤ k = ltb-false k load.lines e in
+      record {
+        placed = f.placed;
+        count_fits = f.count_fits;
+        half = half-none (told f.placed) f.half (omega (arith, f.count_fits)) l x on area' c;
+        length_is = ap length c.area_is ∙ f.length_is;
+        left = omega (arith, f.left, c.end_is, told-past (told f.placed) l);
+      }
+
+  pub filling-more : {o : Maybe ℕ} → o ≡ here (ltb k load.lines) (get_or places k 0) → (x : Slot) (on : ℕ) (area' : Bytes) → ComesIf o (line_at s writesat) (rows_at s (take load.defaults rows)) area top x on area' → k < end
+      → Filling s load floor writesat rows places old end (k + 1) on area' (record { lines = set st.lines k x; load = st.load; top = st.top; floor = st.floor })
+  filling-more e x on area' c g = filled-by (ltb k load.lines) refl x on area' (subst (λ (o : Maybe ℕ). ComesIf o (line_at s writesat) (rows_at s (take load.defaults rows)) area top x on area') e c) g
 
   module _ {area₀ : Bytes} (m : Made old area₀) (e : end ≡ max load.lines old.load.lines) (g : end ≤ k) where
     seen : Seen top area load.lines st.lines (lines_told s load writesat rows places)
@@ -172,37 +189,34 @@ accepted-takes : (i : Image) (st : State) → (restore_to (some i) st).answer �
 unfolding restore_to
 accepted-takes i st a = settle_state-new (state_of i) st (sym (settle_state-answer (restore_steps i) (state_of i) st) ∙ a)
 
-module _ {s : Bytes} {v : ImageVerdict} {rows places : List ℕ} {st : Store} {area : Bytes} {t : Bool} (d : Decided s v rows places) (e : t ≡ is_accepted v.answer) (m : Made st area) where
+pub restore-refused : (s : Bytes) (r : Refusal) {st : Store} {area : Bytes} → ((x : State) → (restore s x).answer ≡ refusal r) → Made st area
+    → Replaced st area (restore s (view.state_shown st area)) (record { store = st; answer = refusal r }) area
+unfolding restore
+restore-refused s r {st} {area} d m =
+    let old = view.state_shown st area in
+    record { answer_is = answered (sym (d old)); made = m; shown = sym (refusal-leaves (image s) old (λ a. refusal-not r (sym (d old) ∙ a))); refused = λ _. untouched }
+
+module _ {s : Bytes} {v : ImageVerdict} {rows places : List ℕ} {st : Store} {area : Bytes} (d : Accepts s v rows places) (m : Made st area)
+    {end k top : ℕ} {area' : Bytes} {r : Store} (f : Filling s v.load v.floor v.writesat rows places st end k top area' r) (l : end ≡ max v.load.lines st.load.lines) (g : end ≤ k) where
   abbrev old : State
   old = view.state_shown st area
 
-  pub restore-refused : t ≡ false → Replaced st area (restore s (view.state_shown st area)) (record { store = st; answer = v.answer }) area
-  unfolding restore
-  restore-refused h =
-      let n = is-refusal v.answer e (ap not h) in
-      let q = d.answer_is old in
-      record { answer_is = answered q; made = m; shown = sym (refusal-leaves (image s) old (λ a. n (q ∙ a))); refused = λ _. untouched }
+  abbrev new : Store
+  new = record { lines = r.lines; load = v.load; top = top; floor = v.floor }
 
-  module _ (h : t ≡ true) {end k top : ℕ} {area' : Bytes} {r : Store} (f : Filling s v.load v.floor v.writesat rows places st end k top area' r) (l : end ≡ max v.load.lines st.load.lines) (g : end ≤ k) where
-    abbrev new : Store
-    new = record { lines = r.lines; load = v.load; top = top; floor = v.floor }
+  -- the image's box, and "a restored store taking the image's" floor
+  takes : view.state_shown new area' ≡ (restore s old).state
+  unfolding restore state_of
+  takes =
+      let p = f.placed in
+      let i : restore s old ≡ restore_to (some p.img) old = ap (λ (o : Option Image). restore_to o old) p.is in
+      ap₂ {C = State} (λ (b : box.Box) (n : ℕ). record { box = b; floor = n }) (filled f m l g).shown p.floor_is
+      ∙ sym (ap (λ (x : Ended). x.state) i ∙ accepted-takes p.img old (sym (ap (λ (x : Ended). x.answer) i) ∙ d.answer_is old))
 
-    accepts : v.answer ≡ Accepted
-    accepts = is-accepted v.answer e (ap not h)
-
-    -- the image's box, and "a restored store taking the image's" floor
-    takes : view.state_shown new area' ≡ (restore s old).state
-    unfolding restore state_of
-    takes =
-        let p = f.placed in
-        let i : restore s old ≡ restore_to (some p.img) old = ap (λ (o : Option Image). restore_to o old) p.is in
-        ap₂ {C = State} (λ (b : box.Box) (n : ℕ). record { box = b; floor = n }) (filled f m l g).shown p.floor_is
-        ∙ sym (ap (λ (x : Ended). x.state) i ∙ accepted-takes p.img old (sym (ap (λ (x : Ended). x.answer) i) ∙ sym (d.answer_is old) ∙ accepts))
-
-    pub restore-done : Replaced st area (restore s (view.state_shown st area)) (record { store = record { lines = r.lines; load = v.load; top = top; floor = v.floor }; answer = v.answer }) area'
-    restore-done = record {
-      answer_is = answered (d.answer_is old);
-      made = record { built = (filled f m l g).built; fit = f.placed.fit; above = subst (λ (x : State). LocksAbove x.floor x.box) (sym takes) (restore-above s old m.above) };
-      shown = takes;
-      refused = λ n. absurd (n accepts);
-    }
+  pub restore-done : Replaced st area (restore s (view.state_shown st area)) (record { store = record { lines = r.lines; load = v.load; top = top; floor = v.floor }; answer = Accepted }) area'
+  restore-done = record {
+    answer_is = answered (sym (d.answer_is old));
+    made = record { built = (filled f m l g).built; fit = f.placed.fit; above = subst (λ (x : State). LocksAbove x.floor x.box) (sym takes) (restore-above s old m.above) };
+    shown = takes;
+    refused = λ n. absurd (n refl);
+  }

@@ -1,6 +1,7 @@
 -- What filling a store with the lines of an image asks and leaves, a line at a time.
 -- Assumes nothing.
-use Rattle.std.specs.Prelude.{ℕ, ◌+◌, ◌≤◌, ◌≡◌, Bool, true, false, List, length}
+use Rattle.std.specs.Prelude.{ℕ, ◌+◌, ◌≤◌, ◌≡◌, Bool, true, false, List, length, Some, None}
+use Rattle.std.specs.Prelude.{Option as Maybe}
 use Rattle.std.proofs.Math.Option.{Option, none, some}
 use Rattle.forms.specs.Bytes.{Bytes}
 use Rattle.forms.specs.Key.{Key}
@@ -12,7 +13,8 @@ use Rattle.store.specs.declared.table.Slot.{Slot}
 use Rattle.store.specs.View.{line_of, if_put, carries, default_in, no_slot}
 use Rattle.store.specs.Made.{LeanRow, SlotBelow, good_line}
 use Rattle.changes.specs.Writes.{Past}
-use Rattle.images.specs.Entries.{Raw}
+use Rattle.forms.specs.Places.{PartIn}
+use Rattle.images.specs.Entries.{Raw, Lies}
 use Rattle.images.specs.declared.entries.ImageEntry.{ImageEntry}
 use Rattle.images.specs.Good.{kind_of, key_lock_of, key_record_of}
 use Rattle.rules.specs.Restore.{kind_has_default}
@@ -69,9 +71,14 @@ pub record Stays (area : Bytes) (top : ℕ) (r : Slot) (end : ℕ) (area' : Byte
   pub end_is : end ≡ top
   pub area_is : area' ≡ area
 
-abbrev pub ComesIf : Bool → Laid → Bytes → ℕ → Slot → ℕ → Bytes → Type 0
-ComesIf true y area top r end area' = Comes y area top r end area'
-ComesIf false y area top r end area' = Stays area top r end area'
+-- a place that counts
+abbrev pub here : Bool → ℕ → Maybe ℕ
+here true p = Some p
+here false p = None
+
+abbrev pub ComesIf : Maybe ℕ → (ℕ → box.KeyLine) → List box.Default → Bytes → ℕ → Slot → ℕ → Bytes → Type 0
+ComesIf (Some p) at ds area top r end area' = Comes (laid ds (at p)) area top r end area'
+ComesIf None at ds area top r end area' = Stays area top r end area'
 
 -- ---- what that asks
 
@@ -80,7 +87,7 @@ line_from true x = record { key = x.key; line = box.Standing (key_lock_of x).loc
 line_from false x = record { key = x.key; line = box.Finished (key_record_of x).write }
 
 abbrev pub tail_in : Bool → ImageEntry → ℕ
-tail_in true e = 8 + e.piecelen
+tail_in true e = 8 + e.piece.len
 tail_in false e = 0
 
 -- "its commit equals its write stamp": only the stamp is written
@@ -88,17 +95,13 @@ abbrev pub OneStamp : Bool → ImageEntry → Type 0
 OneStamp true e = Unit {0}
 OneStamp false e = e.third ≡ e.first
 
-pub record WriteAsks (s : Bytes) (lock : Bool) (e : ImageEntry) (row : RowPlace) (area : Bytes) (top : ℕ) : Type 0 where
-  pub key_in : e.at + e.len ≤ length s
-  pub piece_in : e.pieceat + e.piecelen ≤ length s
-  pub row-in : row.at + row.len ≤ length s
-  pub key_small : e.len ≤ 255
-  pub piece_small : e.piecelen ≤ 255
-  pub row_small : row.len ≤ 255
-  pub lean : LeanRow (kind_of e.kind) row.len
+pub record WriteAsks (s : Bytes) (lock : Bool) (e : ImageEntry) (found : RowPlace) (area : Bytes) (top : ℕ) : Type 0 where
+  pub lies : Lies s e
+  pub row-in : PartIn s found.row
+  pub lean : LeanRow (kind_of e.kind) found.row.len
   pub stamp : OneStamp lock e
   pub length_is : length area ≡ 131072
-  pub room : top + 1 + e.len + 8 + 8 + row.len + tail_in lock e ≤ 131072
+  pub room : top + 1 + e.key.len + 8 + 8 + found.row.len + tail_in lock e ≤ 131072
 
 -- a good line that has its default, with place for its stretch
 pub record LineAsks (x : box.KeyLine) (ds : List box.Default) (area : Bytes) (top : ℕ) : Type 0 where
@@ -108,6 +111,6 @@ pub record LineAsks (x : box.KeyLine) (ds : List box.Default) (area : Bytes) (to
   pub length_is : length area ≡ 131072
   pub room : top + 1 + size_of (laid ds x) ≤ 131072
 
-abbrev pub AsksIf : Bool → box.KeyLine → List box.Default → Bytes → ℕ → Type 0
-AsksIf true x ds area top = LineAsks x ds area top
-AsksIf false x ds area top = Unit {0}
+abbrev pub AsksIf : Maybe ℕ → (ℕ → box.KeyLine) → List box.Default → Bytes → ℕ → Type 0
+AsksIf (Some p) at ds area top = LineAsks (at p) ds area top
+AsksIf None at ds area top = Unit {0}

@@ -1,8 +1,9 @@
 -- The row that a line of an image carries: that of the default of its key and start.
 -- Assumes nothing.
-use Rattle.std.specs.Prelude.{ℕ, ◌+◌, ◌≤◌, ◌≡◌, true, List, [], length}
+use Rattle.std.specs.Prelude.{ℕ, ◌≡◌, true, List, []}
 use Rattle.std.proofs.Math.Option.{Option, none, some}
-use Rattle.forms.specs.Bytes.{Bytes, bytes_at}
+use Rattle.forms.specs.Bytes.{Bytes}
+use Rattle.forms.specs.Places.{PartIn, part_of}
 use Rattle.forms.specs.Row.{Row}
 use Rattle.forms.specs.Readers.{is_some}
 use Rattle.rules.specs.declared.records.Kind.{Kind}
@@ -32,6 +33,5 @@ pub record RowAsks (s : Bytes) (rows : List ℕ) (e : ImageEntry) : Type 0 where
   pub has : kind_has_default (kind_of e.kind) (is_some (row_of (key_inside s e) e.second (rows_at s rows))) ≡ true
 
 pub record RowFound (s : Bytes) (rows : List ℕ) (e : ImageEntry) (r : RowPlace) : Type 0 where
-  pub is : bytes_at s r.at r.len ≡ row_for (kind_of e.kind) (row_of (key_inside s e) e.second (rows_at s rows))
-  pub within : r.at + r.len ≤ length s
-  pub small : r.len ≤ 255
+  pub is : part_of s r.row ≡ row_for (kind_of e.kind) (row_of (key_inside s e) e.second (rows_at s rows))
+  pub inside : PartIn s r.row

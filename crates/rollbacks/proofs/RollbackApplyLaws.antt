@@ -4,20 +4,17 @@ use Prim.Native.Nat.{ℕ, ◌+◌, ◌≤◌, ◌<◌}
 use native.Mathlib.Omega.{arith}
 use mathlib.Core.Path.{◌≡◌, refl, sym, ap, ap₂, ◌∙◌, subst}
 use mathlib.Core.Bool.{true, not}
-use mathlib.Core.List.{List, ◌∷◌}
+use mathlib.Core.List.{List, ◌∷◌, map}
 use mathlib.Core.Option.{Option, none, some}
 use lib.Dec.{ltb, eqb}
 use borrow.Author.Tests.{eqb-false, not-true}
-use Rattle.seqs.specs.Tables.{shown}
 use Rattle.forms.specs.Bytes.{Bytes}
 use Rattle.forms.specs.Key.{Key}
 use Rattle.forms.specs.Row.{Row}
 use Rattle.forms.specs.Places.{key_at, InForm}
 use Rattle.forms.specs.declared.batch.Entry.{Entry}
-use Rattle.rules.specs.declared.answers.Answer.{Answer}
-use Rattle.rules.specs.declared.answers.Answer.TheVariants.{Accepted}
+use Rattle.rules.specs.Answers.{Answer, Accepted, ◌▸◌, need}
 use Rattle.rules.specs.declared.records.Record.{Record}
-use Rattle.rules.specs.Answers.{◌▸◌, need}
 use Rattle.rules.specs.Box.{Box, Lock, records_of, lock_of, row_of}
 use Rattle.rules.specs.Room.{load_of, room_for, Fits}
 use Rattle.rules.specs.Calls.{settle, non_empty, zero_step, stamped_at}
@@ -28,7 +25,7 @@ use Rattle.laws.proofs.BatchLaws.{check_all, apply_all}
 use Rattle.laws.proofs.RollbackLaws.{rollback-depends, rollback-only, rollback_keys-all, apply_rollbacks-all, rollbacks-load}
 use Rattle.store.specs.View.{box_of}
 use Rattle.actions.specs.declared.action.Action.TheVariants.{Rollback}
-use Rattle.calls.specs.Passes.{EntryReady, Ready, counted}
+use Rattle.calls.specs.Passes.{EntryReady, Ready}
 use Rattle.calls.proofs.AnswerLaws.{terms-split}
 use Rattle.calls.proofs.ApplyAllLaws.{Changes, Applying, applying-passed, ready-all}
 use Rattle.calls.proofs.RoomJudgeLaws.{Weighed, applying-free}
@@ -75,14 +72,14 @@ abbrev pub changes_of : ℕ → ℕ → Changes Key
 changes_of txn start = record { key = λ k. k; start = start; check = rollback_key txn start; apply = apply_rollback start; depends = rollback-depends txn start; only = rollback-only start start }
 
 -- what each key asks in its turn, where all would pass
-pub rolls-ready : (txn start : ℕ) (primary : Key) {s : Bytes} {n : ℕ} {es : List Entry} (b : Box) → (start ≡ 0 → ⊥) → InForm s n es → check_all (rollback_key txn start) b (shown (key_at s) n es) ≡ Accepted
-    → Fits (load_of (apply_all (apply_rollback start) (shown (key_at s) n es) b)) → Ready (Rollback txn start) primary s (counted n es) b
-rolls-ready txn start primary {s} {n} {es} b z form c f =
-    ready-all (changes_of txn start) (key_at s) (Rollback txn start) primary s (λ e x. refl) one n es b (record { ascends = form.ascends; passed = c; is = refl })
+pub rolls-ready : (txn start : ℕ) (primary : Key) {s : Bytes} {es : List Entry} (b : Box) → (start ≡ 0 → ⊥) → InForm s es → check_all (rollback_key txn start) b (map (key_at s) es) ≡ Accepted
+    → Fits (load_of (apply_all (apply_rollback start) (map (key_at s) es) b)) → Ready (Rollback txn start) primary s es b
+rolls-ready txn start primary {s} {es} b z form c f =
+    ready-all (changes_of txn start) (key_at s) (Rollback txn start) primary s (λ e x. refl) one es b (record { ascends = form.ascends; passed = c; is = refl })
   where
-    one : (e : Entry) (rest : List Key) (x : Box) → Applying (changes_of txn start) (apply_all (apply_rollback start) (shown (key_at s) n es) b) x (key_at s e ∷ rest) → EntryReady (Rollback txn start) primary s e x
+    one : (e : Entry) (rest : List Key) (x : Box) → Applying (changes_of txn start) (apply_all (apply_rollback start) (map (key_at s) es) b) x (key_at s e ∷ rest) → EntryReady (Rollback txn start) primary s e x
     one e rest x v st area built q room =
-        let here : Applying (changes_of txn start) (apply_all (apply_rollback start) (shown (key_at s) n es) b) (box_of st area) (key_at s e ∷ rest) = subst (λ (y : Box). Applying (changes_of txn start) (apply_all (apply_rollback start) (shown (key_at s) n es) b) y (key_at s e ∷ rest)) (sym q) v in
+        let here : Applying (changes_of txn start) (apply_all (apply_rollback start) (map (key_at s) es) b) (box_of st area) (key_at s e ∷ rest) = subst (λ (y : Box). Applying (changes_of txn start) (apply_all (apply_rollback start) (map (key_at s) es) b) y (key_at s e ∷ rest)) (sym q) v in
         record { built = built; head = z; passed = applying-passed here; slot_free = λ g o. applying-free (weighed txn start) here built.kept f (one_more start (box_of st area) (key_at s e) g o); area_room = room }
 
 -- ---- the call

@@ -1,6 +1,7 @@
 -- One key of a rollback: what each way out of its check says. The definition passes where no store can fail: records are sound, a start has
 -- one line of the key, and a lock has the row that its kind asks.
 -- Assumes nothing.
+use Rattle.std.specs.Prelude.{None, Some, Ok, Err}
 use Prim.Native.Nat.{ℕ, ◌≤◌}
 use native.Mathlib.Omega.{arith}
 use mathlib.Core.Path.{◌≡◌, refl, sym, ap, ◌∙◌, subst}
@@ -15,11 +16,11 @@ use Rattle.forms.specs.Key.{Key, key_form}
 use Rattle.forms.specs.Row.{Row}
 use Rattle.forms.specs.Readers.{is_some}
 use Rattle.forms.proofs.Orders.{eq_bytes-true}
-use Rattle.rules.specs.declared.answers.Answer.{Answer}
-use Rattle.rules.specs.declared.answers.Answer.TheVariants.{Accepted}
+use Rattle.rules.specs.Answers.{Answer, Accepted, ◌▸◌, need, need_own}
+use Rattle.rules.specs.declared.answers.Refusal.{Refusal}
+use Rattle.rules.specs.Outcomes.{refusal}
 use Rattle.rules.specs.declared.records.Kind.TheVariants.{Rollback}
 use Rattle.rules.specs.declared.records.Record.{Record}
-use Rattle.rules.specs.Answers.{◌▸◌, need, need_own}
 use Rattle.rules.specs.Box as box
 use Rattle.rules.specs.Restore.{all_good, none_like, no_second, like_line}
 use Rattle.rules.specs.Calls.{owns, lock_at, kind_ready, found_if, stamped_at}
@@ -32,21 +33,16 @@ use Rattle.laws.proofs.RecordLaws.{stamped-in, rollback-kind}
 use Rattle.laws.proofs.RollbackLaws.{rollback-passed, RollbackLock, lock_free, lock_own, rollback-lock}
 use Rattle.ledger.proofs.Unmet.{own-ready, rollback-again, rollback-free}
 use Rattle.store.specs.declared.table.Store.{Store}
-use Rattle.lookups.specs.declared.lookup.Found.{Found}
-use Rattle.lookups.specs.declared.lookup.Found.TheVariants.{Nothing, Is}
-use Rattle.lookups.specs.declared.lookup.Locked.{Locked}
-use Rattle.lookups.specs.declared.lookup.Locked.TheVariants.{Nobody, By}
 use Rattle.lookups.specs.declared.lookup.KeyState.{KeyState}
 use Rattle.store.specs.View.{box_of}
 use Rattle.store.specs.Made.{good_line, Built}
 use Rattle.store.specs.Views.{lock_in, record_in}
-use Rattle.lookups.specs.KeyStates.{said, locked_by, KeyStateAt}
+use Rattle.lookups.specs.KeyStates.{Found, Locked, said, locked_by, KeyStateAt}
 use Rattle.store.proofs.TidyLaws.{built-tidy}
 use Rattle.changes.specs.Changes.{Owned}
 use Rattle.changes.proofs.KeptLaws.{record-size}
-use Rattle.calls.specs.Weights.{Light, Refused, EntryChecked}
+use Rattle.calls.specs.Weights.{Light, checked, EntryChecked}
 use Rattle.calls.specs.declared.weights.Weight.{Weight}
-use Rattle.calls.specs.declared.weights.Checked.{Checked}
 use Rattle.calls.proofs.AnswerLaws.{then_same}
 use Rattle.calls.proofs.SeenLaws.{checked_refused}
 use Rattle.calls.proofs.StoreLaws.{pair-none, freed-few, freed_is}
@@ -100,8 +96,8 @@ module _ {st : Store} {area : Bytes} (b : Built st area) (txn start : ℕ) (key 
     by-lock n = go seen.lock f.lock_is
       where
         go : (o : Locked) → locked_by area o ≡ box.lock_of key es → own_step txn start (locked_by area o) ≡ rollback_lock txn start (box.row_of key start ds) (box.lock_of key es)
-        go Nobody q = rw (← q, rollback-free (box_of st area) (built-tidy b) key start p n (sym q))
-        go (By i) q = rw (← q) (own (owns txn start (lock_in area i)) refl)
+        go None q = rw (← q, rollback-free (box_of st area) (built-tidy b) key start p n (sym q))
+        go (Some i) q = rw (← q) (own (owns txn start (lock_in area i)) refl)
           where
             own : (u : Bool) → owns txn start (lock_in area i) ≡ u
                 → need_own u (box.holder_of (lock_in area i)) ≡ need_own u (box.holder_of (lock_in area i)) ▸ need (kind_ready i.kind (box.row_of key start ds)) 9
@@ -115,8 +111,8 @@ module _ {st : Store} {area : Bytes} (b : Built st area) (txn start : ℕ) (key 
       where
         go : (o : Found) → said o ≡ stamped_at start ws
             → stamped_step txn start (locked_by area seen.lock) (said o) ≡ rollback_step txn start (box.row_of key start ds) (box.lock_of key es) (stamped_at start ws)
-        go Nothing q = rw (← q) (by-lock (sym q))
-        go (Is w) q = rw (← q) (same (eqb w.start start) refl)
+        go None q = rw (← q) (by-lock (sym q))
+        go (Some w) q = rw (← q) (same (eqb w.start start) refl)
           where
             same : (u : Bool) → eqb w.start start ≡ u
                 → need u 9 ≡ need (box.eq_kind w.kind Rollback && u) 9 ▸ need (not (lock_at start (box.lock_of key es) || is_some (box.row_of key start ds))) 9
@@ -137,8 +133,8 @@ module _ {st : Store} {area : Bytes} (b : Built st area) (txn start : ℕ) (key 
         (ap (λ (x : Answer). x ▸ stamped_step txn start (locked_by area seen.lock) (said seen.history.stamped)) (ap (λ (o : Option Record). need (rolled_by o) 8) f.history.started ∙ rolls-is start key es b.kept.good b.kept.once)
         ∙ then_same (rollback_records start ws) _ _ by-stamp)
 
-    pub key-refused : (a ≡ Accepted → ⊥) → {r : Checked} → Refused a r → EntryChecked (steps_of txn start) (box_of st area) key r
-    key-refused n v = checked_refused (steps_of txn start) (box_of st area) key answer_is n v
+    pub key-refused : (why : Refusal) → a ≡ refusal why → EntryChecked (steps_of txn start) (box_of st area) key (checked (Err why))
+    key-refused why q = checked_refused (steps_of txn start) (box_of st area) key why (sym q ∙ answer_is)
 
     -- a lock that goes is of this start
     lock-goes : a ≡ Accepted → stamped_at start ws ≡ none → RollbackLock txn start (box.row_of key start ds) (box.lock_of key es)
@@ -146,30 +142,30 @@ module _ {st : Store} {area : Bytes} (b : Built st area) (txn start : ℕ) (key 
     lock-goes p n = rollback-lock txn start (box.row_of key start ds) (box.lock_of key es) (ap (rollback_step txn start (box.row_of key start ds) (box.lock_of key es)) (sym n) ∙ (rollback-passed txn start (box_of st area) key (sym answer_is ∙ p)).step)
 
     owned : (o : Locked) → locked_by area o ≡ box.lock_of key es → RollbackLock txn start (box.row_of key start ds) (box.lock_of key es) → Owned start o
-    owned Nobody q w = tt
-    owned (By i) q w = own-start (subst (RollbackLock txn start (box.row_of key start ds)) (sym q) w)
+    owned None q w = tt
+    owned (Some i) q w = own-start (subst (RollbackLock txn start (box.row_of key start ds)) (sym q) w)
 
     row-gone : {stored : Option Row} {o : Option box.Lock} → RollbackLock txn start stored o → o ≡ none → stored ≡ none
     row-gone (lock_free r) q = r
     row-gone (lock_own l t own ready) q = let z : ◌≡◌ {A = ℕ} 0 1 = cc in absurd (omega arith)
 
-    pub key-checked : length key ≤ 255 → {w : Weight} → w ≡ weight_of seen.history.stamped seen.lock (length key) → EntryChecked (steps_of txn start) (box_of st area) key (record { answer = a; weight = w })
+    pub key-checked : a ≡ Accepted → length key ≤ 255 → {w : Weight} → w ≡ weight_of seen.history.stamped seen.lock (length key) → EntryChecked (steps_of txn start) (box_of st area) key (checked (Ok w))
     unfolding rollback_adds rollback_frees if_new of_row
-    key-checked short {w} q = record {
-      answer_is = answer_is;
-      added_is = λ p. ap (λ (w : Weight). w.added) q ∙ added seen.history.stamped f.history.stamped;
-      freed_is = λ p. ap (λ (w : Weight). w.freed) q ∙ freed p seen.history.stamped f.history.stamped;
+    key-checked p short {w} q = record {
+      answer_is = sym p ∙ answer_is;
+      added_is = λ _. ap (λ (w : Weight). w.added) q ∙ added seen.history.stamped f.history.stamped;
+      freed_is = λ _. ap (λ (w : Weight). w.freed) q ∙ freed p seen.history.stamped f.history.stamped;
       light = subst (Light 1 255 1020) (sym q) (count_fits seen.history.stamped);
     }
       where
         added : (o : Found) → said o ≡ stamped_at start ws → (weight_of o seen.lock (length key)).added ≡ if_new (stamped_at start ws) (record_load key)
-        added (Is v) h = rw (← h)
-        added Nothing h = rw (← h) (record-size Rollback key [] ∙ plus_none (record_load key))
+        added (Some v) h = rw (← h)
+        added None h = rw (← h) (record-size Rollback key [] ∙ plus_none (record_load key))
 
         freed : a ≡ Accepted → (o : Found) → said o ≡ stamped_at start ws → (weight_of o seen.lock (length key)).freed ≡ if_new (stamped_at start ws) (plus (of_lock key (box.lock_of key es)) (of_row key (box.row_of key start ds)))
-        freed p (Is v) h = rw (← h)
-        freed p Nothing h = let l = lock-goes p (sym h) in rw (← h) (freed_is b key f short (owned seen.lock f.lock_is l) (row-gone l))
+        freed p (Some v) h = rw (← h)
+        freed p None h = let l = lock-goes p (sym h) in rw (← h) (freed_is b key f short (owned seen.lock f.lock_is l) (row-gone l))
 
         count_fits : (o : Found) → Light 1 255 1020 (weight_of o seen.lock (length key))
-        count_fits (Is v) = record { added = omega arith; freed = omega arith }
-        count_fits Nothing = record { added = omega arith; freed = freed-few b key f short }
+        count_fits (Some v) = record { added = omega arith; freed = omega arith }
+        count_fits None = record { added = omega arith; freed = freed-few b key f short }

@@ -1,20 +1,17 @@
 -- The steps of a rollback at a key, by what was found there, and what the key adds and frees.
 -- Assumes nothing.
-use Rattle.std.specs.Prelude.{ℕ, ◌≤◌, Bool, true, eqb, length}
+use Rattle.lookups.specs.KeyStates.{Found, Locked}
+use Rattle.std.specs.Prelude.{ℕ, ◌≤◌, Bool, true, eqb, length, None, Some}
 use Rattle.std.proofs.Math.Option.{Option, none, some}
 use Rattle.forms.specs.Bytes.{Bytes}
 use Rattle.forms.specs.Key.{Key, key_form}
-use Rattle.rules.specs.declared.answers.Answer.{Answer}
+use Rattle.rules.specs.Answers.{Answer, ◌▸◌, need}
 use Rattle.rules.specs.declared.records.Kind.TheVariants.{Rollback}
 use Rattle.rules.specs.declared.records.Record.{Record}
-use Rattle.rules.specs.Answers.{◌▸◌, need}
 use Rattle.rules.specs.Box.{Lock, eq_kind}
 use Rattle.rules.specs.Rollback.{rollback_key}
 use Rattle.laws.specs.Adds.{rollback_adds, rollback_frees}
 use Rattle.store.specs.declared.table.Store.{Store}
-use Rattle.lookups.specs.declared.lookup.Found.{Found}
-use Rattle.lookups.specs.declared.lookup.Found.TheVariants.{Nothing, Is}
-use Rattle.lookups.specs.declared.lookup.Locked.{Locked}
 use Rattle.store.specs.Made.{Built}
 use Rattle.changes.specs.Loads.{record_size, freed_by, FreedAsks}
 use Rattle.calls.specs.Steps.{own_step}
@@ -46,8 +43,8 @@ key_steps txn start k with at lock =
 
 -- "Lock and its row go, a Rollback record comes", where none is stamped with this start
 abbrev pub weight_of : Found → Locked → ℕ → Weight
-weight_of (Is w) lock key = no_weight
-weight_of Nothing lock key = record { added = record_size Rollback key 0; freed = freed_by lock key }
+weight_of (Some w) lock key = no_weight
+weight_of None lock key = record { added = record_size Rollback key 0; freed = freed_by lock key }
 
 pub record WeightAsks (lock : Locked) (key : ℕ) : Type 0 where
   pub short : key ≤ 255

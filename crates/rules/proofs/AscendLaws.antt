@@ -13,8 +13,8 @@ use Rattle.seqs.proofs.Alls.{all-weaken}
 use Rattle.seqs.proofs.Tests.{and_left, and_right}
 use Rattle.forms.specs.Bytes.{cmp, is_less, lt_bytes}
 use Rattle.forms.specs.Key.{Key}
-use Rattle.forms.specs.declared.key.Order.{Order}
-use Rattle.forms.specs.declared.key.Order.TheVariants.{Less, Equal, Greater}
+use Rattle.std.specs.declared.cmp.Ordering.{Ordering}
+use Rattle.std.specs.declared.cmp.Ordering.TheVariants.{Less, Equal, Greater}
 use Rattle.forms.proofs.Orders.{cmp-equal}
 use Rattle.rules.specs.Box.{Box, Line, Standing, Finished, KeyLine, Default, by_order, before, row_before, all_after, ordered, in_order}
 use Rattle.rules.specs.Page.{KeyLock, locks_of}
@@ -46,7 +46,7 @@ keyed : (k j : Key) (t : Bool) → by_order (cmp k j) t ≡ true → (lt_bytes k
 unfolding lt_bytes
 keyed k j t h = go (cmp k j) refl h
   where
-    go : (o : Order) → cmp k j ≡ o → by_order o t ≡ true → (is_less (cmp k j) ≡ true) ⊎ ((k ≡ j) × (t ≡ true))
+    go : (o : Ordering) → cmp k j ≡ o → by_order o t ≡ true → (is_less (cmp k j) ≡ true) ⊎ ((k ≡ j) × (t ≡ true))
     go Less e h = inl (ap is_less e)
     go Equal e h = inr (cmp-equal k j e, h)
     go Greater e h = absurd (false≢true h)

@@ -11,8 +11,7 @@ use borrow.Author.Tests.{lt-ltb, le-ltb}
 use Rattle.forms.specs.Bytes.{cmp, eq_bytes}
 use Rattle.forms.specs.Readers.{read_on, ◌>>=◌, just, only, byte, stretch, piece, up_to, times, section, ended, whole}
 use Rattle.forms.specs.Row.{Row, integers, texts, fields, mask_bytes, bone, none_set, spares_zero, bones, row_from, row_form, bones_of, one, count_below}
-use Rattle.rules.specs.declared.answers.Answer.TheVariants.{No}
-use Rattle.rules.specs.Answers.{number, ◌▸◌, need, count_if}
+use Rattle.rules.specs.Answers.{No, number, ◌▸◌, need, count_if}
 use Rattle.rules.specs.Bones.{Due, bone_steps, shown_if, bone_shown, bones_shown}
 use Rattle.rules.proofs.Worked.{Case, name_unless, differing}
 

@@ -12,12 +12,10 @@ use borrow.Author.Tests.{le-ltb, lt-leb}
 use Rattle.seqs.proofs.Tests.{and_left, and_right}
 use Rattle.forms.specs.Key.{Key, key_form}
 use Rattle.forms.specs.Row.{Row, row_form}
-use Rattle.rules.specs.declared.answers.Answer.{Answer}
-use Rattle.rules.specs.declared.answers.Answer.TheVariants.{Accepted, No, Held}
+use Rattle.rules.specs.Answers.{Answer, Accepted, No, Held, ◌▸◌, need, need_own, Reply, count_if, number, answer_of, if_passed}
 use Rattle.rules.specs.declared.records.Kind.{Kind}
 use Rattle.rules.specs.declared.records.Kind.TheVariants.{Put, Delete, Rollback}
 use Rattle.rules.specs.declared.records.Record.{Record}
-use Rattle.rules.specs.Answers.{◌▸◌, need, need_own, Reply, count_if, number, answer_of, if_passed}
 use Rattle.rules.specs.Box.{Box, Lock, Default, eq_kind, holder_of, records_of, lock_of, row_of}
 use Rattle.rules.specs.Sound.{sound_record}
 use Rattle.rules.specs.Read.{lock_lets, at_or_below, newest_first, show_row, Examined, one_record, walk, read_steps, examine, show_if}

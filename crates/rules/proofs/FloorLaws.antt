@@ -9,10 +9,8 @@ use mathlib.Core.Bool.{Bool, true, false, not}
 use lib.Dec.{ltb, eqb}
 use borrow.Author.Tests.{le-leb, lt-ltb, eqb-false}
 use Rattle.forms.specs.Key.{Key, key_form}
-use Rattle.rules.specs.declared.answers.Answer.{Answer}
-use Rattle.rules.specs.declared.answers.Answer.TheVariants.{Accepted, No, Held}
+use Rattle.rules.specs.Answers.{Answer, Accepted, No, Held, ◌▸◌, need}
 use Rattle.rules.specs.declared.terms.CommitTerms.{CommitTerms}
-use Rattle.rules.specs.Answers.{◌▸◌, need}
 use Rattle.rules.specs.Box.{Box, lock_of}
 use Rattle.rules.specs.Read.{lock_lets, Examined, read_steps, examine, read}
 use Rattle.rules.specs.Page.{Bounds, page_arguments, row_page_steps}

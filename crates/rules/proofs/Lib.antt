@@ -1,4 +1,5 @@
 -- The laws of this crate that others cite, and its theorems.
+pub mod OutcomeLaws
 pub mod SoundLaws
 pub mod RoomLaws
 pub mod EntryWriterLaws

@@ -14,15 +14,13 @@ use Rattle.seqs.proofs.Tests.{and_left, and_right}
 use Rattle.forms.specs.Bytes.{cmp, eq_bytes}
 use Rattle.forms.specs.Key.{Key}
 use Rattle.forms.specs.Row.{Row, row_form}
-use Rattle.forms.specs.declared.key.Order.{Order}
-use Rattle.forms.specs.declared.key.Order.TheVariants.{Equal}
+use Rattle.std.specs.declared.cmp.Ordering.{Ordering}
+use Rattle.std.specs.declared.cmp.Ordering.TheVariants.{Equal}
 use Rattle.forms.proofs.Orders.{eq_bytes-true, cmp-refl}
-use Rattle.rules.specs.declared.answers.Answer.{Answer}
-use Rattle.rules.specs.declared.answers.Answer.TheVariants.{Accepted}
+use Rattle.rules.specs.Answers.{Answer, Accepted, ◌▸◌, need, need_own, shown, if_passed}
 use Rattle.rules.specs.declared.records.Kind.{Kind}
 use Rattle.rules.specs.declared.records.Kind.TheVariants.{Put, Delete, Rollback}
 use Rattle.rules.specs.declared.records.Record.{Record}
-use Rattle.rules.specs.Answers.{◌▸◌, need, need_own, shown, if_passed}
 use Rattle.rules.specs.Box.{Box, Lock, Line, Standing, Finished, KeyLine, Default, eq_kind, holder_of, records_of, add_record, lock_of, row_of, by_order, line_before, before, all_after, ordered, in_order}
 use Rattle.rules.specs.Sound.{sound_record, all_sound}
 use Rattle.rules.specs.Read.{lock_lets, keep_if, at_or_below, newest_first, show_if, show_row, one_record, walk, read_steps, examine, read}
@@ -56,7 +54,7 @@ unfolding before
 line-stamps k w v e f p q a b h =
     let s : e.key ≡ f.key = sym (eq_bytes-true k e.key a) ∙ eq_bytes-true k f.key b in
     let c : cmp e.key f.key ≡ Equal = ap (λ (x : Key). cmp x f.key) s ∙ cmp-refl f.key in
-    ltb-true w.stamp v.stamp (sym (ap (λ (o : Order). by_order o (line_before e.line f.line)) c ∙ ap (λ (x : Line). line_before x f.line) p ∙ ap (line_before (Finished w)) q) ∙ h)
+    ltb-true w.stamp v.stamp (sym (ap (λ (o : Ordering). by_order o (line_before e.line f.line)) c ∙ ap (λ (x : Line). line_before x f.line) p ∙ ap (line_before (Finished w)) q) ∙ h)
 
 after-stamps : (k : Key) (w : Record) (e : KeyLine) (es : List KeyLine) → e.line ≡ Finished w → eq_bytes k e.key ≡ true → all_after before e es ≡ true → Each (λ v. w.stamp < v.stamp) (records_of k es)
 unfolding all_after records_of add_record Each

@@ -19,9 +19,8 @@ use Rattle.forms.specs.Key.{Key, table_of, key_form}
 use Rattle.forms.specs.Row.{Row, integers, texts, fields, mask_bytes, bone, none_set, spares_zero, bones, row_from, row_form}
 use Rattle.forms.specs.Batch.{Mutation, of_kind, mutation, above, ascend, if_ascend, batch_of, mutations, keys}
 use Rattle.forms.specs.Ones.{fitted, one_mutation, one_key}
-use Rattle.rules.specs.declared.answers.Answer.{Answer}
+use Rattle.rules.specs.Answers.{Answer, number, holder, ◌▸◌, need, need_own, Reply, nothing, shown, refused, answer_of, if_passed}
 use Rattle.rules.specs.declared.records.Kind.TheVariants.{Put, Delete}
-use Rattle.rules.specs.Answers.{number, holder, ◌▸◌, need, need_own, Reply, nothing, shown, refused, answer_of, if_passed}
 use Rattle.rules.specs.Box.{Box, fresh, Lock, Line, Standing, Finished, KeyLine, Default, kind_byte, records_of, add_record, lock_of, add_lock, row_of, add_row, before, row_before, put_in, insert_by, drop_lock, unless_lock, drop_row, unless_row}
 use Rattle.rules.specs.Sound.{all_sound, sound_lock}
 use Rattle.rules.specs.Room.{sum_of, load_of, fits, room_for}

@@ -2,11 +2,21 @@
 -- the answer.
 -- Assumes nothing.
 use Rattle.std.specs.Prelude.{ℕ, ◌≡◌, Bool, true, false}
-use Rattle.rules.specs.declared.answers.Holder.{Holder}
-use Rattle.rules.specs.declared.answers.Answer.{Answer}
-use Rattle.rules.specs.declared.answers.Answer.TheVariants.{Accepted, No, Held}
 
 infixr 20 ◌▸◌
+-- "Answer 7 carries the holder's transaction and start", and "the lock's time to live and kind" (document 02, CR 9), all as numbers
+pub record Holder : Type 0 where
+  pub txn : ℕ
+  pub start : ℕ
+  pub ttl : ℕ
+  pub kind : ℕ
+
+-- the paper's answers: 0, a number, or 7 with the holder of the lock
+pub data Answer : Type 0 where
+  Accepted : Answer
+  No : ℕ → Answer
+  Held : Holder → Answer
+
 -- the paper's number of each case
 abbrev pub number : Answer → ℕ
 number Accepted = 0
@@ -23,8 +33,7 @@ holder Accepted = no_holder
 holder (No n) = no_holder
 holder (Held h) = h
 
--- "If an answer is an enum, a definition gives this paper's number and values for each of its cases. The promises use that definition.": the
--- call gave the answer that is due, by the paper's number and values, and by its case
+-- the call gave the answer that is due, by the paper's number and values, and by its case; specs/Outcomes has what each result of the code gives
 pub record Answered (due got : Answer) : Type 0 where
   pub number_is : number got ≡ number due
   pub holder_is : holder got ≡ holder due

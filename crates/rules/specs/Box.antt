@@ -6,9 +6,9 @@ use Rattle.std.proofs.Math.Option.{Option, none, some}
 use Rattle.forms.specs.Bytes.{cmp, eq_bytes}
 use Rattle.forms.specs.Key.{Key}
 use Rattle.forms.specs.Row.{Row}
-use Rattle.forms.specs.declared.key.Order.{Order}
-use Rattle.forms.specs.declared.key.Order.TheVariants.{Less, Equal, Greater}
-use Rattle.rules.specs.declared.answers.Holder.{Holder}
+use Rattle.std.specs.declared.cmp.Ordering.{Ordering}
+use Rattle.std.specs.declared.cmp.Ordering.TheVariants.{Less, Equal, Greater}
+use Rattle.rules.specs.Answers.{Holder}
 use Rattle.rules.specs.declared.records.Kind.{Kind}
 use Rattle.rules.specs.declared.records.Kind.TheVariants.{Put, Delete, Rollback}
 use Rattle.rules.specs.declared.records.Record.{Record}
@@ -115,7 +115,7 @@ row_of k s (d ∷ ds) = add_row (at_pair k s d) d.row (row_of k s ds)
 
 -- ---- the order of a box
 
-abbrev pub by_order : Order → Bool → Bool
+abbrev pub by_order : Ordering → Bool → Bool
 by_order Less b = true
 by_order Equal b = b
 by_order Greater b = false

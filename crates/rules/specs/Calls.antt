@@ -5,12 +5,10 @@ use Rattle.std.proofs.Math.Option.{Option, none, some}
 use Rattle.forms.specs.Bytes.{eq_bytes}
 use Rattle.forms.specs.Row.{Row, row_form}
 use Rattle.forms.specs.Readers.{is_some}
-use Rattle.rules.specs.declared.answers.Answer.{Answer}
-use Rattle.rules.specs.declared.answers.Answer.TheVariants.{Accepted, No, Held}
+use Rattle.rules.specs.Answers.{Answer, Accepted, No, Held, ◌▸◌, need}
 use Rattle.rules.specs.declared.records.Kind.{Kind}
 use Rattle.rules.specs.declared.records.Kind.TheVariants.{Put, Delete, Rollback}
 use Rattle.rules.specs.declared.records.Record.{Record}
-use Rattle.rules.specs.Answers.{◌▸◌, need}
 use Rattle.rules.specs.Box.{Box, Lock, fresh}
 
 -- a call's answer, and the box after it

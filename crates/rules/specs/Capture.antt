@@ -8,7 +8,7 @@ use Rattle.seqs.specs.Tables.{All}
 use Rattle.forms.specs.Bytes.{Bytes, lt_bytes, piece_bytes}
 use Rattle.forms.specs.Numbers.{digits}
 use Rattle.forms.specs.Key.{Key}
-use Rattle.rules.specs.declared.answers.Answer.TheVariants.{No}
+use Rattle.rules.specs.Answers.{No}
 use Rattle.rules.specs.declared.records.Record.{Record}
 use Rattle.rules.specs.Box.{Box, Lock, Line, Standing, Finished, KeyLine, Default, kind_byte}
 use Rattle.rules.specs.Read.{those}

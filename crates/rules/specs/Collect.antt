@@ -3,11 +3,9 @@
 -- with a lock at or below F answers 7 for the first such key". F is the floor that the collection names; the store's is another number.
 -- Assumes nothing.
 use Rattle.std.specs.Prelude.{ℕ, Bool, true, ◌&&◌, ◌||◌, not, List, [], ◌∷◌, leb, ltb}
-use Rattle.rules.specs.declared.answers.Answer.{Answer}
-use Rattle.rules.specs.declared.answers.Answer.TheVariants.{Accepted}
+use Rattle.rules.specs.Answers.{Answer, Accepted, ◌▸◌, need, need_own}
 use Rattle.rules.specs.declared.records.Kind.TheVariants.{Put, Rollback}
 use Rattle.rules.specs.declared.records.Record.{Record}
-use Rattle.rules.specs.Answers.{◌▸◌, need, need_own}
 use Rattle.rules.specs.Box.{Box, Line, Standing, Finished, KeyLine, Default, holder_of, eq_kind, records_of}
 use Rattle.rules.specs.Read.{keep_if, those}
 use Rattle.rules.specs.Calls.{State, Ended, settle_state}

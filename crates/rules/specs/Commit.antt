@@ -12,13 +12,11 @@ use Rattle.forms.specs.Row.{Row}
 use Rattle.forms.specs.Readers.{is_some}
 use Rattle.forms.specs.Batch.{keys}
 use Rattle.forms.specs.Ones.{one_key}
-use Rattle.rules.specs.declared.answers.Answer.{Answer}
-use Rattle.rules.specs.declared.answers.Answer.TheVariants.{Accepted, No}
+use Rattle.rules.specs.Answers.{Answer, Accepted, No, ◌▸◌, need, need_own}
 use Rattle.rules.specs.declared.records.Kind.{Kind}
 use Rattle.rules.specs.declared.records.Kind.TheVariants.{Put, Delete, Rollback}
 use Rattle.rules.specs.declared.records.Record.{Record}
 use Rattle.rules.specs.declared.terms.CommitTerms.{CommitTerms}
-use Rattle.rules.specs.Answers.{◌▸◌, need, need_own}
 use Rattle.rules.specs.Box.{Box, Lock, Finished, holder_of, records_of, lock_of, row_of, eq_kind, insert_line, drop_lock}
 use Rattle.rules.specs.Sound.{all_sound}
 use Rattle.rules.specs.Calls.{Done, settle, of_batch, non_empty, owns, zero_step, all_below, lock_at, kind_ready, found_if, record_for}

@@ -8,7 +8,7 @@ use Rattle.forms.specs.Bytes.{Bytes}
 use Rattle.forms.specs.Readers.{Read, Reader, ◌>>=◌, just, section}
 use Rattle.forms.specs.Numbers.{number_of, digits}
 use Rattle.forms.specs.Row.{Row, old_row_form}
-use Rattle.rules.specs.declared.answers.Answer.TheVariants.{No}
+use Rattle.rules.specs.Answers.{No}
 use Rattle.rules.specs.Box.{Default}
 use Rattle.rules.specs.Written.{Written, write_if}
 use Rattle.rules.specs.Image.{Image, default_from, old_image}

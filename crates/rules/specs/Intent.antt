@@ -4,8 +4,7 @@
 use Rattle.std.specs.Prelude.{ℕ, Bool, true, false, ltb}
 use Rattle.std.proofs.Math.Option.{Option, none, some}
 use Rattle.forms.specs.Key.{Key, key_form}
-use Rattle.rules.specs.declared.answers.Answer.TheVariants.{No}
-use Rattle.rules.specs.Answers.{need, Reply, nothing, shown, refused, if_passed}
+use Rattle.rules.specs.Answers.{No, need, Reply, nothing, shown, refused, if_passed}
 use Rattle.rules.specs.Box.{Box, Lock, lock_of}
 use Rattle.rules.specs.Sound.{sound_lock}
 

@@ -1,6 +1,7 @@
 -- The definitions of `rules`, in the order in which they build on each other.
 pub mod Answers
 pub mod Box
+pub mod Outcomes
 pub mod Sound
 pub mod Room
 pub mod Read

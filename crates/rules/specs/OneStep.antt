@@ -11,11 +11,9 @@ use Rattle.forms.specs.Bytes.{Bytes}
 use Rattle.forms.specs.Key.{Key, key_form}
 use Rattle.forms.specs.Row.{Row}
 use Rattle.forms.specs.Batch.{Mutation, mutations}
-use Rattle.rules.specs.declared.answers.Answer.{Answer}
-use Rattle.rules.specs.declared.answers.Answer.TheVariants.{Accepted, No, Held}
+use Rattle.rules.specs.Answers.{Answer, Accepted, No, Held, ◌▸◌, need, need_own}
 use Rattle.rules.specs.declared.records.Kind.{Kind}
 use Rattle.rules.specs.declared.records.Record.{Record}
-use Rattle.rules.specs.Answers.{◌▸◌, need, need_own}
 unfoldable pub use Rattle.rules.specs.Answers.{count_if}
 use Rattle.rules.specs.Box.{Box, Lock, Finished, Default, holder_of, records_of, lock_of, row_of, eq_kind, insert_line, insert_default, drop_lock, drop_row}
 use Rattle.rules.specs.Sound.{all_sound}

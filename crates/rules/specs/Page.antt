@@ -6,9 +6,7 @@ use Rattle.std.proofs.Math.Option.{Option, none, some}
 use Rattle.forms.specs.Bytes.{eq_bytes, lt_bytes}
 use Rattle.forms.specs.Key.{Key, key_form}
 use Rattle.forms.specs.Row.{Row}
-use Rattle.rules.specs.declared.answers.Answer.{Answer}
-use Rattle.rules.specs.declared.answers.Answer.TheVariants.{No}
-use Rattle.rules.specs.Answers.{◌▸◌, need, Reply, nothing, shown, refused, if_passed}
+use Rattle.rules.specs.Answers.{Answer, No, ◌▸◌, need, Reply, nothing, shown, refused, if_passed}
 use Rattle.rules.specs.Box.{Box, Lock, Line, Standing, Finished, KeyLine}
 use Rattle.rules.specs.Sound.{sound_lock}
 use Rattle.rules.specs.Read.{read, keep_if}

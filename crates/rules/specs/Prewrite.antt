@@ -15,10 +15,8 @@ use Rattle.forms.specs.Row.{Row}
 use Rattle.forms.specs.Readers.{is_some}
 use Rattle.forms.specs.Batch.{Mutation, mutations}
 use Rattle.forms.specs.Ones.{one_mutation}
-use Rattle.rules.specs.declared.answers.Answer.{Answer}
-use Rattle.rules.specs.declared.answers.Answer.TheVariants.{Accepted}
+use Rattle.rules.specs.Answers.{Answer, Accepted, ◌▸◌, need, need_own}
 use Rattle.rules.specs.declared.records.Kind.{Kind}
-use Rattle.rules.specs.Answers.{◌▸◌, need, need_own}
 use Rattle.rules.specs.Box.{Box, Lock, Standing, Default, holder_of, records_of, lock_of, row_of, eq_kind, insert_line, insert_default}
 use Rattle.rules.specs.Sound.{all_sound}
 use Rattle.rules.specs.Room.{room_for}

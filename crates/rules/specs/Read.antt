@@ -8,12 +8,10 @@ use Rattle.std.specs.Prelude.{ℕ, suc, Bool, true, false, List, [], ◌∷◌, 
 use Rattle.std.proofs.Math.Option.{Option, none, some}
 use Rattle.forms.specs.Key.{Key, key_form}
 use Rattle.forms.specs.Row.{Row, row_form}
-use Rattle.rules.specs.declared.answers.Answer.{Answer}
-use Rattle.rules.specs.declared.answers.Answer.TheVariants.{Accepted, No}
+use Rattle.rules.specs.Answers.{Answer, Accepted, No, ◌▸◌, need, need_own, Reply, nothing, shown, refused, if_passed, count_if}
 use Rattle.rules.specs.declared.records.Kind.{Kind}
 use Rattle.rules.specs.declared.records.Kind.TheVariants.{Put, Delete, Rollback}
 use Rattle.rules.specs.declared.records.Record.{Record}
-use Rattle.rules.specs.Answers.{◌▸◌, need, need_own, Reply, nothing, shown, refused, if_passed, count_if}
 use Rattle.rules.specs.Box.{Box, Lock, Default, holder_of, records_of, lock_of, row_of}
 use Rattle.rules.specs.Sound.{sound_record}
 

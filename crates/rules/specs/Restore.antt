@@ -11,11 +11,9 @@ use Rattle.forms.specs.Bytes.{Bytes, eq_bytes}
 use Rattle.forms.specs.Key.{Key, key_form, table_of}
 use Rattle.forms.specs.Row.{Row, row_form}
 use Rattle.forms.specs.Readers.{is_some}
-use Rattle.rules.specs.declared.answers.Answer.{Answer}
-use Rattle.rules.specs.declared.answers.Answer.TheVariants.{No}
+use Rattle.rules.specs.Answers.{Answer, No, ◌▸◌, need}
 use Rattle.rules.specs.declared.records.Kind.{Kind}
 use Rattle.rules.specs.declared.records.Kind.TheVariants.{Put, Delete, Rollback}
-use Rattle.rules.specs.Answers.{◌▸◌, need}
 use Rattle.rules.specs.Box.{Box, Standing, Finished, KeyLine, Default, start_of, kind_in, eq_kind, line_is, row_of, insert_line, insert_default}
 use Rattle.rules.specs.Sound.{sound_record, sound_lock}
 use Rattle.rules.specs.Room.{room_for}

@@ -12,11 +12,9 @@ use Rattle.forms.specs.Row.{Row}
 use Rattle.forms.specs.Readers.{is_some}
 use Rattle.forms.specs.Batch.{keys}
 use Rattle.forms.specs.Ones.{one_key}
-use Rattle.rules.specs.declared.answers.Answer.{Answer}
-use Rattle.rules.specs.declared.answers.Answer.TheVariants.{Accepted}
+use Rattle.rules.specs.Answers.{Answer, Accepted, ◌▸◌, need, need_own}
 use Rattle.rules.specs.declared.records.Kind.TheVariants.{Rollback}
 use Rattle.rules.specs.declared.records.Record.{Record}
-use Rattle.rules.specs.Answers.{◌▸◌, need, need_own}
 use Rattle.rules.specs.Box.{Box, Lock, Finished, holder_of, records_of, lock_of, row_of, eq_kind, insert_line, drop_lock, drop_row}
 use Rattle.rules.specs.Sound.{sound_record}
 use Rattle.rules.specs.Room.{room_for}

@@ -6,10 +6,8 @@ use Rattle.std.specs.Prelude.{ℕ, ◌≡◌, Bool, true, false, List, [], ◌�
 use Rattle.forms.specs.Bytes.{Bytes}
 pub use Rattle.forms.specs.Bytes.{piece_bytes}
 use Rattle.forms.specs.Numbers.{digits}
-use Rattle.rules.specs.declared.answers.Answer.{Answer}
-use Rattle.rules.specs.declared.answers.Answer.TheVariants.{Accepted, No}
-use Rattle.rules.specs.declared.written.Wrote.{Wrote}
-use Rattle.rules.specs.Answers.{Answered, Reply, nothing, shown, refused}
+use Rattle.rules.specs.Outcomes.{Wrote}
+use Rattle.rules.specs.Answers.{Answer, Accepted, No, Answered, Reply, nothing, shown, refused}
 use Rattle.rules.specs.Box.{Box, Lock, kind_byte}
 use Rattle.rules.specs.Page.{Bounds, Limits, Page, KeyRow, KeyLock, page, intent_page, conflict_page}
 

@@ -9,12 +9,10 @@ pub mod records;
 pub mod room;
 pub mod terms;
 pub mod writers;
-pub mod written;
 
-pub use answers::{Answer, Holder, holder_of, number_of};
+pub use answers::{Holder, Refusal};
 pub use figures::{Figures, Marks, Stats};
-pub use records::{Kind, Record, kind_byte, record_sound};
+pub use records::{Kind, Record, record_sound};
 pub use room::{Load, load_fits};
 pub use terms::CommitTerms;
 pub use writers::{put_default, put_lock, put_record};
-pub use written::{Wrote, refusal};

@@ -4,20 +4,22 @@ ghost use Rattle.rules.specs.Box.{kind_byte};
 ghost use Rattle.rules.specs.Sound.{sound_record, kind_fits};
 
 // "Kinds: 1 Put, 2 Delete, 3 Rollback"; a standing intent is a Put or a Delete.
-#[derive(Clone, Copy)]
+#[derive(Clone, Copy, PartialEq, Eq)]
 pub enum Kind {
     Put,
     Delete,
     Rollback,
 }
 
-pub fn kind_byte(kind: Kind) -> u8
-    ensures { result ≡ kind_byte kind }
-{
-    match kind {
-        Kind::Put => 1,
-        Kind::Delete => 2,
-        Kind::Rollback => 3,
+impl From<Kind> for u8 {
+    ghost from_gives = { λ kind n. n ≡ kind_byte kind };
+
+    fn from(kind: Kind) -> Self {
+        match kind {
+            Kind::Put => 1,
+            Kind::Delete => 2,
+            Kind::Rollback => 3,
+        }
     }
 }
 
@@ -35,8 +37,7 @@ fn kind_fits(kind: Kind, start: u64, commit: u64) -> bool
     ensures { result ≡ kind_fits kind start commit }
 {
     match kind {
-        Kind::Put => start < commit,
-        Kind::Delete => start < commit,
+        Kind::Put | Kind::Delete => start < commit,
         Kind::Rollback => commit == start,
     }
 }
@@ -45,12 +46,5 @@ fn kind_fits(kind: Kind, start: u64, commit: u64) -> bool
 pub fn record_sound(w: Record) -> bool
     ensures { result ≡ sound_record w }
 {
-    if w.commit != w.stamp {
-        return false;
-    }
-    if w.start == 0 {
-        return false;
-    }
-    let kind = w.kind;
-    kind_fits(kind, w.start, w.commit)
+    w.commit == w.stamp && w.start != 0 && kind_fits(w.kind, w.start, w.commit)
 }

@@ -11,18 +11,20 @@ pub struct Load {
     pub bytes: usize,
 }
 
+impl Load {
+    // Of a box that holds nothing.
+    pub const NONE: Load = Load {
+        lines: 0,
+        locks: 0,
+        defaults: 0,
+        bytes: 0,
+    };
+}
+
 // "At most 1,024 lines (locks plus records), 256 locks, 1,024 defaults, 49,152 live bytes"
+#[tactic(auto, unfolding(crate::specs::Room::fits))]
 pub fn load_fits(l: Load) -> bool
     ensures { result ≡ fits l }
 {
-    if 1024 < l.lines {
-        return false;
-    }
-    if 256 < l.locks {
-        return false;
-    }
-    if 1024 < l.defaults {
-        return false;
-    }
-    l.bytes <= 49152
+    l.lines <= 1024 && l.locks <= 256 && l.defaults <= 1024 && l.bytes <= 49152
 }

@@ -4,7 +4,7 @@ ghost use Rattle.forms.specs.Writers.{Laid, PieceAsks};
 ghost use Rattle.rules.specs.Written.{lock_bytes};
 ghost use Rattle.rules.specs.Capture.{record_bytes, default_bytes};
 
-use crate::records::{Kind, Record, kind_byte};
+use crate::records::{Kind, Record};
 use forms::{Width, put_byte, put_digits, put_piece};
 
 // "Lock: 8-byte transaction, primary length, primary, 8-byte start, 8-byte time to live, kind byte"
@@ -24,7 +24,7 @@ pub fn put_lock(
     let b = put_piece(out, a, primary);
     let c = put_digits(out, b, Width::Eight, start);
     let d = put_digits(out, c, Width::Eight, ttl);
-    put_byte(out, d, kind_byte(kind))
+    put_byte(out, d, u8::from(kind))
 }
 
 // "8-byte write stamp, start, commit, kind byte"
@@ -35,8 +35,7 @@ pub fn put_record(out: &mut [u8], at: usize, w: Record) -> usize
     let a = put_digits(out, at, Width::Eight, w.stamp);
     let b = put_digits(out, a, Width::Eight, w.start);
     let c = put_digits(out, b, Width::Eight, w.commit);
-    let kind = w.kind;
-    put_byte(out, c, kind_byte(kind))
+    put_byte(out, c, u8::from(w.kind))
 }
 
 // "key length, key, 8-byte start, row length, row"

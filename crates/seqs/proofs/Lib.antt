@@ -2,7 +2,6 @@
 pub mod Parts
 pub mod Tests
 pub mod Alls
-pub mod Shifts
 pub mod Tables
 pub mod Leading
 pub mod Downs

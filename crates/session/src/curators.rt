@@ -1,96 +1,62 @@
-// What a curator asks of the box. Each function says who asks for what, makes the call, says what was answered, and hands on the store: after
-// a refusal it is the one that came.
-ghost use Rattle.std.specs.Prelude.{◌≡◌};
-ghost use Rattle.store.specs.Made.{Made};
-
-use mvcc::{AREA, Changed, Store};
-use visits::{say, say_answer, tell};
+// What a curator asks of the box. Each function says who asks for what, makes the call, and says what was answered: after a refusal the box is as it
+// was.
+use visits::{Hall, say_answer};
 
 // How long a curator's locks are to stand.
 const TTL: u64 = 60;
 
 // What a curator's transaction is about.
-fn say_work(rt: &impl Print, txn: u64) {
-    if txn == 7 {
-        say(rt, b"the jaw and the rib");
-    } else {
-        say(rt, b"the removal of the jaw");
+fn work(txn: u64) -> &'static str {
+    match txn {
+        7 => "the jaw and the rib",
+        _ => "the removal of the jaw",
     }
-}
-
-fn say_act(rt: &impl Print, txn: u64, does: &[u8], at: &[u8], number: u64) {
-    tell(rt, b"curator ", txn, does);
-    say_work(rt, txn);
-    tell(rt, at, number, b": ");
-}
-
-// What was answered, and the store after it.
-pub fn answered(rt: &impl Print, done: Changed) -> Store
-    ensures { result ≡ done.store }
-{
-    let answer = done.answer;
-    say_answer(rt, answer);
-    done.store
 }
 
 pub fn prewrites(
     rt: &impl Print,
-    store: Store,
-    area: &mut [u8; AREA],
+    hall: &mut Hall,
     txn: u64,
     start: u64,
     primary: &[u8],
     batch: &[u8],
-) -> Store
-    requires { Made store area.old }
-    ensures { Made result area.new }
-{
-    say_act(rt, txn, b" prewrites ", b", starting at ", start);
-    answered(
+) {
+    let work = work(txn);
+    let _ = print!(rt; "curator {txn} prewrites {work}, starting at {start}: ");
+    say_answer(
         rt,
-        mvcc::prewrite_batch(store, area, txn, start, TTL, primary, batch),
-    )
+        mvcc::prewrite_batch(
+            &mut hall.store,
+            &mut hall.area,
+            txn,
+            start,
+            TTL,
+            primary,
+            batch,
+        ),
+    );
 }
 
-pub fn commits(
-    rt: &impl Print,
-    store: Store,
-    area: &mut [u8; AREA],
-    txn: u64,
-    start: u64,
-    commit: u64,
-    keys: &[u8],
-) -> Store
-    requires { Made store area.old }
-    ensures { Made result area.new }
-{
-    say_act(rt, txn, b" commits ", b" at ", commit);
-    answered(
+pub fn commits(rt: &impl Print, hall: &mut Hall, txn: u64, start: u64, commit: u64, keys: &[u8]) {
+    let work = work(txn);
+    let _ = print!(rt; "curator {txn} commits {work} at {commit}: ");
+    say_answer(
         rt,
-        mvcc::commit_intents_batch(store, area, txn, start, commit, keys),
-    )
+        mvcc::commit_intents_batch(&mut hall.store, &mut hall.area, txn, start, commit, keys),
+    );
 }
 
 // "Lock and its row go, a Rollback record comes."
-pub fn withdraws(
-    rt: &impl Print,
-    store: Store,
-    area: &mut [u8; AREA],
-    txn: u64,
-    start: u64,
-    key: &[u8],
-) -> Store
-    requires { Made store area.old }
-    ensures { Made result area.new }
-{
-    say_act(rt, txn, b" withdraws ", b", started at ", start);
-    answered(rt, mvcc::rollback_intent(store, area, txn, start, key))
+pub fn withdraws(rt: &impl Print, hall: &mut Hall, txn: u64, start: u64, key: &[u8]) {
+    let work = work(txn);
+    let _ = print!(rt; "curator {txn} withdraws {work}, started at {start}: ");
+    say_answer(
+        rt,
+        mvcc::rollback_intent(&mut hall.store, &mut hall.area, txn, start, key),
+    );
 }
 
-pub fn fills(rt: &impl Print, store: Store, area: &mut [u8; AREA], image: &[u8]) -> Store
-    requires { Made store area.old }
-    ensures { Made result area.new }
-{
-    say(rt, b"a second box is filled from the image: ");
-    answered(rt, mvcc::restore(store, area, image))
+pub fn fills(rt: &impl Print, hall: &mut Hall, image: &[u8]) {
+    let _ = print!(rt; "a second box is filled from the image: ");
+    say_answer(rt, mvcc::restore(&mut hall.store, &mut hall.area, image));
 }

@@ -10,23 +10,27 @@ use lib.ListN.{length, take, drop, replicate, length-append, length-drop, length
 use lib.Seq.{take_at, length-take-le}
 use lib.Dec.{leb, eqb}
 use borrow.Author.Tests.{leb-true}
-use Rattle.forms.specs.Bytes.{Bytes, bytes_at}
+use Rattle.std.specs.Prelude.{Option as Maybe, None, Some}
+use Rattle.std.specs.Borrow.{Bor}
+use Rattle.forms.specs.Bytes.{Bytes}
 use Rattle.rules.specs.Answers.{Reply, nothing, shown, refused}
 use Rattle.rules.specs.Box.{Box}
 use Rattle.rules.specs.Calls.{State}
-use Rattle.rules.specs.Page.{Bounds, Page, page, intent_page, conflict_page}
+use Rattle.rules.specs.Page.{Bounds, Limits, Page, page, intent_page, conflict_page}
 use Rattle.rules.specs.Written.{Written, write_if, written, page_bytes, key_row_bytes, key_lock_bytes, scan_page, scan_intent_page, scan_conflicting_intents, WroteAs}
 use Rattle.rules.specs.Image.{old_image}
 use Rattle.rules.specs.Capture.{image_of, capture_if, capture_image}
 use Rattle.rules.specs.Convert.{converted_bytes, convertible, convert_if, convert_image}
 use Rattle.rules.specs.Call.{Call}
-use Rattle.rules.specs.declared.written.Wrote.{Wrote}
+use Rattle.rules.specs.Outcomes.{Wrote}
+use Rattle.bounds.specs.declared.asked.Bounds as asked
 use Rattle.bounds.specs.Bounds.{bounds_of}
+use Rattle.forms.specs.Readers.{given}
 use Rattle.traces.specs.declared.args.Args.{Args}
+use Rattle.traces.specs.Taken.{key_behind}
 use Rattle.showing.specs.Told.{lent, paging, told}
-use Rattle.showing.specs.Ran.{ShownTold, bounds_in}
-use Rattle.showing.specs.Paging.{scanned}
-use Rattle.showing.specs.declared.paging.Which.{Which}
+use Rattle.showing.specs.Shows.{ShownTold, ShownOf}
+use Rattle.showing.specs.declared.shown.Shown.{Shown}
 
 -- ---- the lent buffer
 
@@ -56,6 +60,9 @@ fits-lent n e h = fits n 65535 e (short-in n h)
 pub fits-long : (n : ℕ) → n < 262145 → n ≤ length (lent 262144)
 fits-long n h = fits {buffer = lent 262144} n 262144 refl (long-in n h)
 
+pub at_most : {a b : ℕ} → a ≡ b → a ≤ b
+at_most e = omega arith
+
 -- ---- its length
 
 -- what is written leaves the buffer as long as it was
@@ -74,12 +81,18 @@ same_length f nothing buffer = refl
 same_length f (refused v) buffer = refl
 same_length f (shown p) buffer = write-long (page_bytes f p) buffer
 
-module _ (a : Bounds) (first second third : ℕ) (state : State) (buffer : Bytes) where
-  pub scanned-long : (w : Which) → length (scanned w a first second third state buffer).buffer ≡ length buffer
-  unfolding scan_page scan_intent_page scan_conflicting_intents
-  scanned-long Which.Rows = same_length key_row_bytes (page state.floor a first (record { rows = second; bytes = third }) state.box) buffer
-  scanned-long Which.Intents = same_length key_lock_bytes (intent_page a first state.box) buffer
-  scanned-long Which.Conflicts = same_length key_lock_bytes (conflict_page a first (record { rows = second; bytes = third }) state.box) buffer
+module _ (a : Bounds) (b : Box) (buffer : Bytes) where
+  pub page-long : (floor moment : ℕ) (m : Limits) → length (scan_page floor a moment m b buffer).buffer ≡ length buffer
+  unfolding scan_page
+  page-long floor moment m = same_length key_row_bytes (page floor a moment m b) buffer
+
+  pub intents-long : (limit : ℕ) → length (scan_intent_page a limit b buffer).buffer ≡ length buffer
+  unfolding scan_intent_page
+  intents-long limit = same_length key_lock_bytes (intent_page a limit b) buffer
+
+  pub conflicts-long : (moment : ℕ) (m : Limits) → length (scan_conflicting_intents a moment m b buffer).buffer ≡ length buffer
+  unfolding scan_conflicting_intents
+  conflicts-long moment m = same_length key_lock_bytes (conflict_page a moment m b) buffer
 
 -- of an image, written from a table or converted
 captured-long : (floor t : ℕ) (b : Box) (buffer : Bytes) → length (capture_image floor t b buffer).buffer ≡ length buffer
@@ -100,63 +113,59 @@ converted-long s buffer = by-image (convertible (old_image s))
 
 -- ---- what was written to the front of a longer buffer, shown
 
-front-shown : (w : Written) (state : State) (n : ℕ) (buffer : Bytes) {done : Wrote} {out : Bytes} → WroteAs w done out → length w.buffer ≡ n → ShownTold (paging w state) state (record { answer = done.answer; count = done.count; len = n }) (out ++ drop n buffer)
-front-shown w state n buffer {out = out} v e =
-    let long : length out ≡ n = ap length v.out_is ∙ e in
+front-shown : (w : Written) (state : State) (n : ℕ) (buffer : Bytes) {done : Wrote} {r : Shown} {out : Bytes} → WroteAs w done out → ShownOf done n r → length w.buffer ≡ n → ShownTold (paging w state) state r (out ++ drop n buffer)
+front-shown w state n buffer {r = r} {out = out} v u e =
+    let long : length out ≡ r.len = ap length v.out_is ∙ e ∙ sym u.len_is in
     record {
       told = record {
-        answer_is = v.answer_is.case_is;
-        count_is = v.count_is;
+        answer_is = u.answer_is ∙ v.answer_is.case_is;
+        count_is = u.count_is ∙ v.count_is;
         within = omega (arith, length-append out (drop n buffer));
-        payload_is = take_at out (drop n buffer) n long ∙ v.out_is;
+        payload_is = take_at out (drop n buffer) r.len long ∙ v.out_is;
       };
       state_is = refl;
     }
 
--- an image, in a buffer of the call's length
+-- in a buffer of the call's length
 module _ (w : Bytes → Written) (same-long : (buffer : Bytes) → length (w buffer).buffer ≡ length buffer) (n most : ℕ) (state : State) {buffer : Bytes} {done : Wrote} {out : Bytes} (Lent-is : buffer ≡ lent most) (small : n ≤ most) (v : WroteAs (w (take n buffer)) done out) where
-  pub image-shown : ShownTold (paging (w (lent n)) state) state (record { answer = done.answer; count = done.count; len = n }) (out ++ drop n buffer)
-  image-shown =
+  pub lent-shown : {r : Shown} → ShownOf done n r → ShownTold (paging (w (lent n)) state) state r (out ++ drop n buffer)
+  lent-shown u =
       let e : take n buffer ≡ lent n = ap (take n) Lent-is ∙ front n most 238 small in
-      front-shown (w (lent n)) state n buffer (subst (λ (x : Bytes). WroteAs (w x) done out) e v) (same-long (lent n) ∙ length-replicate {A = ℕ} n 238)
+      front-shown (w (lent n)) state n buffer (subst (λ (x : Bytes). WroteAs (w x) done out) e v) u (same-long (lent n) ∙ length-replicate {A = ℕ} n 238)
 
-  pub image-room : length (out ++ drop n buffer) ≤ most
-  image-room =
+  pub lent-room : length (out ++ drop n buffer) ≡ most
+  lent-room =
       let l : length buffer ≡ most = ap length Lent-is ∙ length-replicate {A = ℕ} most 238 in
       let k : length out ≡ n = ap length v.out_is ∙ same-long (take n buffer) ∙ length-take-le n buffer (omega arith) in
       omega (arith, length-append out (drop n buffer), length-drop n buffer)
 
--- that of a table
+-- an image of a table
 module _ (floor t n : ℕ) (b : Box) {buffer : Bytes} {done : Wrote} {out : Bytes} (Lent-is : buffer ≡ lent 262144) (small : n < 262145) (v : WroteAs (capture_image floor t b (take n buffer)) done out) where
-  pub capture-shown : ShownTold (told (Call.Capture t) n (record { box = b; floor = floor })) (record { box = b; floor = floor }) (record { answer = done.answer; count = done.count; len = n }) (out ++ drop n buffer)
+  pub capture-shown : {r : Shown} → ShownOf done n r → ShownTold (told (Call.Capture t) n (record { box = b; floor = floor })) (record { box = b; floor = floor }) r (out ++ drop n buffer)
   unfolding told
-  capture-shown = image-shown (capture_image floor t b) (captured-long floor t b) n 262144 (record { box = b; floor = floor }) Lent-is (long-in n small) v
+  capture-shown u = lent-shown (capture_image floor t b) (captured-long floor t b) n 262144 (record { box = b; floor = floor }) Lent-is (long-in n small) v u
 
-  pub capture-room : length (out ++ drop n buffer) ≤ 262144
-  capture-room = image-room (capture_image floor t b) (captured-long floor t b) n 262144 (record { box = b; floor = floor }) Lent-is (long-in n small) v
+  pub capture-room : length (out ++ drop n buffer) ≡ 262144
+  capture-room = lent-room (capture_image floor t b) (captured-long floor t b) n 262144 (record { box = b; floor = floor }) Lent-is (long-in n small) v
 
 -- ---- a page, shown
 
-pub as-which : (w v : Which) (a : Bounds) (first second third : ℕ) (state : State) (buffer : Bytes) {r : Wrote} {out : Bytes} → w ≡ v → WroteAs (scanned v a first second third state buffer) r out → WroteAs (scanned w a first second third state buffer) r out
-as-which w v a first second third state buffer {r} {out} e p = subst (λ (x : Which). WroteAs (scanned x a first second third state buffer) r out) (sym e) p
+-- the bounds of the arguments
+asked-behind : (o : Maybe (Bor Bytes)) → given o ≡ key_behind o
+asked-behind None = refl
+asked-behind (Some k) = refl
 
-module _ (w : Which) (s : Bytes) (a : Args) (state : State) {start end resume buffer : Bytes} {done : Wrote} {page' : Bytes}
-    (start_is : start ≡ bytes_at s a.fromat a.fromlen) (end_is : end ≡ bytes_at s a.toat a.tolen) (resume-is : resume ≡ bytes_at s a.resumeat a.resumelen)
-    (Lent-is : buffer ≡ lent 65535) (small : a.buffer < 65536)
-    (v : WroteAs (scanned w (bounds_of a.from start a.to end a.resume resume) a.first a.second a.third state (take a.buffer buffer)) done page') where
-  -- the definition's page, in a buffer of the call's length
-  abbrev asked : Written
-  asked = scanned w (bounds_in s a) a.first a.second a.third state (lent a.buffer)
+abbrev asked_by : Args → asked.Bounds
+asked_by a = record { start = a.from; end = a.to; resume = a.resume }
 
-  same : scanned w (bounds_of a.from start a.to end a.resume resume) a.first a.second a.third state (take a.buffer buffer) ≡ asked
-  same =
-      ap (λ (x : Bytes). scanned w (bounds_of a.from x a.to end a.resume resume) a.first a.second a.third state (take a.buffer buffer)) start_is
-      ∙ ap (λ (x : Bytes). scanned w (bounds_of a.from (bytes_at s a.fromat a.fromlen) a.to x a.resume resume) a.first a.second a.third state (take a.buffer buffer)) end_is
-      ∙ ap (λ (x : Bytes). scanned w (bounds_of a.from (bytes_at s a.fromat a.fromlen) a.to (bytes_at s a.toat a.tolen) a.resume x) a.first a.second a.third state (take a.buffer buffer)) resume-is
-      ∙ ap (λ (x : Bytes). scanned w (bounds_in s a) a.first a.second a.third state x) (ap (take a.buffer) Lent-is ∙ front a.buffer 65535 238 (short-in a.buffer small))
+abbrev pub bounds_in : Args → Bounds
+bounds_in a = record { from = key_behind a.from; to = key_behind a.to; resume = key_behind a.resume }
 
-  -- what is told is the front of the longer buffer
-  pub page-shown : ShownTold (paging asked state) state (record { answer = done.answer; count = done.count; len = a.buffer }) (page' ++ drop a.buffer buffer)
-  page-shown =
-      front-shown asked state a.buffer buffer (subst (λ (x : Written). WroteAs x done page') same v)
-      (scanned-long (bounds_in s a) a.first a.second a.third state (lent a.buffer) w ∙ length-replicate {A = ℕ} a.buffer 238)
+bounds-in : (a : Args) → bounds_of (asked_by a) ≡ bounds_in a
+bounds-in a = rw (asked-behind a.from, asked-behind a.to, asked-behind a.resume) refl
+
+-- what is told is the front of the longer buffer
+pub page-shown : (w : Bounds → Bytes → Written) (same-long : (x : Bounds) (buffer : Bytes) → length (w x buffer).buffer ≡ length buffer) (a : Args) (state : State) {buffer : Bytes} {done : Wrote} {r : Shown} {out : Bytes}
+    → buffer ≡ lent 65535 → a.buffer < 65536 → WroteAs (w (bounds_of (asked_by a)) (take a.buffer buffer)) done out → ShownOf done a.buffer r → ShownTold (paging (w (bounds_in a) (lent a.buffer)) state) state r (out ++ drop a.buffer buffer)
+page-shown w same-long a state {buffer} {done} {r} {out} Lent-is small v u =
+    lent-shown (w (bounds_in a)) (same-long (bounds_in a)) a.buffer 65535 state Lent-is (short-in a.buffer small) (subst (λ (x : Bounds). WroteAs (w x (take a.buffer buffer)) done out) (bounds-in a) v) u

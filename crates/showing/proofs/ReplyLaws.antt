@@ -11,33 +11,30 @@ use lib.ListN.{length}
 use lib.Dec.{leb, ltb, eqb}
 use borrow.Author.Tests.{le-leb}
 use Rattle.seqs.proofs.Tests.{and_right}
+use Rattle.std.specs.Prelude.{None, Some, Ok, Err}
 use Rattle.forms.specs.Bytes.{Bytes}
+use Rattle.rules.specs.Outcomes.{outcome}
 use Rattle.forms.specs.Key.{Key, key_form}
 use Rattle.forms.specs.Row.{Row, row_form}
 use Rattle.forms.proofs.KeyFormLaws.{key-bounds}
 use Rattle.forms.proofs.RowLaws.{row-bounds}
-use Rattle.rules.specs.declared.answers.Answer.{Answer}
-use Rattle.rules.specs.declared.answers.Answer.TheVariants.{Accepted, No, Held}
+use Rattle.rules.specs.Answers.{Answer, Accepted, No, Held, Reply, refused, answer_of, if_passed}
 use Rattle.rules.specs.declared.records.Kind.{Kind}
 use Rattle.rules.specs.declared.records.Kind.TheVariants.{Put, Delete, Rollback}
 use Rattle.rules.specs.declared.records.Record.{Record}
-use Rattle.rules.specs.Answers.{Reply, refused, answer_of, if_passed}
 use Rattle.rules.specs.Box.{Box, Lock, Default, eq_kind, lock_of}
 use Rattle.rules.specs.Sound.{sound_record, sound_lock}
 use Rattle.rules.specs.Read.{show_if, show_row, Examined, one_record, walk, examine}
 use Rattle.rules.specs.Intent.{lock_if, unless_above, judge_lock, intent_at}
-use Rattle.reads.specs.declared.seen.RowSeen.{RowSeen}
-use Rattle.reads.specs.declared.seen.RowSeen.TheVariants as seen
-use Rattle.reads.specs.declared.seen.LockSeen.{LockSeen}
-use Rattle.reads.specs.declared.seen.LockSeen.TheVariants as pointed
-use Rattle.reads.specs.Seen.{shown_lock, seen_in, SeenBelow, SeenAs, pointed_in, PointedBelow, PointedAs}
+use Rattle.reads.specs.Seen.{RowSeen, LockSeen, shown_lock, seen_in, SeenBelow, SeenAs, pointed_in, PointedBelow, PointedAs}
 use Rattle.reads.specs.Parts.{RowPart, PrimaryPart, row_shown, primary_shown}
 use Rattle.traces.specs.Put as put
 use Rattle.traces.specs.Payloads.{lock_payload, read_payload, intent_payload}
 use Rattle.traces.proofs.FormLaws.{length-lock}
 use Rattle.showing.specs.Told.{Writes}
-use Rattle.showing.specs.Replying.{seen_answer, seen_payload, pointed_answer, pointed_payload}
-use Rattle.showing.specs.Ran.{ShownAs}
+use Rattle.showing.specs.Replying.{seen_payload, pointed_payload}
+use Rattle.showing.specs.Shows.{ShownAs}
+use Rattle.showing.specs.declared.shown.Shown.{Shown}
 use Rattle.showing.proofs.TellLaws.{put-shown}
 
 -- ---- how long the payloads are
@@ -119,60 +116,58 @@ intent-short k m b = after-steps LockShort refused-lock _ _ (judge-short m (lock
 -- ---- a reply, told
 
 -- what is put for one case of an answer is shown for the answer
-pub seen-shown : (row : Bytes) (s t : RowSeen) (count : ℕ) {pay pay' : Bytes} {n : ℕ} → s ≡ t → length (seen_payload s row) ≤ length pay → Writes (seen_payload t row) pay n pay'
-    → ShownAs (seen_answer s) count (seen_payload s row) (record { answer = seen_answer t; count = count; len = n }) pay'
-seen-shown row s t count {pay} {pay'} {n} e h v =
-    subst (λ (x : RowSeen). length (seen_payload x row) ≤ length pay → ShownAs (seen_answer x) count (seen_payload x row) (record { answer = seen_answer t; count = count; len = n }) pay') (sym e)
-    (λ g. put-shown (seen_answer t) count g v) h
+pub seen-shown : (row : Bytes) (s t : RowSeen) (count : ℕ) {pay pay' : Bytes} {r : Shown} → s ≡ t → outcome r.answer ≡ outcome t → r.count ≡ count → length (seen_payload s row) ≤ length pay → Writes (seen_payload t row) pay r.len pay'
+    → ShownAs (outcome s) count (seen_payload s row) r pay'
+seen-shown row s t count {pay} {pay'} {r} e a c h v =
+    subst (λ (x : RowSeen). length (seen_payload x row) ≤ length pay → ShownAs (outcome x) count (seen_payload x row) r pay') (sym e) (λ g. put-shown a c g v) h
 
-pub pointed-shown : (primary : Bytes) (s t : LockSeen) {pay pay' : Bytes} {n : ℕ} → s ≡ t → length (pointed_payload s primary) ≤ length pay → Writes (pointed_payload t primary) pay n pay'
-    → ShownAs (pointed_answer s) 0 (pointed_payload s primary) (record { answer = pointed_answer t; count = 0; len = n }) pay'
-pointed-shown primary s t {pay} {pay'} {n} e h v =
-    subst (λ (x : LockSeen). length (pointed_payload x primary) ≤ length pay → ShownAs (pointed_answer x) 0 (pointed_payload x primary) (record { answer = pointed_answer t; count = 0; len = n }) pay') (sym e)
-    (λ g. put-shown (pointed_answer t) 0 g v) h
+pub pointed-shown : (primary : Bytes) (s t : LockSeen) {pay pay' : Bytes} {r : Shown} → s ≡ t → outcome r.answer ≡ outcome t → r.count ≡ 0 → length (pointed_payload s primary) ≤ length pay → Writes (pointed_payload t primary) pay r.len pay'
+    → ShownAs (outcome s) 0 (pointed_payload s primary) r pay'
+pointed-shown primary s t {pay} {pay'} {r} e a c h v =
+    subst (λ (x : LockSeen). length (pointed_payload x primary) ≤ length pay → ShownAs (outcome x) 0 (pointed_payload x primary) r pay') (sym e) (λ g. put-shown a c g v) h
 
 -- a lock whose primary has a length byte
 pub lock-put : (primary : Bytes) {b pay pay' : Bytes} {n : ℕ} → length primary ≤ 255 → put.Put (leb (length primary) 255 && put.room b pay) b pay n pay' → Writes b pay n pay'
 lock-put primary {b} {pay} {pay'} {n} h v = subst (λ (f : Bool). put.Put (f && put.room b pay) b pay n pay') (le-leb (length primary) 255 h) v
 
 module _ {want : Reply Row} {area : Bytes} {s : RowSeen} (v : SeenAs want area s) where
-  pub seen-answer : seen_answer s ≡ answer_of want
+  pub seen-answer : outcome s ≡ answer_of want
   seen-answer = by-case s ∙ ap (λ (x : Reply Row). answer_of x) v.is
     where
-      by-case : (q : RowSeen) → seen_answer q ≡ answer_of (seen_in area q)
-      by-case seen.Nothing = refl
-      by-case (seen.Row at len) = refl
-      by-case (seen.Refused a) = refl
+      by-case : (q : RowSeen) → outcome q ≡ answer_of (seen_in area q)
+      by-case (Ok None) = refl
+      by-case (Ok (Some p)) = refl
+      by-case (Err r) = refl
 
   pub seen-payload : {row : Bytes} → RowPart area s row → seen_payload s row ≡ read_payload want
   unfolding read_payload
   seen-payload {row} p = by-case s p.row v.within ∙ ap read_payload v.is
     where
       by-case : (q : RowSeen) → (SeenBelow (length area) q → row ≡ row_shown (seen_in area q)) → SeenBelow (length area) q → seen_payload q row ≡ read_payload (seen_in area q)
-      by-case seen.Nothing f h = refl
-      by-case (seen.Row at len) f h = ap (λ (x : Bytes). 1 ∷ x) (f h)
-      by-case (seen.Refused a) f h = refl
+      by-case (Ok None) f h = refl
+      by-case (Ok (Some p)) f h = ap (λ (x : Bytes). 1 ∷ x) (f h)
+      by-case (Err r) f h = refl
 
   pub row_fits : {row : Bytes} {n : ℕ} → RowPart area s row → RowShort want → 256 ≤ n → length (seen_payload s row) ≤ n
   row_fits p h g = omega (arith, ap length (seen-payload p))
 
 module _ {want : Reply Lock} {area : Bytes} {s : LockSeen} (v : PointedAs want area s) where
-  pub pointed-answer : pointed_answer s ≡ answer_of want
+  pub pointed-answer : outcome s ≡ answer_of want
   pointed-answer = by-case s ∙ ap (λ (x : Reply Lock). answer_of x) v.is
     where
-      by-case : (q : LockSeen) → pointed_answer q ≡ answer_of (pointed_in area q)
-      by-case pointed.Nothing = refl
-      by-case (pointed.Lock l) = refl
-      by-case (pointed.Refused a) = refl
+      by-case : (q : LockSeen) → outcome q ≡ answer_of (pointed_in area q)
+      by-case (Ok None) = refl
+      by-case (Ok (Some l)) = refl
+      by-case (Err r) = refl
 
   pub pointed-payload : {primary : Bytes} → PrimaryPart area s primary → pointed_payload s primary ≡ intent_payload want
   unfolding intent_payload
   pointed-payload {primary} p = by-case s p.primary v.within ∙ ap intent_payload v.is
     where
       by-case : (q : LockSeen) → (PointedBelow (length area) q → primary ≡ primary_shown (pointed_in area q)) → PointedBelow (length area) q → pointed_payload q primary ≡ intent_payload (pointed_in area q)
-      by-case pointed.Nothing f h = refl
-      by-case (pointed.Lock l) f h = ap (λ (x : Bytes). lock_payload l.txn x l.start l.ttl l.kind) (f h)
-      by-case (pointed.Refused a) f h = refl
+      by-case (Ok None) f h = refl
+      by-case (Ok (Some l)) f h = ap (λ (x : Bytes). lock_payload l.txn x l.start l.ttl l.kind) (f h)
+      by-case (Err r) f h = refl
 
   -- a primary that is handed back is short enough for its length byte
   pub primary_short : {primary : Bytes} → LockShort want → PrimaryPart area s primary → length primary ≤ 255
@@ -180,11 +175,11 @@ module _ {want : Reply Lock} {area : Bytes} {s : LockSeen} (v : PointedAs want a
   primary_short {primary} h p = by-case s p.primary v.within (subst LockShort (sym v.is) h)
     where
       by-case : (q : LockSeen) → (PointedBelow (length area) q → primary ≡ primary_shown (pointed_in area q)) → PointedBelow (length area) q → LockShort (pointed_in area q) → length primary ≤ 255
-      by-case pointed.Nothing f g k = omega (arith, ap length (f g))
-      by-case (pointed.Lock l) f g k =
+      by-case (Ok None) f g k = omega (arith, ap length (f g))
+      by-case (Ok (Some l)) f g k =
           let x : Lock = shown_lock area l in
           omega (arith, ap length (f g), length-lock x.txn x.primary x.start x.ttl x.kind)
-      by-case (pointed.Refused a) f g k = omega (arith, ap length (f g))
+      by-case (Err r) f g k = omega (arith, ap length (f g))
 
   pub lock-fits : {primary : Bytes} {n : ℕ} → PrimaryPart area s primary → LockShort want → 256 ≤ n → length (pointed_payload s primary) ≤ n
   lock-fits p h g = omega (arith, ap length (pointed-payload p))

@@ -6,32 +6,28 @@ use mathlib.Core.Path.{◌≡◌, sym, ap, subst}
 use lib.ListN.{length, take}
 use lib.Seq.{length-take-le}
 use Rattle.forms.specs.Bytes.{Bytes}
-use Rattle.forms.specs.Key.{Key}
-use Rattle.rules.specs.declared.answers.Answer.{Answer}
-use Rattle.rules.specs.Answers.{number, holder}
-use Rattle.rules.specs.Box.{Box}
+use Rattle.rules.specs.Outcomes.{outcome}
+use Rattle.rules.specs.Answers.{Answer, number, holder}
 use Rattle.rules.specs.Calls.{State}
-use Rattle.rules.specs.Read.{examine}
-use Rattle.rules.specs.Intent.{intent_at}
 use Rattle.traces.specs.declared.args.Args.{Args}
 use Rattle.traces.specs.declared.op.ShowOp.{ShowOp}
 use Rattle.traces.specs.declared.op.Op.{Op}
 use Rattle.traces.specs.Ops.{is_long}
-use Rattle.traces.specs.Places.{buffer_below}
+use Rattle.traces.specs.Taken.{buffer_below}
 use Rattle.traces.specs.Args.{call_as}
-use Rattle.traces.specs.Payloads.{read_payload, intent_payload}
 use Rattle.traces.specs.Answers.{answer_bytes}
 use Rattle.traces.proofs.FormLaws.{length-answer}
 use Rattle.store.specs.declared.table.Store.{Store}
 use Rattle.store.specs.View.{state_shown}
 use Rattle.store.specs.Made.{Made}
 use Rattle.showing.specs.Told.{Told, told, told_bytes, Writes}
-use Rattle.showing.specs.Ran.{RanAs, ShownAs, ShownReply, ShownTold, longest}
-use Rattle.showing.specs.declared.ran.Shown.{Shown}
+use Rattle.showing.specs.Ran.{RanAs, longest}
+use Rattle.showing.specs.Shows.{ShownAs, ShownTold}
+use Rattle.showing.specs.declared.shown.Shown.{Shown}
 use Rattle.showing.proofs.TellLaws.{written, written_count}
 
 -- what is shown is told
-pub told-as : {a : Answer} {count : ℕ} {payload : Bytes} {r : Shown} {buffer out out' : Bytes} {n : ℕ} → ShownAs a count payload r buffer → Writes (answer_bytes r.answer r.count (take r.len buffer)) out n out'
+pub told-as : {a : Answer} {count : ℕ} {payload : Bytes} {r : Shown} {buffer out out' : Bytes} {n : ℕ} → ShownAs a count payload r buffer → Writes (answer_bytes (outcome r.answer) r.count (take r.len buffer)) out n out'
     → Writes (answer_bytes a count payload) out n out'
 told-as {a} {count} {r = r} {buffer = buffer} {out = out} {out' = out'} {n = n} p w =
     let x : Writes (answer_bytes a r.count (take r.len buffer)) out n out' = subst (λ (x : Answer). Writes (answer_bytes x r.count (take r.len buffer)) out n out') p.answer_is w in
@@ -45,7 +41,7 @@ ran-told t {out = out} m e short length_is w =
     record { made = m; shown = e; put = written h w; within = omega (arith, written_count h w) }
 
 -- what is shown, once it is told
-pub showed : (t : Told) {st : Store} {area : Bytes} {r : Shown} {buffer out out' : Bytes} {n : ℕ} → Made st area → ShownTold t (state_shown st area) r buffer → length buffer ≤ 262144 → longest ≤ length out → Writes (answer_bytes r.answer r.count (take r.len buffer)) out n out'
+pub showed : (t : Told) {st : Store} {area : Bytes} {r : Shown} {buffer out out' : Bytes} {n : ℕ} → Made st area → ShownTold t (state_shown st area) r buffer → length buffer ≤ 262144 → longest ≤ length out → Writes (answer_bytes (outcome r.answer) r.count (take r.len buffer)) out n out'
     → RanAs t out (record { store = st; len = n }) area out'
 showed t {r = r} {buffer = buffer} m v short length_is w =
     let p = v.told in
@@ -58,12 +54,5 @@ pub shown-small : (a : Args) {op : ShowOp} → a.op ≡ Op.Shows op → a.buffer
 shown-small a e h = subst (λ (x : Op). a.buffer < buffer_below (is_long x)) e h
 
 -- a call of this op, shown
-pub by-show : (s : Bytes) (a : Args) (state : State) (o op : ShowOp) {r : Shown} {buffer : Bytes} → o ≡ op → ShownTold (told (call_as (Op.Shows op) s a) a.buffer state) state r buffer → ShownTold (told (call_as (Op.Shows o) s a) a.buffer state) state r buffer
-by-show s a state o op {r} {buffer} e v = subst (λ (x : ShowOp). ShownTold (told (call_as (Op.Shows x) s a) a.buffer state) state r buffer) (sym e) v
-
--- what is shown of a key is shown of the key that the arguments say
-pub read_of : (floor m : ℕ) (b : Box) {k k' : Key} {r : Shown} {buffer : Bytes} → k ≡ k' → ShownReply read_payload (examine floor k m b).count (examine floor k m b).reply r buffer → ShownReply read_payload (examine floor k' m b).count (examine floor k' m b).reply r buffer
-read_of floor m b {r = r} {buffer = buffer} e v = subst (λ (x : Key). ShownReply read_payload (examine floor x m b).count (examine floor x m b).reply r buffer) e v
-
-pub intent-of : (m : ℕ) (b : Box) {k k' : Key} {r : Shown} {buffer : Bytes} → k ≡ k' → ShownReply intent_payload 0 (intent_at k m b) r buffer → ShownReply intent_payload 0 (intent_at k' m b) r buffer
-intent-of m b {r = r} {buffer = buffer} e v = subst (λ (x : Key). ShownReply intent_payload 0 (intent_at x m b) r buffer) e v
+pub by-show : (a : Args) (state : State) (o op : ShowOp) {r : Shown} {buffer : Bytes} → o ≡ op → ShownTold (told (call_as (Op.Shows op) a) a.buffer state) state r buffer → ShownTold (told (call_as (Op.Shows o) a) a.buffer state) state r buffer
+by-show a state o op {r} {buffer} e v = subst (λ (x : ShowOp). ShownTold (told (call_as (Op.Shows x) a) a.buffer state) state r buffer) (sym e) v

@@ -2,24 +2,22 @@
 -- Assumes nothing.
 use Prim.Native.Nat.{ℕ, ◌≤◌}
 use native.Mathlib.Omega.{arith}
-use mathlib.Core.Path.{◌≡◌, refl, sym, ◌∙◌, ap, subst}
-use mathlib.Core.Bool.{Bool, true, false}
+use mathlib.Core.Path.{◌≡◌, sym, ◌∙◌, ap, subst}
+use mathlib.Core.Bool.{Bool, true}
 use lib.ListN.{length, take, drop, length-append}
 use lib.Seq.{take_at}
-use borrow.Author.Tests.{le-leb, leb-true}
+use borrow.Author.Tests.{le-leb}
 use Rattle.forms.specs.Bytes.{Bytes}
-use Rattle.rules.specs.declared.answers.Holder.{Holder}
-use Rattle.rules.specs.declared.answers.Answer.{Answer}
-use Rattle.rules.specs.Answers.{number, holder}
+use Rattle.rules.specs.Answers.{Answer}
+use Rattle.rules.specs.Outcomes.{outcome}
 use Rattle.rules.specs.declared.figures.Stats.{Stats}
 use Rattle.rules.specs.declared.figures.Marks.{Marks}
-use Rattle.traces.specs.Put.{Put, room, length_if}
+use Rattle.traces.specs.Put.{Put}
 use Rattle.traces.specs.Payloads.{stats_payload, marks_payload}
-use Rattle.traces.specs.Answers.{answer_fields, answer_bytes}
 use Rattle.traces.proofs.PutLaws.{length-numbers}
 use Rattle.showing.specs.Told.{Writes}
-use Rattle.showing.specs.Ran.{ShownAs}
-use Rattle.showing.specs.declared.ran.Shown.{Shown}
+use Rattle.showing.specs.Shows.{ShownAs}
+use Rattle.showing.specs.declared.shown.Shown.{Shown}
 
 -- ---- what fits is written
 
@@ -36,33 +34,18 @@ module _ {b s : Bytes} {r : ℕ} {t : Bytes} where
       ap (take r) (written h v).is
       ∙ take_at b (drop (length b) s) r (sym (written_count h v))
 
-  -- and so it is what is shown
-  pub put-shown : (a : Answer) (count : ℕ) → length b ≤ length s → Writes b s r t → ShownAs a count b (record { answer = a; count = count; len = r }) t
-  put-shown a count h v = record {
-    answer_is = refl;
-    count_is = refl;
-    within = omega (arith, written_count h v, ap length (written h v).is, length-append b (drop (length b) s));
-    payload_is = written-front h v;
-  }
+-- and so it is what is shown
+pub put-shown : {a : Answer} {count : ℕ} {b s t : Bytes} {r : Shown} → outcome r.answer ≡ a → r.count ≡ count → length b ≤ length s → Writes b s r.len t → ShownAs a count b r t
+put-shown {b = b} {s = s} e c h v = record {
+  answer_is = e;
+  count_is = c;
+  within = omega (arith, written_count h v, ap length (written h v).is, length-append b (drop (length b) s));
+  payload_is = written-front h v;
+}
 
 -- the same, said in other words
 pub shown-as : {a a' : Answer} {n n' : ℕ} {p p' : Bytes} {r : Shown} {buffer : Bytes} → a ≡ a' → n ≡ n' → p ≡ p' → ShownAs a n p r buffer → ShownAs a' n' p' r buffer
 shown-as e c f v = record { answer_is = v.answer_is ∙ e; count_is = v.count_is ∙ c; within = v.within; payload_is = v.payload_is ∙ f }
-
--- what counts as written lies in the buffer
-pub within : {b s : Bytes} {r : ℕ} {t : Bytes} → Writes b s r t → r ≤ length s
-within {b} {s} {r} v = omega (arith, v.count, counts (room b s) refl)
-  where
-    counts : (f : Bool) → room b s ≡ f → length_if f b ≤ length s
-    counts true e = leb-true (length b) (length s) e
-    counts false e = omega arith
-
--- ---- an answer
-
--- the number and the holder are the answer's
-pub tell-as : (a : Answer) (count : ℕ) (p : Bytes) {n : ℕ} {h : Holder} {out out' : Bytes} {r : ℕ} → n ≡ number a → h ≡ holder a → Writes (answer_fields n h count p) out r out' → Writes (answer_bytes a count p) out r out'
-tell-as a count p {n} {h} {out} {out'} {r} e f w =
-    subst (λ (m : ℕ). Writes (answer_fields m (holder a) count p) out r out') e (subst (λ (g : Holder). Writes (answer_fields n g count p) out r out') f w)
 
 -- ---- statistics and marks: 15 numbers, and two
 

@@ -1,5 +1,5 @@
 -- The definitions of `showing`, in the order in which they build on each other.
 pub mod Told
 pub mod Replying
-pub mod Paging
+pub mod Shows
 pub mod Ran

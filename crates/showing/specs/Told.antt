@@ -3,9 +3,7 @@
 use Rattle.std.specs.Prelude.{ℕ, List, [], ◌∷◌, ◌++◌, replicate}
 use Rattle.std.proofs.Math.Option.{Option, none, some}
 use Rattle.forms.specs.Bytes.{Bytes}
-use Rattle.rules.specs.declared.answers.Answer.{Answer}
-use Rattle.rules.specs.declared.answers.Answer.TheVariants.{Accepted, No}
-use Rattle.rules.specs.Answers.{Reply, answer_of}
+use Rattle.rules.specs.Answers.{Answer, Accepted, No, Reply, answer_of}
 use Rattle.rules.specs.Calls.{State, Ended, fresh_state}
 use Rattle.rules.specs.Read.{examine}
 use Rattle.rules.specs.Intent.{intent_at}

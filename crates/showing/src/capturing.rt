@@ -4,21 +4,21 @@ ghost use Rattle.store.specs.View.{state_shown};
 ghost use Rattle.showing.specs.Told.{told};
 ghost use Rattle.showing.specs.Ran.{CaptureAsks, RanAs};
 
-use crate::ran::Ran;
-use crate::telling::tell;
+use crate::shown::written;
 use store::{AREA, Store};
 
 // "the call is lent a buffer of that many bytes, each 0xEE before the call"; it is the front of an array of the most that may be lent.
-pub fn run_capture(store: Store, area: &[u8; AREA], table: u32, len: usize, out: &mut [u8]) -> Ran
-    requires { CaptureAsks store area.now len out.old }
-    ensures { RanAs (told (Call.Capture table) len (state_shown store area.now)) out.old result area.now out.new }
+pub fn run_capture(
+    store: &Store,
+    area: &[u8; AREA],
+    table: u32,
+    len: usize,
+    out: &mut [u8],
+) -> usize
+    requires { CaptureAsks store.now area.now len out.old }
+    ensures { RanAs (told (Call.Capture table) len (state_shown store.now area.now)) out.old (record { store = store.now; len = result }) area.now out.new }
 {
     let mut image = [0xEEu8; 262144];
     let done = captures::capture_snapshot_table(store, area, table, &mut image[..len]);
-    let answer = done.answer;
-    let told = tell(out, answer, done.count as u64, &image[..len]);
-    Ran {
-        store: store,
-        len: told,
-    }
+    written(done, len).tell(&image, out)
 }

@@ -4,15 +4,10 @@
 #![tactic(auto)]
 
 pub mod capturing;
-pub mod paging;
-pub mod parts;
-pub mod ran;
 pub mod replying;
+pub mod shown;
 pub mod shows;
-pub mod telling;
 
 pub use capturing::run_capture;
-pub use parts::part;
-pub use ran::Ran;
+pub use shown::{Shown, written};
 pub use shows::run_shown;
-pub use telling::{tell, tell_plain};

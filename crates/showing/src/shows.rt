@@ -3,59 +3,54 @@ ghost use Rattle.traces.specs.declared.op.Op.{Op};
 ghost use Rattle.traces.specs.Args.{call_as};
 ghost use Rattle.store.specs.View.{state_shown};
 ghost use Rattle.showing.specs.Told.{told};
-ghost use Rattle.showing.specs.Ran.{RunAsks, RanAs, ShowAsks, ShownTold};
+ghost use Rattle.showing.specs.Ran.{RunAsks, RanAs, ShowAsks};
+ghost use Rattle.showing.specs.Shows.{ShownTold};
 
-use crate::paging::{Which, show_page};
-use crate::parts::part;
-use crate::ran::{Ran, Shown};
 use crate::replying::{show_lock, show_marks, show_read, show_stats};
-use crate::telling::tell;
+use crate::shown::{Shown, written};
+use bounds::Bounds;
+use pages::{scan_conflicting_intents, scan_intent_page, scan_page};
 use store::{AREA, Store};
 use traces::{Args, ShowOp};
 
-// The payload of the call that the arguments say.
-fn show(
-    store: Store,
-    area: &[u8; AREA],
-    call: &[u8],
-    args: Args,
-    op: ShowOp,
-    payload: &mut [u8],
-) -> Shown
-    requires { ShowAsks store area.now call.now args payload.old }
-    ensures { ShownTold (told (call_as (Op.Shows op) call.now args) args.buffer (state_shown store area.now)) (state_shown store area.now) result payload.new }
+// The payload of the call that the arguments say. A page's lent buffer is the front of `payload`, and what is told is "the whole lent buffer as it
+// stands after the call, refused or not".
+fn show(store: &Store, area: &[u8; AREA], args: &Args, op: ShowOp, payload: &mut [u8]) -> Shown
+    requires { ShowAsks store.now area.now args.now payload.old }
+    ensures { ShownTold (told (call_as (Op.Shows op) args.now) args.now.buffer (state_shown store.now area.now)) (state_shown store.now area.now) result payload.new }
 {
-    let key = part(call, args.keyat, args.keylen);
+    let (a, b, c) = (args.first, args.second, args.third);
+    let bounds = Bounds {
+        start: args.from,
+        end: args.to,
+        resume: args.resume,
+    };
+    let n = args.buffer;
     match op {
-        ShowOp::Read => show_read(store, area, key, args.first, payload),
-        ShowOp::Page => show_page(store, area, call, args, Which::Rows, payload),
-        ShowOp::IntentPage => show_page(store, area, call, args, Which::Intents, payload),
-        ShowOp::ConflictingIntents => show_page(store, area, call, args, Which::Conflicts, payload),
-        ShowOp::OneIntent => show_lock(store, area, key, args.first, payload),
+        ShowOp::Read => show_read(store, area, args.key, a, payload),
+        ShowOp::Page => written(
+            scan_page(store, area, a, b, c, bounds, &mut payload[..n]),
+            n,
+        ),
+        ShowOp::IntentPage => written(
+            scan_intent_page(store, area, a, bounds, &mut payload[..n]),
+            n,
+        ),
+        ShowOp::ConflictingIntents => written(
+            scan_conflicting_intents(store, area, a, b, c, bounds, &mut payload[..n]),
+            n,
+        ),
+        ShowOp::OneIntent => show_lock(store, area, args.key, a, payload),
         ShowOp::Statistics => show_stats(store, area, payload),
         ShowOp::Marks => show_marks(store, area, payload),
     }
 }
 
 // "each 0xEE before the call"
-pub fn run_shown(
-    store: Store,
-    area: &[u8; AREA],
-    call: &[u8],
-    args: Args,
-    op: ShowOp,
-    out: &mut [u8],
-) -> Ran
-    requires { RunAsks store area.now call.now args (Op.Shows op) out.old }
-    ensures { RanAs (told (call_as (Op.Shows op) call.now args) args.buffer (state_shown store area.now)) out.old result area.now out.new }
+pub fn run_shown(store: &Store, area: &[u8; AREA], args: &Args, op: ShowOp, out: &mut [u8]) -> usize
+    requires { RunAsks store.now area.now args.now (Op.Shows op) out.old }
+    ensures { RanAs (told (call_as (Op.Shows op) args.now) args.now.buffer (state_shown store.now area.now)) out.old (record { store = store.now; len = result }) area.now out.new }
 {
     let mut payload = [0xEEu8; 65535];
-    let shown = show(store, area, call, args, op, &mut payload);
-    let answer = shown.answer;
-    let n = shown.len;
-    let len = tell(out, answer, shown.count, &payload[..n]);
-    Ran {
-        store: store,
-        len: len,
-    }
+    show(store, area, args, op, &mut payload).tell(&payload, out)
 }

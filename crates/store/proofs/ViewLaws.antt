@@ -2,7 +2,12 @@
 -- Assumes nothing.
 use Prim.Native.Nat.{ℕ, ◌+◌, ◌≤◌}
 use native.Mathlib.Omega.{arith}
-use mathlib.Core.Path.{◌≡◌}
+use mathlib.Core.Path.{◌≡◌, refl, subst}
+use lib.ListN.{length}
+use Rattle.std.specs.Prelude.{Some, None, IsSome}
+use Rattle.std.specs.Prelude.{Option as Maybe}
+use Rattle.forms.specs.Places.{NumberAt}
+use Rattle.forms.proofs.NumberLaws.{number_short, number-value}
 use Rattle.forms.specs.Bytes.{Bytes}
 use Rattle.rules.specs.Box.{kind_in}
 use Rattle.store.specs.View.{eight_at, place_of, past, row_len, line_in}
@@ -16,6 +21,15 @@ use Rattle.store.specs.declared.table.Line.TheVariants.{Standing, Finished}
 use Rattle.store.specs.declared.views.LockView.{LockView}
 use Rattle.store.specs.declared.views.RecordView.{RecordView}
 use Rattle.store.specs.declared.views.LineView.TheVariants as view
+
+-- eight bytes that lie in the area are a number
+module _ (area : Bytes) (at : ℕ) (h : at + 8 ≤ length area) where
+  pub eight-there : (r : Maybe ℕ) → NumberAt 8 area at r → IsSome r
+  eight-there None e = absurd (omega (arith, number_short 8 area at e))
+  eight-there (Some v) e = refl
+
+  pub eight-is : {r : Maybe ℕ} {v : ℕ} → NumberAt 8 area at r → r ≡ Some v → v ≡ eight_at area at
+  eight-is e q = number-value (subst (NumberAt 8 area at) q e)
 
 -- every line has its two numbers
 pub past-numbers : (x : Line) → 16 ≤ past x

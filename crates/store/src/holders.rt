@@ -1,25 +1,25 @@
 // Who holds a lock: whether it is the call's own, and answer 7: who holds the key, since when, for how long and for what.
 ghost use Rattle.std.specs.Prelude.{◌≡◌};
 ghost use Rattle.forms.specs.Bytes.{Bytes};
+ghost use Rattle.rules.specs.Answers.{Held};
+ghost use Rattle.rules.specs.Outcomes.{refusal};
 ghost use Rattle.rules.specs.Box.{holder_of};
 ghost use Rattle.rules.specs.Calls.{owns};
 ghost use Rattle.store.specs.Views.{lock_in};
 
 use crate::views::LockView;
-use rules::{Answer, Holder};
+use rules::{Holder, Refusal};
 
 // "Answer 7 shall carry, besides transaction and start, the lock's time to live and kind, in every call that can give it." A holder has no
 // bytes of the area.
-pub fn held_by(l: LockView) -> Answer
-    ensures { (area : Bytes) → result ≡ Answer.Held (holder_of (lock_in area l)) }
+pub fn held_by(l: LockView) -> Refusal
+    ensures { (area : Bytes) → refusal result ≡ Held (holder_of (lock_in area l)) }
 {
-    let kind = l.kind;
-    let byte = rules::kind_byte(kind);
-    Answer::Held(Holder {
+    Refusal::Locked(Holder {
         txn: l.txn,
         start: l.start,
         ttl: l.ttl,
-        kind: byte,
+        kind: l.kind,
     })
 }
 
@@ -27,8 +27,5 @@ pub fn held_by(l: LockView) -> Answer
 pub fn owns(l: LockView, txn: u64, start: u64) -> bool
     ensures { (area : Bytes) → result ≡ owns txn start (lock_in area l) }
 {
-    if l.txn != txn {
-        return false;
-    }
-    l.start == start
+    l.txn == txn && l.start == start
 }

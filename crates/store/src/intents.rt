@@ -13,8 +13,6 @@ pub fn put_intent(out: &mut [u8], at: usize, area: &[u8], l: LockView) -> usize
     requires { StretchAsks area.now l.at l.len 26 at out.old }
     ensures { Laid at (l.len + 26) (lock_bytes (lock_in area.now l)) out.old result out.new }
 {
-    let from = l.at;
-    let e = from + l.len;
-    let kind = l.kind;
-    put_lock(out, at, l.txn, &area[from..e], l.start, l.ttl, kind)
+    let primary = &area[l.at..l.at + l.len];
+    put_lock(out, at, l.txn, primary, l.start, l.ttl, l.kind)
 }

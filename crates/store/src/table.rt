@@ -71,16 +71,9 @@ pub fn no_slot() -> Slot
 pub fn fresh() -> Store
     ensures { (area : Bytes) → length area ≡ 131072 → FreshStore result area }
 {
-    let s = no_slot();
-    let lines = [s; 1024];
     Store {
-        lines: lines,
-        load: Load {
-            lines: 0,
-            locks: 0,
-            defaults: 0,
-            bytes: 0,
-        },
+        lines: [no_slot(); 1024],
+        load: Load::NONE,
         top: 0,
         floor: 0,
     }
@@ -105,8 +98,7 @@ pub fn open(area: &[u8; AREA]) -> Store
 pub fn place_of(s: Slot) -> usize
     ensures { result ≡ place_of s }
 {
-    let at = s.at as usize;
-    at + at
+    2 * s.at as usize
 }
 
 // How many pairs of bytes `top` bytes take: the next stretch begins after them.

@@ -5,8 +5,9 @@ ghost use Rattle.store.specs.View.{eight_at, past, place_of, key_of};
 ghost use Rattle.store.specs.Views.{lock_view, record_view, view_of};
 
 use crate::table::{Line, LockSlot, RecordSlot, Slot, place_of};
-use forms::{Order, Width};
+use forms::Width;
 use rules::Kind;
+use std::cmp::Ordering;
 
 // A standing intent. Its primary is the `len` bytes of the area from `at`, a Put's row the `rowlen` bytes from `rowat`.
 #[derive(Clone, Copy)]
@@ -41,8 +42,7 @@ pub fn eight_at(area: &[u8], at: usize) -> u64
     requires { at + 8 ≤ length area.now }
     ensures { result ≡ eight_at area.now at }
 {
-    let n = forms::number_at(area, at, Width::Eight);
-    n.value
+    forms::number_at(area, at, Width::Eight).unwrap()
 }
 
 fn lock_view(l: LockSlot, area: &[u8], at: usize) -> LockView
@@ -53,14 +53,13 @@ fn lock_view(l: LockSlot, area: &[u8], at: usize) -> LockView
     let row = next + 8;
     let size = l.rowlen as usize;
     let mid = row + size;
-    let kind = l.kind;
     LockView {
         txn: eight_at(area, at),
         start: eight_at(area, next),
         ttl: eight_at(area, mid),
         at: mid + 8,
         len: l.plen as usize,
-        kind: kind,
+        kind: l.kind,
         rowat: row,
         rowlen: size,
     }
@@ -71,11 +70,10 @@ fn record_view(w: RecordSlot, area: &[u8], at: usize) -> RecordView
     ensures { result ≡ record_view area.now at w }
 {
     let next = at + 8;
-    let kind = w.kind;
     RecordView {
         stamp: eight_at(area, at),
         start: eight_at(area, next),
-        kind: kind,
+        kind: w.kind,
         rowat: next + 8,
         rowlen: w.rowlen as usize,
     }
@@ -86,21 +84,19 @@ pub fn view_of(s: Slot, area: &[u8]) -> LineView
     ensures { result ≡ view_of area.now s }
 {
     let at = place_of(s) + s.len as usize;
-    let line = s.line;
-    match line {
+    match s.line {
         Line::Standing(l) => LineView::Standing(lock_view(l, area, at)),
         Line::Finished(w) => LineView::Finished(record_view(w, area, at)),
     }
 }
 
 // How the key of a slot stands to `key`.
-pub fn slot_order(s: Slot, area: &[u8], key: &[u8]) -> Order
+pub fn slot_order(s: Slot, area: &[u8], key: &[u8]) -> Ordering
     requires { place_of s + s.len ≤ length area.now }
     ensures { result ≡ cmp (key_of area.now s) key.now }
 {
     let at = place_of(s);
-    let e = at + s.len as usize;
-    forms::compare(&area[at..e], key)
+    forms::compare(&area[at..at + s.len as usize], key)
 }
 
 // How many bytes a line has past its key.

@@ -2,6 +2,7 @@
 pub mod PutLaws
 pub mod FormLaws
 pub mod OpLaws
-pub mod ArgumentLaws
-pub mod ArgsLaws
-pub mod TraceWalkLaws
+pub mod TakenLaws
+pub mod CallLaws
+pub mod TraceLaws
+pub mod WalkLaws

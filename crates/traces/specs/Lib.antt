@@ -7,6 +7,6 @@ pub mod Arguments
 pub mod Calls
 pub mod Shapes
 pub mod Trace
-pub mod Places
+pub mod Taken
 pub mod Args
 pub mod Walk

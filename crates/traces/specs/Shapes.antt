@@ -1,30 +1,26 @@
 -- Which arguments each call has, as src/shape.rt says it.
 -- Assumes nothing.
 use Rattle.std.specs.Prelude.{ℕ, Bool, true, false}
-use Rattle.std.proofs.Math.Option.{Option, none, some}
 use Rattle.traces.specs.declared.op.ShowOp.{ShowOp}
 use Rattle.traces.specs.declared.op.ChangeOp.{ChangeOp}
 use Rattle.traces.specs.declared.op.AskOp.{AskOp}
 use Rattle.traces.specs.declared.op.Op.{Op}
 use Rattle.traces.specs.declared.shape.Shape.{Shape}
 
-abbrev pub no_shape : Shape
-no_shape = record { ok = false; op = Op.Shows ShowOp.Read; numbers = 0; kind = false; primary = false; key = false; row = false; page = false; rest = false }
-
 abbrev pub with_key : Op → ℕ → Bool → Shape
-with_key op n prewrite = record { ok = true; op = op; numbers = n; kind = prewrite; primary = prewrite; key = true; row = prewrite; page = false; rest = false }
+with_key op n prewrite = record { op = op; numbers = n; kind = prewrite; primary = prewrite; key = true; row = prewrite; page = false; rest = false }
 
 abbrev pub with_numbers : Op → ℕ → Shape
-with_numbers op n = record { ok = true; op = op; numbers = n; kind = false; primary = false; key = false; row = false; page = false; rest = false }
+with_numbers op n = record { op = op; numbers = n; kind = false; primary = false; key = false; row = false; page = false; rest = false }
 
 abbrev pub with_row : Op → ℕ → Shape
-with_row op n = record { ok = true; op = op; numbers = n; kind = false; primary = false; key = false; row = true; page = false; rest = false }
+with_row op n = record { op = op; numbers = n; kind = false; primary = false; key = false; row = true; page = false; rest = false }
 
 abbrev pub with_page : Op → ℕ → Shape
-with_page op n = record { ok = true; op = op; numbers = n; kind = false; primary = false; key = false; row = false; page = true; rest = false }
+with_page op n = record { op = op; numbers = n; kind = false; primary = false; key = false; row = false; page = true; rest = false }
 
 abbrev pub with_rest : Op → ℕ → Bool → Shape
-with_rest op n primary = record { ok = true; op = op; numbers = n; kind = false; primary = primary; key = false; row = false; page = false; rest = true }
+with_rest op n primary = record { op = op; numbers = n; kind = false; primary = primary; key = false; row = false; page = false; rest = true }
 
 abbrev pub shape_of : Op → Shape
 shape_of (Op.Shows ShowOp.Read) = with_key (Op.Shows ShowOp.Read) 1 false
@@ -47,7 +43,3 @@ shape_of (Op.Shows ShowOp.Statistics) = with_numbers (Op.Shows ShowOp.Statistics
 shape_of (Op.Shows ShowOp.Marks) = with_numbers (Op.Shows ShowOp.Marks) 0
 shape_of Op.Capture = with_numbers Op.Capture 1
 shape_of Op.Convert = with_rest Op.Convert 0 false
-
-abbrev pub shape_by : Option Op → Shape
-shape_by none = no_shape
-shape_by (some op) = shape_of op

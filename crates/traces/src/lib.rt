@@ -6,14 +6,16 @@
 pub mod answer;
 pub mod args;
 pub mod argument;
-pub mod groups;
+pub mod call;
 pub mod op;
 pub mod payload;
+pub mod reader;
 pub mod shape;
 pub mod trace;
 
 pub use answer::put_answer;
-pub use args::{Args, args_of};
+pub use args::Args;
+pub use call::args_of;
 pub use op::{AskOp, ChangeOp, Op, ShowOp, known_op};
 pub use payload::{put_lock, put_marks, put_nothing, put_row, put_stats};
-pub use trace::{Call, call_at, first_call, trace_in_form};
+pub use trace::{Calls, calls_in, trace_in_form};

@@ -1,7 +1,8 @@
-// The op bytes of the table of calls. An op byte without a line in known_op, here and in specs/Ops.antt, is unknown, and a trace that holds it is
+// The op bytes of the table of calls. An op byte without a line in op_of, here and in specs/Ops.antt, is unknown, and a trace that holds it is
 // out of form.
 ghost use Rattle.std.specs.Prelude.{◌≡◌};
-ghost use Rattle.traces.specs.Ops.{known_op, is_in, is_long};
+ghost use Rattle.traces.specs.Ops.{known_op, op_of, is_long};
+ghost use Rattle.traces.specs.Taken.{some_of};
 
 // The calls that show something and leave the store as it was, by their names in the table.
 #[derive(Clone, Copy)]
@@ -50,54 +51,42 @@ pub enum Op {
 pub(crate) fn is_long(op: Op) -> bool
     ensures { result ≡ is_long op }
 {
-    match op {
-        Op::Shows(_) => false,
-        Op::Changes(_) => false,
-        Op::OneStep => false,
-        Op::Asks(_) => false,
-        Op::Capture => true,
-        Op::Convert => true,
-    }
+    matches!(op, Op::Capture | Op::Convert)
 }
 
-fn is_in(x: u8, list: &[u8]) -> bool
-    ensures { result ≡ is_in x list.now }
+// The table of calls: the call of an op byte, if there is one.
+#[tactic(auto, unfolding(crate::specs::Ops::op_of))]
+pub fn op_of(byte: u8) -> Option<Op>
+    ensures { some_of result ≡ op_of byte }
 {
-    let mut i: usize = 0;
-    while i < list.len() {
-        if x == list[i] {
-            return true;
-        }
-        i += 1;
+    match byte {
+        1 => Some(Op::Shows(ShowOp::Read)),
+        2 => Some(Op::Shows(ShowOp::Page)),
+        3 => Some(Op::Shows(ShowOp::IntentPage)),
+        4 => Some(Op::Shows(ShowOp::ConflictingIntents)),
+        5 => Some(Op::Shows(ShowOp::OneIntent)),
+        6 => Some(Op::Changes(ChangeOp::Prewrite)),
+        7 => Some(Op::Changes(ChangeOp::PrewriteBatch)),
+        8 => Some(Op::Changes(ChangeOp::Commit)),
+        9 => Some(Op::Changes(ChangeOp::CommitBatch)),
+        10 => Some(Op::Changes(ChangeOp::Rollback)),
+        11 => Some(Op::Changes(ChangeOp::RollbackBatch)),
+        12 => Some(Op::OneStep),
+        13 => Some(Op::Changes(ChangeOp::Collect)),
+        17 => Some(Op::Asks(AskOp::Bone)),
+        18 => Some(Op::Asks(AskOp::Bones)),
+        32 => Some(Op::Changes(ChangeOp::Restore)),
+        33 => Some(Op::Shows(ShowOp::Statistics)),
+        34 => Some(Op::Shows(ShowOp::Marks)),
+        35 => Some(Op::Capture),
+        36 => Some(Op::Convert),
+        _ => None,
     }
-    false
 }
 
 // Whether the call of an op byte exists.
 pub fn known_op(byte: u8) -> bool
     ensures { result ≡ known_op byte }
 {
-    let known = [
-        1u8, // read
-        2, // page
-        3, // intent page
-        4, // conflicting intents
-        5, // one intent at a point
-        6, // prewrite
-        7, // prewrite of a batch
-        8, // commit
-        9, // commit of a key batch
-        10, // rollback
-        11, // rollback of a key batch
-        12, // one-step batch
-        13, // collection
-        17, // is bone n shown
-        18, // how many bones are shown
-        32, // restore
-        33, // statistics
-        34, // high-water marks
-        35, // write the image
-        36, // convert an old image
-    ];
-    is_in(byte, &known)
+    op_of(byte).is_some()
 }

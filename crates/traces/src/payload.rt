@@ -10,7 +10,7 @@ use rules::{Kind, Marks, Stats};
 pub fn put_nothing(out: &mut [u8]) -> usize
     ensures { Put (room nothing_payload out.old) nothing_payload out.old result out.new }
 {
-    if out.len() < 1 {
+    if out.is_empty() {
         return 0;
     }
     put_byte(out, 0, 0)
@@ -20,10 +20,7 @@ pub fn put_nothing(out: &mut [u8]) -> usize
 pub fn put_row(out: &mut [u8], row: &[u8]) -> usize
     ensures { Put (room (row_payload row.now) out.old) (row_payload row.now) out.old result out.new }
 {
-    if out.len() < 1 {
-        return 0;
-    }
-    if out.len() - 1 < row.len() {
+    if out.len() <= row.len() {
         return 0;
     }
     let a = put_byte(out, 0, 1);
@@ -34,10 +31,7 @@ pub fn put_row(out: &mut [u8], row: &[u8]) -> usize
 pub fn put_lock(out: &mut [u8], txn: u64, primary: &[u8], start: u64, ttl: u64, kind: Kind) -> usize
     ensures { Put (leb (length primary.now) 255 && room (lock_payload txn primary.now start ttl kind) out.old) (lock_payload txn primary.now start ttl kind) out.old result out.new }
 {
-    if 255 < primary.len() {
-        return 0;
-    }
-    if out.len() < primary.len() + 27 {
+    if 255 < primary.len() || out.len() < primary.len() + 27 {
         return 0;
     }
     let a = put_byte(out, 0, 1);
@@ -51,11 +45,9 @@ fn put_numbers(out: &mut [u8], values: &[u64]) -> usize
     if out.len() / 8 < values.len() {
         return 0;
     }
-    let mut at: usize = 0;
-    let mut i: usize = 0;
-    while i < values.len() {
-        at = put_digits(out, at, Width::Eight, values[i]);
-        i += 1;
+    let mut at = 0;
+    for value in values {
+        at = put_digits(out, at, Width::Eight, *value);
     }
     at
 }
@@ -91,6 +83,5 @@ pub fn put_stats(out: &mut [u8], stats: Stats) -> usize
 pub fn put_marks(out: &mut [u8], marks: Marks) -> usize
     ensures { Put (room (marks_payload marks) out.old) (marks_payload marks) out.old result out.new }
 {
-    let values = [marks.txn, marks.stamp];
-    put_numbers(out, &values)
+    put_numbers(out, &[marks.txn, marks.stamp])
 }

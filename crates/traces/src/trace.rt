@@ -1,109 +1,102 @@
-// A trace: "a 2-byte count of calls, then each call after its 2-byte length". It is judged whole, once; a cursor then walks it, and call_at
-// hands out the place of each call.
-ghost use Rattle.std.specs.Prelude.{◌≡◌, ◌≤◌, length};
-ghost use Rattle.traces.specs.Trace.{trace_form};
-ghost use Rattle.traces.specs.Walk.{CallAt, StretchAt, no_call, first_of};
+// A trace: "a 2-byte count of calls, then each call after its 2-byte length". It is judged whole, once; then its calls are handed out, one after
+// the other.
+ghost use Rattle.std.specs.Prelude.{◌≡◌, ◌+◌, IfSome, Some};
+ghost use Rattle.std.specs.Option.{is_some as tells};
+ghost use Rattle.forms.specs.Readers.{whole, is_some};
+ghost use Rattle.traces.specs.Trace.{call_length, framed, calls_from, trace_form};
+ghost use Rattle.traces.specs.Taken.{Takes, behind};
+ghost use Rattle.traces.specs.Walk.{Starts, framed_if};
 
-use crate::args::args_of;
-use forms::{Width, number_at};
+use crate::call::args_of;
+use crate::reader::Reader;
+use forms::Width;
 
-// Where a call's bytes lie; not ok, and zeros, where the bytes end before it does. The next call begins where it ends.
-#[derive(Clone, Copy)]
-pub struct Call {
-    pub ok: bool,
-    pub at: usize,
-    pub len: usize,
-}
-
-fn no_call() -> Call
-    ensures { result ≡ no_call }
-{
-    Call {
-        ok: false,
-        at: 0,
-        len: 0,
-    }
-}
-
-fn stretch_at(trace: &[u8], at: usize, len: usize) -> Call
-    requires { at ≤ length trace.now }
-    ensures { StretchAt trace.now at len result }
-{
-    if trace.len() - at < len {
-        return no_call();
-    }
-    Call { ok: true, at, len }
-}
-
-// "each call after its 2-byte length. A length of 65,535 is followed by a 4-byte length, which is then the call's own"
-pub fn call_at(trace: &[u8], at: usize) -> Call
-    ensures { CallAt trace.now at result }
-{
-    let n = number_at(trace, at, Width::Two);
-    if !n.ok {
-        return no_call();
-    }
-    let b = at + 2;
-    if n.value == 65535 {
-        let m = number_at(trace, b, Width::Four);
-        if !m.ok {
-            return no_call();
+impl<'a> Reader<'a> {
+    // "A length of 65,535 is followed by a 4-byte length, which is then the call's own"
+    fn call_length(&mut self) -> Option<u64>
+        ensures { Takes call_length (λ n. n) self.old.left.now result self.new.left.now }
+    {
+        let len = self.number(Width::Two)?;
+        if len == 65535 {
+            return self.number(Width::Four);
         }
-        return stretch_at(trace, b + 4, m.value as usize);
+        Some(len)
     }
-    stretch_at(trace, b, n.value as usize)
+
+    // "each call after its 2-byte length": the call's bytes.
+    fn framed(&mut self) -> Option<&'a [u8]>
+        ensures { Takes framed behind self.old.left.now result self.new.left.now }
+    {
+        let len = self.call_length()?;
+        self.stretch(len as usize)
+    }
 }
 
 // "The driver takes up to 262,144 bytes"
 const MOST: usize = 262144;
 
+// Reads every call, to the end of the trace.
+fn read_calls(trace: &[u8]) -> Option<()>
+    ensures { tells result ≡ is_some (whole calls_from trace.now) }
+{
+    let calls = Calls::of(trace)?;
+    let mut reader = calls.reader;
+    for _ in 0..calls.left {
+        args_of(reader.framed()?)?;
+    }
+    if reader.left.is_empty() {
+        Some(())
+    } else {
+        None
+    }
+}
+
 // "Not in form: .. an unknown op, bytes missing or left over in a call or after the last one, an empty input, more than 262,144 bytes."
 pub fn trace_in_form(trace: &[u8]) -> bool
     ensures { result ≡ trace_form trace.now }
 {
-    if MOST < trace.len() {
-        return false;
-    }
-    let n = number_at(trace, 0, Width::Two);
-    if !n.ok {
-        return false;
-    }
-    let mut at: usize = 2;
-    let mut left = n.value as usize;
-    while 0 < left {
-        let c = call_at(trace, at);
-        if !c.ok {
-            return false;
-        }
-        let b = c.at;
-        let e = b + c.len;
-        let a = args_of(&trace[b..e]);
-        if !a.ok {
-            return false;
-        }
-        at = e;
-        left -= 1;
-    }
-    at == trace.len()
+    trace.len() <= MOST && read_calls(trace).is_some()
 }
 
-// A place in a judged trace: where its next call begins, and how many are left.
+// The calls of a trace in form; none of any other.
+pub fn calls_in(trace: &[u8]) -> Option<Calls<'_>>
+    ensures form { tells result ≡ trace_form trace.now }
+    ensures calls { IfSome result (λ c. Starts trace.now (Some c)) }
+{
+    if trace_in_form(trace) {
+        Calls::of(trace)
+    } else {
+        None
+    }
+}
+
+// The calls of a trace that are still to come: their bytes, and how many they are.
 #[derive(Clone, Copy)]
-pub struct Cursor {
-    pub at: usize,
+pub struct Calls<'a> {
+    pub reader: Reader<'a>,
     pub left: usize,
 }
 
-// At the first call of a trace.
-pub fn first_call(trace: &[u8]) -> Cursor
-    ensures { result ≡ first_of trace.now }
-{
-    let n = number_at(trace, 0, Width::Two);
-    if !n.ok {
-        return Cursor { at: 0, left: 0 };
+impl<'a> Calls<'a> {
+    // All calls of a trace; none where it has no count.
+    pub fn of(trace: &'a [u8]) -> Option<Self>
+        ensures { Starts trace.now result }
+    {
+        let mut reader = Reader { left: trace };
+        let left = reader.number(Width::Two)? as usize;
+        Some(Calls { reader, left })
     }
-    Cursor {
-        at: 2,
-        left: n.value as usize,
+
+    // The bytes of the next call; none where no call is left, or the bytes end before it does.
+    pub fn next_call(&mut self) -> Option<&'a [u8]>
+        ensures call { Takes (framed_if self.old.left) behind self.old.reader.left.now result self.new.reader.left.now }
+        ensures left { IfSome result (λ call. self.old.left ≡ self.new.left + 1) }
+    {
+        if self.left == 0 {
+            return None;
+        }
+        let call = self.reader.framed()?;
+        self.left -= 1;
+        Some(call)
     }
 }

@@ -1,32 +1,38 @@
 -- What the lines of a key so far say to a page.
 -- Assumes nothing.
-use Rattle.std.specs.Prelude.{ℕ, Bool, true, false, ◌&&◌, ◌||◌, not, [], leb, ltb}
-use Rattle.rules.specs.declared.answers.Answer.TheVariants.{Accepted}
+use Rattle.std.specs.Prelude.{ℕ, Bool, true, false, ◌||◌, not, [], leb, ltb, Option, Some, None}
+use Rattle.rules.specs.Answers.{Answer, Accepted, need_own}
+use Rattle.rules.specs.Outcomes.{outcome}
 use Rattle.rules.specs.declared.records.Kind.{Kind}
 use Rattle.rules.specs.declared.records.Kind.TheVariants.{Put, Delete, Rollback}
-use Rattle.rules.specs.Answers.{need_own}
 use Rattle.rules.specs.Box.{holder_of}
 use Rattle.store.specs.declared.table.Slot.{Slot}
 use Rattle.store.specs.declared.views.LineView.{LineView}
 use Rattle.store.specs.declared.views.LineView.TheVariants as view
 use Rattle.store.specs.Views.{lock_in}
-use Rattle.turns.specs.declared.dues.Scan.{Scan}
-use Rattle.turns.specs.declared.dues.Scan.TheVariants.{Rows, Intents, Conflicts}
-use Rattle.turns.specs.declared.dues.Listed.{Listed}
-use Rattle.turns.specs.declared.dues.Listed.TheVariants.{Nothing, Line}
-use Rattle.turns.specs.declared.dues.Due.{Due}
+use Rattle.turns.specs.declared.asked.Scan.{Scan}
+use Rattle.turns.specs.declared.asked.Scan.TheVariants.{Rows, Intents, Conflicts}
+use Rattle.turns.specs.declared.dues as code
+
+-- the answer of the key's lock to a read, and the line that would be listed
+pub record Due : Type 0 where
+  pub lets : Answer
+  pub line : Option Slot
+
+abbrev pub due_in : code.Due.Due → Due
+due_in d = record { lets = outcome d.lets; line = d.line }
 
 abbrev pub no_due : Due
-no_due = record { lets = Accepted; line = Nothing }
+no_due = record { lets = Accepted; line = None }
 
 -- ---- a row: "lock with start at or below the moment, 7; then records from the newest at or below the moment downward"
 
-abbrev pub list_by : Kind → Slot → Listed → Listed
-list_by Put s old = Line s
-list_by Delete s old = Nothing
+abbrev pub list_by : Kind → Slot → Option Slot → Option Slot
+list_by Put s old = Some s
+list_by Delete s old = None
 list_by Rollback s old = old
 
-abbrev pub list_if : Bool → Kind → Slot → Listed → Listed
+abbrev pub list_if : Bool → Kind → Slot → Option Slot → Option Slot
 list_if true kind s old = list_by kind s old
 list_if false kind s old = old
 
@@ -38,7 +44,7 @@ see_row moment d s (view.Finished w) = record { lets = d.lets; line = list_if (l
 -- ---- a lock, by itself: all of them, or "skipped if it starts above the moment"
 
 abbrev pub due_if : Bool → Slot → Due
-due_if true s = record { lets = Accepted; line = Line s }
+due_if true s = record { lets = Accepted; line = Some s }
 due_if false s = no_due
 
 abbrev pub see_lock : Bool → ℕ → Slot → LineView → Due
@@ -49,15 +55,3 @@ abbrev pub due_after : Scan → ℕ → Due → Slot → LineView → Due
 due_after Rows moment d s line = see_row moment d s line
 due_after Intents moment d s line = see_lock true moment s line
 due_after Conflicts moment d s line = see_lock false moment s line
-
--- ---- the key's last line
-
--- a page of rows judges a key at its last line, one of locks each line by itself
-abbrev pub by_key : Scan → Bool
-by_key Rows = true
-by_key Intents = false
-by_key Conflicts = false
-
--- whether the key's turn is not yet: there are more lines, and the next one has the key
-abbrev pub waits_for : Scan → Bool → Bool → Bool
-waits_for scan more next = by_key scan && (more && next)

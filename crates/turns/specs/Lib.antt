@@ -1,4 +1,5 @@
 -- The definitions of `turns`.
 -- Assumes nothing.
+pub mod Scans
 pub mod Dues
 pub mod Turns

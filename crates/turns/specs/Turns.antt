@@ -1,16 +1,27 @@
 -- What one line does to a page.
 -- Assumes nothing.
-use Rattle.std.specs.Prelude.{ℕ, ◌+◌, ◌≤◌, ◌≡◌, Bool, true, false, leb, eqb}
-use Rattle.rules.specs.declared.answers.Answer.{Answer}
-use Rattle.rules.specs.declared.answers.Answer.TheVariants.{Accepted, No, Held}
+use Rattle.std.specs.Prelude.{ℕ, ◌+◌, ◌≤◌, ◌≡◌, Bool, true, false, leb, eqb, Option, Some, None}
+use Rattle.rules.specs.Answers.{Answer, Accepted, No, Held}
 use Rattle.store.specs.declared.table.Slot.{Slot}
 use Rattle.store.specs.declared.table.Line.{Line}
 use Rattle.store.specs.declared.table.Line.TheVariants.{Standing, Finished}
-use Rattle.turns.specs.declared.dues.Listed.{Listed}
-use Rattle.turns.specs.declared.dues.Listed.TheVariants as listed
-use Rattle.turns.specs.declared.dues.Due.{Due}
-use Rattle.turns.specs.declared.turns.Turn.{Turn}
-use Rattle.turns.specs.declared.turns.Turn.TheVariants.{On, Stop, Refuse, Add}
+use Rattle.rules.specs.Outcomes.{refusal}
+use Rattle.turns.specs.Dues.{Due}
+use Rattle.turns.specs.declared.turns.Turn as code
+use Rattle.turns.specs.declared.turns.Turn.TheVariants as turns
+
+-- the walk goes on without the line, stops with more, is refused, or adds the line at its cost
+pub data Turn : Type 0 where
+  On : Turn
+  Stop : Turn
+  Refuse : Answer → Turn
+  Add : Slot → ℕ → Turn
+
+abbrev pub turn_in : code.Turn → Turn
+turn_in turns.On = On
+turn_in turns.Stop = Stop
+turn_in (turns.Refuse r) = Refuse (refusal r)
+turn_in (turns.Add s cost) = Add s cost
 
 -- "Cost is key plus row length"; "key plus primary length plus 26"
 abbrev pub cost_in : ℕ → Line → ℕ
@@ -45,14 +56,14 @@ room_turn rows bytes count total t = stop_if (leb rows count) (large_if (leb tot
 
 -- ---- the turn
 
-abbrev pub turn_in : Answer → Listed → (rows bytes count sum : ℕ) → Turn
-turn_in Accepted listed.Nothing rows bytes count sum = On
-turn_in Accepted (listed.Line s) rows bytes count sum = room_turn rows bytes count (sum + cost_of s) (add s)
-turn_in (No n) line rows bytes count sum = Refuse (No n)
-turn_in (Held h) line rows bytes count sum = Refuse (Held h)
+abbrev pub turn_by : Answer → Option Slot → (rows bytes count sum : ℕ) → Turn
+turn_by Accepted None rows bytes count sum = On
+turn_by Accepted (Some s) rows bytes count sum = room_turn rows bytes count (sum + cost_of s) (add s)
+turn_by (No n) line rows bytes count sum = Refuse (No n)
+turn_by (Held h) line rows bytes count sum = Refuse (Held h)
 
-abbrev pub turn_of : Bool → Answer → Listed → (rows bytes count sum : ℕ) → Turn
-turn_of true lets line rows bytes count sum = turn_in lets line rows bytes count sum
+abbrev pub turn_of : Bool → Answer → Option Slot → (rows bytes count sum : ℕ) → Turn
+turn_of true lets line rows bytes count sum = turn_by lets line rows bytes count sum
 turn_of false lets line rows bytes count sum = On
 
 abbrev pub turn_due : Bool → Due → (rows bytes count sum : ℕ) → Turn

@@ -1,114 +1,71 @@
 // What the lines of a key so far say to a page.
 ghost use Rattle.std.specs.Prelude.{◌≡◌};
-ghost use Rattle.turns.specs.Dues.{no_due, see_row, see_lock, due_after, by_key};
+ghost use Rattle.turns.specs.Dues.{due_in, no_due, see_row, see_lock, due_after};
 
-use lookups::Locked;
-use rules::{Answer, Kind};
+use crate::asked::{PageQuery, Scan};
+use rules::{Kind, Refusal};
 use store::{LineView, Slot};
 
-// "Page", "Intent page", "Conflicting intents".
-#[derive(Clone, Copy)]
-pub enum Scan {
-    Rows,
-    Intents,
-    Conflicts,
-}
-
-// The line that the page would list for the key, if any.
-#[derive(Clone, Copy)]
-pub enum Listed {
-    Nothing,
-    Line(Slot),
-}
-
-// Whether the key's lock lets a read pass, and what would be listed.
+// Whether the key's lock lets a read pass, and the line that the page would list for the key, if any.
 #[derive(Clone, Copy)]
 pub struct Due {
-    pub lets: Answer,
-    pub line: Listed,
+    pub lets: Result<(), Refusal>,
+    pub line: Option<Slot>,
 }
 
 pub fn no_due() -> Due
-    ensures { result ≡ no_due }
+    ensures { due_in result ≡ no_due }
 {
     Due {
-        lets: Answer::Accepted,
-        line: Listed::Nothing,
-    }
-}
-
-// "Each key is read first": one line more of it.
-fn see_row(due: Due, moment: u64, s: Slot, line: LineView) -> Due
-    ensures { result ≡ see_row moment due s line }
-{
-    match line {
-        LineView::Standing(l) => {
-            let lets = reads::lock_lets(Locked::By(l), moment);
-            let old = due.line;
-            Due {
-                lets: lets,
-                line: old,
-            }
-        }
-        LineView::Finished(w) => {
-            if moment < w.stamp {
-                return due;
-            }
-            let lets = due.lets;
-            let kind = w.kind;
-            match kind {
-                Kind::Put => Due {
-                    lets: lets,
-                    line: Listed::Line(s),
-                },
-                Kind::Delete => Due {
-                    lets: lets,
-                    line: Listed::Nothing,
-                },
-                Kind::Rollback => due,
-            }
-        }
+        lets: Ok(()),
+        line: None,
     }
 }
 
 // "keys of locks only", and of those in the way of a read, "skipped if it starts above the moment".
 fn see_lock(every: bool, moment: u64, s: Slot, line: LineView) -> Due
-    ensures { result ≡ see_lock every moment s line }
+    ensures { due_in result ≡ see_lock every moment s line }
 {
     match line {
-        LineView::Standing(l) => {
-            if !every {
-                if moment < l.start {
-                    return no_due();
-                }
-            }
-            Due {
-                lets: Answer::Accepted,
-                line: Listed::Line(s),
-            }
-        }
+        LineView::Standing(l) if every || l.start <= moment => Due {
+            line: Some(s),
+            ..no_due()
+        },
+        LineView::Standing(_) => no_due(),
         LineView::Finished(_) => no_due(),
     }
 }
 
-// One line more.
-pub fn see(due: Due, scan: Scan, moment: u64, s: Slot, line: LineView) -> Due
-    ensures { result ≡ due_after scan moment due s line }
-{
-    match scan {
-        Scan::Rows => see_row(due, moment, s, line),
-        Scan::Intents => see_lock(true, moment, s, line),
-        Scan::Conflicts => see_lock(false, moment, s, line),
+impl Due {
+    // "Each key is read first": one line more of it.
+    fn with_row(self, moment: u64, s: Slot, line: LineView) -> Due
+        ensures { due_in result ≡ see_row moment (due_in self) s line }
+    {
+        match line {
+            LineView::Standing(l) => Due {
+                lets: reads::lock_lets(Some(l), moment),
+                ..self
+            },
+            LineView::Finished(w) if moment < w.stamp => self,
+            LineView::Finished(w) => match w.kind {
+                Kind::Put => Due {
+                    line: Some(s),
+                    ..self
+                },
+                Kind::Delete => Due { line: None, ..self },
+                Kind::Rollback => self,
+            },
+        }
     }
-}
 
-// A page of rows judges a key at its last line, one of locks each line by itself.
-pub fn by_key(scan: Scan) -> bool
-    ensures { result ≡ by_key scan }
-{
-    match scan {
-        Scan::Rows => true,
-        Scan::Intents => false,
-        Scan::Conflicts => false,
+    // One line more.
+    pub fn with(self, asked: &PageQuery, s: Slot, line: LineView) -> Due
+        ensures { due_in result ≡ due_after asked.now.scan asked.now.moment (due_in self) s line }
+    {
+        match asked.scan {
+            Scan::Rows => self.with_row(asked.moment, s, line),
+            Scan::Intents => see_lock(true, asked.moment, s, line),
+            Scan::Conflicts => see_lock(false, asked.moment, s, line),
+        }
     }
 }

@@ -2,8 +2,10 @@
 // for the gate's time, since a must-fail edit repeats the check of its whole crate.
 #![tactic(auto)]
 
+pub mod asked;
 pub mod dues;
 pub mod turns;
 
-pub use dues::{Due, Listed, Scan, by_key, no_due, see};
+pub use asked::{PageQuery, Scan};
+pub use dues::{Due, no_due};
 pub use turns::{Turn, turn_of};

@@ -10,9 +10,8 @@ use lib.ListN.{length, take, drop}
 use lib.Seq.{length-take-le, take_at}
 use borrow.Author.Tests.{not-true, not-false}
 use Rattle.forms.specs.Bytes.{Bytes}
-use Rattle.rules.specs.declared.answers.Answer.TheVariants.{Accepted, No}
+use Rattle.rules.specs.Answers.{Accepted, No, ◌▸◌, need}
 use Rattle.rules.specs.declared.room.Load.{Load}
-use Rattle.rules.specs.Answers.{◌▸◌, need}
 use Rattle.rules.specs.Calls.{State}
 use Rattle.rules.specs.Room.{fits, Fits, load_of, room_for}
 use Rattle.rules.specs.Image.{Image, image}
@@ -22,11 +21,10 @@ use Rattle.seqs.proofs.Tests.{and_both}
 use Rattle.laws.proofs.SettleLaws.{settle_state-answer}
 use Rattle.laws.proofs.StepLaws.{need-true}
 use Rattle.images.specs.declared.sections.Sections.{Sections}
-use Rattle.images.specs.Sections.{Enough, row_at, line_at}
+use Rattle.images.specs.Sections.{row_at, line_at}
 use Rattle.images.proofs.TestLaws.{holds}
 use Rattle.faults.specs.Judged.{is_sound, load_from}
-use Rattle.verdicts.specs.Verdicts.{DecideAsk, VerdictAsk, Decided}
-use Rattle.pairs.proofs.AskLaws.{blank, judge-room}
+use Rattle.verdicts.specs.Verdicts.{DecideAsk, Accepts}
 
 -- ---- restore's answer
 
@@ -51,76 +49,57 @@ good-answer i st e = settle_state-answer (restore_steps i) (state_of i) st ∙ g
     go true false f q = absurd (false≢true q)
     go false h f q = absurd (false≢true q)
 
-refused : (s : Bytes) (n : ℕ) {load : Load} {floor writesat : ℕ} {rows lines : List ℕ} → ((st : State) → (restore s st).answer ≡ No n) → Decided s (record { answer = No n; load = load; floor = floor; writesat = writesat }) rows lines
-unfolding need
-refused s n e = record { answer_is = λ st. sym (e st); placed = λ h. absurd (false≢true (need-true false n h)) }
+pub decided-bad : (s : Bytes) → is_sound (image s) ≡ false → (st : State) → (restore s st).answer ≡ No 13
+unfolding restore
+decided-bad s e st = bad-answer (image s) st e
 
 -- ---- the ways out of `decide`
 
 -- the front of a list that was copied over another's
-copied : (k : ℕ) (from old x : List ℕ) → k ≤ length old → k ≤ length from → x ≡ take (length (take k old)) from → take k (x ++ drop k old) ≡ take k from
-copied k from old x f g e =
-    let q : x ≡ take k from = e ∙ ap (λ (m : ℕ). take m from) (length-take-le k old f) in
-    take_at x (drop k old) k (ap length q ∙ length-take-le k from g) ∙ q
+copied : (k : ℕ) (from old x : List ℕ) → k ≤ length from → x ≡ take k from → take k (x ++ drop k old) ≡ take k from
+copied k from old x g e = take_at x (drop k old) k (ap length e ∙ length-take-le k from g) ∙ e
 
-module _ {s : Bytes} {i : Sections} {ds ps rows lines : List ℕ} (v : DecideAsk s i ds ps rows lines) where
+module _ {s : Bytes} {i : Sections} {ds ps rows lines : List ℕ} (v : DecideAsk s i ds ps rows lines) {f : Bool} (fv : f ≡ fits (load_from i)) where
   abbrev all : ℕ
   all = i.locks + i.writes
 
-  pub decided-bad : {load : Load} {floor writesat : ℕ} → not i.ok ≡ true → Decided s (record { answer = No 13; load = load; floor = floor; writesat = writesat }) rows lines
+  answer : (st : State) → (restore s st).answer ≡ need f 11
   unfolding restore
-  decided-bad h = refused s 13 (λ st. bad-answer (image s) st (v.judged.bad h))
+  answer st =
+      let g = v.judged.in_place in
+      ap (λ (o : Option Image). (restore_to o st).answer) g.is ∙ good-answer g.img st (and_both _ _ (and_both _ _ g.good g.healthy) g.floored) ∙ ap (λ (t : Bool). need t 11) (sym (fv ∙ ap fits g.load_is))
 
-  module _ (ok : not i.ok ≡ false) {f : Bool} (fv : f ≡ fits (load_from i)) where
-    answer : (st : State) → (restore s st).answer ≡ need f 11
-    unfolding restore
-    answer st =
-        let g = v.judged.good ok in
-        ap (λ (o : Option Image). (restore_to o st).answer) g.is ∙ good-answer g.img st (and_both _ _ (and_both _ _ g.good g.healthy) g.floored) ∙ ap (λ (t : Bool). need t 11) (sym (fv ∙ ap fits g.load_is))
+  pub decided-full : not f ≡ true → (st : State) → (restore s st).answer ≡ No 11
+  unfolding need
+  decided-full h st = answer st ∙ ap (λ (t : Bool). need t 11) (not-true f h)
 
-    pub decided-full : {floor writesat : ℕ} → not f ≡ true → Decided s (record { answer = No 11; load = load_from i; floor = floor; writesat = writesat }) rows lines
+  module _ (fg : not f ≡ false) where
+    fit : Fits (load_from i)
+    fit = fits_out (load_from i) (holds fv fg)
+
+    pub rows_in : i.defaults ≤ length rows
+    rows_in = omega (arith, fit.defaults, v.wide.some_rows)
+
+    pub lines-in : all ≤ length lines
+    lines-in = omega (arith, fit.lines, v.wide.some_lines)
+
+    pub decided : {x y : List ℕ} → x ≡ take i.defaults ds → y ≡ take all ps
+        → Accepts s (record { load = load_from i; floor = i.floor; writesat = i.writesat }) (x ++ drop i.defaults rows) (y ++ drop all lines)
     unfolding need
-    decided-full h = refused s 11 (λ st. answer st ∙ ap (λ (t : Bool). need t 11) (not-true f h))
-
-    module _ (fg : not f ≡ false) where
-      fit : Fits (load_from i)
-      fit = fits_out (load_from i) (holds fv fg)
-
-      pub rows_in : i.defaults ≤ length rows
-      rows_in = omega (arith, fit.defaults, v.wide.some_rows)
-
-      pub lines-in : all ≤ length lines
-      lines-in = omega (arith, fit.lines, v.wide.some_lines)
-
-      pub rows_fit : length (take i.defaults rows) ≤ length ds
-      rows_fit = omega (arith, length-take-le i.defaults rows rows_in, v.judged.few_rows)
-
-      pub lines_fit : length (take all lines) ≤ length ps
-      lines_fit = omega (arith, length-take-le all lines lines-in, v.judged.few_lines)
-
-      pub decided : {x y : List ℕ} → x ≡ take (length (take i.defaults rows)) ds → y ≡ take (length (take all lines)) ps
-          → Decided s (record { answer = Accepted; load = load_from i; floor = i.floor; writesat = i.writesat }) (x ++ drop i.defaults rows) (y ++ drop all lines)
-      unfolding need
-      decided {x} {y} p q =
-          let g = v.judged.good ok in
-          record {
-            answer_is = λ st. sym (answer st ∙ ap (λ (t : Bool). need t 11) (not-false f fg));
-            placed = λ e. record {
-              img = g.img;
-              is = g.is;
-              good = g.good;
-              healthy = g.healthy;
-              floored = g.floored;
-              floor_is = g.floor_is;
-              fit = fit;
-              load_is = g.load_is;
-              rows_are = ap (map (row_at s)) (copied i.defaults ds rows x rows_in v.judged.few_rows p) ∙ g.rows_are;
-              lines_are = ap (map (line_at s i.writesat)) (copied all ps lines y lines-in v.judged.few_lines q) ∙ g.lines_are;
-            };
-          }
-
--- ---- lists of such lengths are room enough
-
-pub room-for : (n m : ℕ) {s : Bytes} {rows lines : List ℕ} → Enough s n → n + n ≤ m → 1024 ≤ length rows → 1024 ≤ length lines
-    → VerdictAsk s (blank n) (blank n) (blank n) (blank m) (blank m) rows lines
-room-for n m e f r l = record { judge = judge-room n m e f; wide = record { some_rows = r; some_lines = l } }
+    decided {x} {y} p q =
+        let g = v.judged.in_place in
+        record {
+          answer_is = λ st. answer st ∙ ap (λ (t : Bool). need t 11) (not-false f fg);
+          placed = record {
+            img = g.img;
+            is = g.is;
+            good = g.good;
+            healthy = g.healthy;
+            floored = g.floored;
+            floor_is = g.floor_is;
+            fit = fit;
+            load_is = g.load_is;
+            rows_are = ap (map (row_at s)) (copied i.defaults ds rows x v.judged.few_rows p) ∙ g.rows_are;
+            lines_are = ap (map (line_at s i.writesat)) (copied all ps lines y v.judged.few_lines q) ∙ g.lines_are;
+          };
+        }

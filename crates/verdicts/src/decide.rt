@@ -1,23 +1,11 @@
 // Restore's verdict from the image's bytes alone: "Any fault 13, then 11"; and of an image that has room, its places in order.
-ghost use Rattle.std.specs.Prelude.{◌≡◌, ◌*◌, ◌≤◌, length};
-ghost use Rattle.verdicts.specs.Verdicts.{DecideAsk, VerdictAsk, Decided};
+ghost use Rattle.std.specs.Prelude.{◌≤◌, length};
+ghost use Rattle.verdicts.specs.Verdicts.{PlacesFor, DecideAsk, Decided};
 
 use crate::outcome::ImageVerdict;
 use faults::judge::judge;
 use images::sections::Sections;
-use orders::copy;
-use rules::{Answer, Load, load_fits};
-
-fn refusal(number: u8, load: Load, i: Sections) -> ImageVerdict
-    ensures { result ≡ record { answer = Answer.No number; load = load; floor = i.floor; writesat = i.writesat } }
-{
-    ImageVerdict {
-        answer: Answer::No(number),
-        load: load,
-        floor: i.floor,
-        writesat: i.writesat,
-    }
-}
+use rules::{Load, Refusal, load_fits};
 
 // The verdict on an image s that was judged; of an accepted one the places of its defaults and of its lines, in order.
 fn decide(
@@ -27,84 +15,58 @@ fn decide(
     ps: &[u32],
     rows: &mut [u32],
     lines: &mut [u32],
-) -> ImageVerdict
+) -> Result<ImageVerdict, Refusal>
     requires { DecideAsk s.now i ds.now ps.now rows.old lines.old }
     ensures { Decided s.now result rows.new lines.new }
 {
     let d = i.defaults;
-    let l = i.locks;
-    let n = l + i.writes;
+    let n = i.locks + i.writes;
     let load = Load {
         lines: n,
-        locks: l,
+        locks: i.locks,
         defaults: d,
         bytes: i.bytes,
     };
-    if !i.ok {
-        return refusal(13, load, i);
-    }
     if !load_fits(load) {
-        return refusal(11, load, i);
+        return Err(Refusal::NoRoom);
     }
-    copy(ds, &mut rows[..d]);
-    copy(ps, &mut lines[..n]);
-    ImageVerdict {
-        answer: Answer::Accepted,
-        load: load,
+    rows[..d].copy_from_slice(&ds[..d]);
+    lines[..n].copy_from_slice(&ps[..n]);
+    Ok(ImageVerdict {
+        load,
         floor: i.floor,
         writesat: i.writesat,
-    }
+    })
 }
 
-// The verdict, with room for the places of each section, and for those of all lines.
-fn verdict_with(
+// The verdict, with room for N places of each section, and for the M of all lines.
+fn verdict_in<const N: usize, const M: usize>(
     s: &[u8],
-    ds: &mut [u32],
-    ls: &mut [u32],
-    ws: &mut [u32],
-    ps: &mut [u32],
-    room: &mut [u32],
     rows: &mut [u32],
     lines: &mut [u32],
-) -> ImageVerdict
-    requires { VerdictAsk s.now ds.old ls.old ws.old ps.old room.old rows.old lines.old }
+) -> Result<ImageVerdict, Refusal>
+    requires { PlacesFor s.now N M rows.old lines.old }
     ensures { Decided s.now result rows.new lines.new }
 {
-    let i = judge(s, ds, ls, ws, ps, room);
-    decide(s, i, ds, ps, rows, lines)
-}
-
-fn verdict_small(s: &[u8], rows: &mut [u32], lines: &mut [u32]) -> ImageVerdict
-    requires { (length s.now ≤ 9 * 1024) × (1024 ≤ length rows.old) × (1024 ≤ length lines.old) }
-    ensures { Decided s.now result rows.new lines.new }
-{
-    let mut ds = [0u32; 1024];
-    let mut ls = [0u32; 1024];
-    let mut ws = [0u32; 1024];
-    let mut ps = [0u32; 2048];
-    let mut rs = [0u32; 2048];
-    verdict_with(s, &mut ds, &mut ls, &mut ws, &mut ps, &mut rs, rows, lines)
-}
-
-fn verdict_large(s: &[u8], rows: &mut [u32], lines: &mut [u32]) -> ImageVerdict
-    requires { (1024 ≤ length rows.old) × (1024 ≤ length lines.old) }
-    ensures { Decided s.now result rows.new lines.new }
-{
-    let mut ds = [0u32; 65536];
-    let mut ls = [0u32; 65536];
-    let mut ws = [0u32; 65536];
-    let mut ps = [0u32; 131072];
-    let mut rs = [0u32; 131072];
-    verdict_with(s, &mut ds, &mut ls, &mut ws, &mut ps, &mut rs, rows, lines)
+    let mut ds = [0u32; N];
+    let mut ls = [0u32; N];
+    let mut ws = [0u32; N];
+    let mut ps = [0u32; M];
+    let mut room = [0u32; M];
+    match judge(s, &mut ds, &mut ls, &mut ws, &mut ps, &mut room) {
+        Some(i) => decide(s, i, &ds, &ps, rows, lines),
+        None => Err(Refusal::BadImage),
+    }
 }
 
 // A small image does not pay for the places of a large one: an entry has at least 9 bytes.
-pub fn verdict(s: &[u8], rows: &mut [u32], lines: &mut [u32]) -> ImageVerdict
+pub fn verdict(s: &[u8], rows: &mut [u32], lines: &mut [u32]) -> Result<ImageVerdict, Refusal>
     requires { (1024 ≤ length rows.old) × (1024 ≤ length lines.old) }
     ensures { Decided s.now result rows.new lines.new }
 {
     if s.len() <= 9216 {
-        return verdict_small(s, rows, lines);
+        verdict_in::<1024, 2048>(s, rows, lines)
+    } else {
+        verdict_in::<65536, 131072>(s, rows, lines)
     }
-    verdict_large(s, rows, lines)
 }

@@ -1,10 +1,9 @@
 // What restore decides.
-use rules::{Answer, Load};
+use rules::Load;
 
-// The answer, the load of the box that the image would leave, its floor, and where its writes begin.
+// Of an accepted image: the load of the box that it would leave, its floor, and where its writes begin.
 #[derive(Clone, Copy)]
 pub struct ImageVerdict {
-    pub answer: Answer,
     pub load: Load,
     pub floor: u64,
     pub writesat: usize,

@@ -1,3 +1,2 @@
 -- The laws of `visits`, in the order in which they build on each other.
-pub mod LabelLaws
 pub mod WrittenPageLaws

@@ -2,8 +2,10 @@
 // apart for the check's time.
 #![tactic(auto)]
 
+pub mod hall;
 pub mod telling;
 pub mod visitors;
 
-pub use telling::{accepted, say, say_answer, say_number, tell};
+pub use hall::{Hall, new_hall};
+pub use telling::{say_answer, say_refusal};
 pub use visitors::{asks_bones, asks_figures, asks_key, asks_page, say_effort};

@@ -15,7 +15,7 @@ use Rattle.forms.proofs.Orders.{eq_bytes-refl, lt_bytes-not-eq', lt_bytes-le-lt,
 use Rattle.rules.specs.declared.records.Kind.{Kind}
 use Rattle.rules.specs.declared.records.Kind.TheVariants.{Put, Delete, Rollback}
 use Rattle.rules.specs.declared.records.Record.{Record}
-use Rattle.rules.specs.Answers.{Reply, nothing, shown, need, if_passed}
+use Rattle.rules.specs.Answers.{Answer, Accepted, No, Held, Reply, nothing, shown, need, if_passed}
 use Rattle.rules.specs.Box as box
 use Rattle.rules.specs.Sound.{sound_record}
 use Rattle.rules.specs.Read.{lock_lets, keep_if, at_or_below, newest_first, show_row, one_record, walk}
@@ -31,13 +31,9 @@ use Rattle.store.specs.View.{key_of, row_in}
 use Rattle.store.specs.Views.{lock_in, record_in}
 use Rattle.store.proofs.MemberLaws.{lock-shown}
 use Rattle.lookups.proofs.HistoryLaws.{first_more, records-append, or_lock, lock-append}
-use Rattle.turns.specs.declared.dues.Listed.{Listed}
-use Rattle.turns.specs.declared.dues.Listed.TheVariants.{Nothing, Line}
-use Rattle.turns.specs.declared.dues.Due.{Due}
-use Rattle.turns.specs.Dues.{no_due, list_if, see_row}
+use Rattle.std.specs.Prelude as std
+use Rattle.turns.specs.Dues.{Due, no_due, list_if, see_row}
 use Rattle.walks.proofs.ListedLineLaws.{Lists, row_on, shown-turn, shown-good}
-use Rattle.rules.specs.declared.answers.Answer.{Answer}
-use Rattle.rules.specs.declared.answers.Answer.TheVariants.{Accepted, No, Held}
 use Rattle.rules.specs.Box.{Box, KeyLine}
 use Rattle.reads.proofs.ReadLaws.{read-steps}
 use Rattle.walks.specs.Walked.{page_on, turn_to}
@@ -65,18 +61,18 @@ none_before k (e ∷ xs) f o h =
 
 -- ---- what is due
 
-abbrev pub line_row : Bytes → Listed → Reply Row
-line_row area Nothing = nothing
-line_row area (Line s) = shown (row_in area s)
+abbrev pub line_row : Bytes → std.Option Slot → Reply Row
+line_row area std.None = nothing
+line_row area (std.Some s) = shown (row_in area s)
 
 -- the line that is listed is one of the key
 pub record RowLine (area : Bytes) (k : Key) (s : Slot) : Type 0 where
   pub key_is : key_of area s ≡ k
   pub lists : Lists area key_row_bytes row_cost 2 s (row_on area s)
 
-abbrev pub LineGood : Bytes → Key → Listed → Type 0
-LineGood area k Nothing = Unit {0}
-LineGood area k (Line s) = RowLine area k s
+abbrev pub LineGood : Bytes → Key → std.Option Slot → Type 0
+LineGood area k std.None = Unit {0}
+LineGood area k (std.Some s) = RowLine area k s
 
 -- of the lines `pre` of a key
 pub record DueRow (area : Bytes) (m : ℕ) (ds : List box.Default) (k : Key) (pre : List box.KeyLine) (d : Due) : Type 0 where
@@ -187,20 +183,20 @@ key-walk judge m a k ks count sum true e = rw e
 key-walk judge m a k ks count sum false e = rw e
 
 module _ (area : Bytes) (k : Key) (m : Limits) (count sum : ℕ) where
-  row-judged : (rest : ℕ → ℕ → Reply (Page KeyRow)) (lets : Answer) (line : Listed) → LineGood area k line → (t : Bool)
+  row-judged : (rest : ℕ → ℕ → Reply (Page KeyRow)) (lets : Answer) (line : std.Option Slot) → LineGood area k line → (t : Bool)
       → page_on key_row_bytes (on_judged m row_cost count sum rest (judged_if t (with_key k (if_passed lets (line_row area line))))) ≡ turn_to area (λ c s. page_on key_row_bytes (rest c s)) count sum (turn_due t (record { lets = lets; line = line }) m.rows m.bytes count sum)
   unfolding on_judged if_passed page_on
   row-judged rest lets line g false = refl
-  row-judged rest Accepted Nothing g true = refl
-  row-judged rest Accepted (Line s) g true =
+  row-judged rest Accepted std.None g true = refl
+  row-judged rest Accepted (std.Some s) g true =
       ap (λ (j : Key). page_on key_row_bytes (on_judged m row_cost count sum rest (shown (record { key = j; row = row_in area s })))) (sym g.key_is) ∙ shown-turn g.lists m count sum rest
   row-judged rest (No n) line g true = refl
   row-judged rest (Held h) line g true = refl
 
-  row-good : (lets : Answer) (line : Listed) → LineGood area k line → (t : Bool) → TurnGood area 2 (turn_due t (record { lets = lets; line = line }) m.rows m.bytes count sum)
+  row-good : (lets : Answer) (line : std.Option Slot) → LineGood area k line → (t : Bool) → TurnGood area 2 (turn_due t (record { lets = lets; line = line }) m.rows m.bytes count sum)
   row-good lets line g false = tt
-  row-good Accepted Nothing g true = tt
-  row-good Accepted (Line s) g true = shown-good g.lists m.rows m.bytes count (sum + cost_of s)
+  row-good Accepted std.None g true = tt
+  row-good Accepted (std.Some s) g true = shown-good g.lists m.rows m.bytes count (sum + cost_of s)
   row-good (No n) line g true = tt
   row-good (Held h) line g true = tt
 

@@ -15,26 +15,25 @@ use Rattle.seqs.proofs.Tables.{shown-added, table-added, table_empty}
 use Rattle.forms.specs.Bytes.{Bytes}
 use Rattle.forms.specs.Numbers.{digits}
 use Rattle.forms.proofs.NumberLaws.{length_digits}
-use Rattle.rules.specs.declared.answers.Answer.{Answer}
-use Rattle.rules.specs.declared.answers.Answer.TheVariants.{Accepted, No, Held}
-use Rattle.rules.specs.Answers.{Reply, shown, refused, if_passed, need, ◌▸◌}
+use Rattle.rules.specs.Answers.{Answer, Accepted, No, Held, Holder, Reply, shown, refused, if_passed, need, ◌▸◌}
 use Rattle.rules.specs.Page.{Page, empty_page, on_page, Bounds, page_arguments, row_page_steps, intent_arguments, past_end, unless_past, page, intent_page, conflict_page}
 use Rattle.rules.specs.Written.{all_bytes, more_byte, page_bytes}
 use Rattle.rules.proofs.EntryWriterLaws.{bytes-snoc}
 use Rattle.store.specs.declared.table.Slot.{Slot}
 use Rattle.rules.proofs.FloorLaws.{page-above, page-on-0}
 use Rattle.store.specs.View.{no_slot}
-use Rattle.turns.specs.declared.turns.Turn.{Turn}
-use Rattle.turns.specs.declared.turns.Turn.TheVariants.{On, Stop, Refuse, Add}
-use Rattle.walks.specs.declared.walked.Walked.{Walked}
-use Rattle.walks.specs.Walked.{entry_bytes, same, SlotIn, WalkedAs, empty_of, page_on, limits_of, page_by, page_asked, floor_of, walk_by, walk_from, WalkAsks, over_of, turn_to, Refusal}
+use Rattle.turns.specs.Turns.{Turn, On, Stop, Refuse, Add}
+use Rattle.walks.specs.Walked.{Walked, entry_bytes, same, SlotIn, WalkedAs, empty_of, page_on, limits_of, page_by, page_asked, walk_by, walk_from, WalkAsks, turn_to, Refusal as Refuses}
+use Rattle.turns.specs.Scans.{floor_of}
 use borrow.Author.Tests.{ne_eqb, lt-leb}
-use Rattle.rules.specs.declared.answers.Holder.{Holder}
 use Rattle.rules.specs.Box.{Box}
+use Rattle.rules.specs.declared.answers.Refusal.{Refusal}
+use Rattle.rules.specs.Outcomes.{refusal}
+use Rattle.rules.proofs.OutcomeLaws.{of-refusals}
 use Rattle.store.specs.declared.table.Store.{Store}
-use Rattle.walks.specs.declared.walked.PageQuery.{PageQuery}
-use Rattle.turns.specs.declared.dues.Scan.{Scan}
-use Rattle.turns.specs.declared.dues.Scan.TheVariants.{Rows, Intents, Conflicts}
+use Rattle.turns.specs.declared.asked.PageQuery.{PageQuery}
+use Rattle.turns.specs.declared.asked.Scan.{Scan}
+use Rattle.turns.specs.declared.asked.Scan.TheVariants.{Rows, Intents, Conflicts}
 
 -- ---- a page with these in front
 
@@ -77,7 +76,7 @@ empty_walked {area} {want} v e p =
       table = table_empty (SlotIn area) no_slot 1024;
     })
 
-refused-walked : {area : Bytes} {want : Reply (Page Bytes)} {r : Walked} (v : Answer) → Refusal v → refused v ≡ want → r ≡ empty_of v → WalkedAs area want r
+refused-walked : {area : Bytes} {want : Reply (Page Bytes)} {r : Walked} (v : Answer) → Refuses v → refused v ≡ want → r ≡ empty_of v → WalkedAs area want r
 unfolding if_passed
 refused-walked Accepted g e p = absurd g
 refused-walked (No n) g e p = empty_walked (No n) e p
@@ -105,7 +104,7 @@ pub record AddFits (area : Bytes) (over : ℕ) (s : Slot) (cost : ℕ) : Type 0 
 abbrev pub TurnGood : Bytes → ℕ → Turn → Type 0
 TurnGood area over On = Unit {0}
 TurnGood area over Stop = Unit {0}
-TurnGood area over (Refuse v) = Refusal v
+TurnGood area over (Refuse v) = Refuses v
 TurnGood area over (Add s cost) = AddFits area over s cost
 
 -- the turn that the line at i takes
@@ -166,9 +165,6 @@ module _ {n : ℕ} {area : Bytes} {over : ℕ} {want : Reply (Page Bytes)} where
 
       pub turn-refuse : {r : Walked} {v : Answer} → t ≡ Refuse v → r ≡ empty_of v → WalkedAs area want r
       turn-refuse {r} {v} e p = refused-walked v (subst (TurnGood area over) e s.good) (sym (w.is ∙ ap (on_pages rows) (turned e) ∙ pages-refused rows v)) p
-
-      pub turn-cheap : {p : Slot} {cost : ℕ} → t ≡ Add p cost → cost ≤ 600
-      turn-cheap {p} {cost} e = let g : AddFits area over p cost = subst (TurnGood area over) e s.good in g.cheap
 
       pub turn-add : {p : Slot} {cost : ℕ} → i < n → t ≡ Add p cost → Walking n area over want left' (i + 1) (count + 1) (sum + cost) (set slots count p)
       turn-add {p} {cost} h e = record {
@@ -235,13 +231,16 @@ module _ {st : Store} {area : Bytes} {q : PageQuery} (asks : WalkAsks st area q)
     unfolding row_page_steps
     steps-by f = ap (λ (x : Answer). x ▸ need (leb floor q.moment) 14) (sym e ∙ f)
 
-    pub judge-no : {n : ℕ} {r : Walked} → v ≡ No n → r ≡ empty_of (No n) → WalkedAs area (page_asked st.floor q a b) r
+    judge-no : {n : ℕ} {r : Walked} → v ≡ No n → r ≡ empty_of (No n) → WalkedAs area (page_asked st.floor q a b) r
     unfolding if_passed ◌▸◌
     judge-no {n} f p = empty_walked (No n) (by _ (empty_page false) (steps-by f) refl) p
 
-    pub judge-held : {h : Holder} {r : Walked} → v ≡ Held h → r ≡ empty_of (Held h) → WalkedAs area (page_asked st.floor q a b) r
+    judge-held : {h : Holder} {r : Walked} → v ≡ Held h → r ≡ empty_of (Held h) → WalkedAs area (page_asked st.floor q a b) r
     unfolding if_passed ◌▸◌
     judge-held {h} f p = empty_walked (Held h) (by _ (empty_page false) (steps-by f) refl) p
+
+    pub judge-refused : (r : Refusal) {w : Walked} → v ≡ refusal r → w ≡ empty_of (refusal r) → WalkedAs area (page_asked st.floor q a b) w
+    judge-refused r {w} = of-refusals (λ (x : Answer). v ≡ x → w ≡ empty_of x → WalkedAs area (page_asked st.floor q a b) w) (λ n f p. judge-no f p) (λ h f p. judge-held f p) r
 
     module _ (f : v ≡ Accepted) {fl : ℕ} (z : fl ≡ floor) where
       -- "14, below the floor"
@@ -264,10 +263,3 @@ module _ {st : Store} {area : Bytes} {q : PageQuery} (asks : WalkAsks st area q)
         pub judge-walk : {r : Walked} → t ≡ false → WalkedAs area (walk_from q a b b.lines 0 0) r → WalkedAs area (page_asked st.floor q a b) r
         unfolding unless_past
         judge-walk {r} h w = subst (λ (x : Reply (Page Bytes)). WalkedAs area x r) (past_is h) w
-
--- ---- `listed`
-
-pub over-small : (scan : Scan) {over : ℕ} (count : ℕ) → over ≡ over_of scan → count ≤ 1024 → over * count ≤ 2048
-over-small Rows count e h = let z = ap (λ (n : ℕ). n * count) e in omega arith
-over-small Intents count e h = let z = ap (λ (n : ℕ). n * count) e in omega arith
-over-small Conflicts count e h = let z = ap (λ (n : ℕ). n * count) e in omega arith

@@ -3,7 +3,7 @@
 use Prim.Native.Nat.{ℕ, zero, suc, ◌+◌, ◌≤◌, ◌<◌, ◌*◌}
 use native.Mathlib.Numerals.{add-one}
 use native.Mathlib.Omega.{arith}
-use mathlib.Core.Path.{◌≡◌, refl, sym, ap, ap₂, ◌∙◌, subst}
+use mathlib.Core.Path.{◌≡◌, refl, sym, ap, ◌∙◌, subst}
 use mathlib.Core.Logic.{inl, inr}
 use mathlib.Core.Bool.{Bool, true, false, ◌&&◌, false≢true}
 use mathlib.Core.List.{List, [], ◌∷◌, ◌++◌}
@@ -30,31 +30,24 @@ use Rattle.store.specs.declared.table.Slot.{Slot}
 use Rattle.store.specs.declared.table.Store.{Store}
 use Rattle.store.specs.declared.table.Line.{Line}
 use Rattle.store.specs.declared.table.Line.TheVariants.{Standing, Finished}
-use Rattle.store.specs.View.{place_of, row_if, line_in, key_of, line_of, row_in, box_of, no_slot, default_in, stored}
+use Rattle.store.specs.View.{place_of, row_if, line_in, key_of, line_of, row_in, box_of, no_slot}
 use Rattle.store.specs.Made.{Built, good_line, sound_line}
 use Rattle.store.specs.Views.{lock_view, record_view, view_in, view_of}
 use Rattle.store.proofs.MemberLaws.{fewer-take}
 use Rattle.store.proofs.BuiltLaws.{lines-order, slot-in, row-there}
 use Rattle.store.proofs.KeySoundLaws.{good-in, row-form, row-shown}
-use Rattle.turns.specs.declared.dues.Scan.{Scan}
-use Rattle.turns.specs.declared.dues.Scan.TheVariants.{Rows, Intents, Conflicts}
-use Rattle.turns.specs.declared.dues.Due.{Due}
-use Rattle.walks.specs.Walked.{page_on, walk_by, over_of, limits_of, walk_from, WalkAsks, WalkedAs, empty_of, Later}
-use Rattle.turns.specs.Dues.{no_due, see_row, due_after, by_key, waits_for}
-use Rattle.turns.specs.Turns.{turn_due}
-use Rattle.walks.proofs.WalkLaws.{Stepped, Walking, walking_start, walking-pass, walking-listed, turn_on, turn-stop, turn-refuse, turn-cheap, turn-add}
-use Rattle.walks.proofs.ListedLineLaws.{row-lists}
-use Rattle.walks.proofs.ReadKeyLaws.{none_before, DueRow, due-none, due-end, due-lock, due-record}
-use Rattle.walks.proofs.ReadKeyLaws.{keys-shared, keys-last, keys-end, row-stepped}
-use Rattle.walks.proofs.ListedLineLaws.{intent-stepped, conflict-stepped}
-use Rattle.seqs.specs.Tables.{shown}
-use Rattle.rules.specs.declared.answers.Answer.{Answer}
-use Rattle.rules.specs.declared.answers.Answer.TheVariants.{Accepted}
+use Rattle.turns.specs.declared.asked.Scan.{Scan}
+use Rattle.turns.specs.declared.asked.Scan.TheVariants.{Rows, Intents, Conflicts}
+use Rattle.turns.specs.Dues.{Due, no_due, see_row, due_after}
+use Rattle.walks.specs.Walked.{page_on, walk_by, limits_of, walk_from, WalkAsks, WalkedAs, empty_of, waits_at, Walked}
+use Rattle.turns.specs.Scans.{over_of}
+use Rattle.turns.specs.Turns.{turn_due, Turn, On, Stop, Refuse, Add}
+use Rattle.walks.proofs.WalkLaws.{Stepped, Walking, walking_start, walking-pass, walking-listed, turn_on, turn-stop, turn-refuse, turn-add}
+use Rattle.walks.proofs.ListedLineLaws.{row-lists, intent-stepped, conflict-stepped}
+use Rattle.walks.proofs.ReadKeyLaws.{none_before, DueRow, due-none, due-end, due-lock, due-record, keys-shared, keys-last, keys-end, row-stepped}
+use Rattle.rules.specs.Answers.{Answer, Accepted}
 use Rattle.store.specs.declared.views.LineView.{LineView}
-use Rattle.walks.specs.declared.walked.PageQuery.{PageQuery}
-use Rattle.walks.specs.declared.walked.Walked.{Walked}
-use Rattle.turns.specs.declared.turns.Turn.{Turn}
-use Rattle.turns.specs.declared.turns.Turn.TheVariants.{On, Stop, Refuse, Add}
+use Rattle.turns.specs.declared.asked.PageQuery.{PageQuery}
 
 -- of a key's lines `pre`; a page of locks keeps nothing from line to line
 abbrev pub DueAt : Scan → Bytes → ℕ → List box.Default → Key → List box.KeyLine → Due → Type 0
@@ -155,23 +148,18 @@ module _ {st : Store} {area : Bytes} (b : Built st area) where
 
     -- ---- whether the key's turn is yet to come
 
-    -- the line at j follows, if there is one
-    module _ {w : Bool} (scan : Scan) {j : ℕ} (l : Later i st.load.lines j) (p : w ≡ waits_for scan (ltb (i + 1) st.load.lines) (eq_bytes (key_of area (get_or st.lines i no_slot)) (key_of area (get_or st.lines j no_slot)))) where
-      follows : {t : Bool} → i + 1 < st.load.lines → eq_bytes (key i) (key j) ≡ t → eq_bytes (key i) (key (i + 1)) ≡ t
-      follows g e = ap (λ (x : ℕ). eq_bytes (key i) (key x)) (sym (l.next g)) ∙ e
-
+    module _ {w : Bool} (scan : Scan) (p : w ≡ waits_at area scan st i) where
       waits-more : w ≡ true → (scan ≡ Rows) × (i + 1 < st.load.lines) × (eq_bytes (key i) (key (i + 1)) ≡ true)
       waits-more e = go scan (sym p ∙ e)
         where
-          go : (s : Scan) → waits_for s (ltb (i + 1) n) (eq_bytes (key i) (key j)) ≡ true → (s ≡ Rows) × (i + 1 < st.load.lines) × (eq_bytes (key i) (key (i + 1)) ≡ true)
-          go Rows z = let g : i + 1 < st.load.lines = ltb-true _ _ (and_left _ _ z) in (refl, g, follows g (and_right (ltb (i + 1) n) _ z))
+          go : (s : Scan) → waits_at area s st i ≡ true → (s ≡ Rows) × (i + 1 < st.load.lines) × (eq_bytes (key i) (key (i + 1)) ≡ true)
+          go Rows z = let g : i + 1 < st.load.lines = ltb-true _ _ (and_left _ _ z) in (refl, g, and_right (ltb (i + 1) n) _ z)
           go Intents z = absurd (false≢true z)
           go Conflicts z = absurd (false≢true z)
 
       last-here : scan ≡ Rows → w ≡ false → i + 1 < st.load.lines → eq_bytes (key i) (key (i + 1)) ≡ false
       last-here r e g =
-          follows g
-          (sym (ap (λ (s : Scan). waits_for s (ltb (i + 1) n) (eq_bytes (key i) (key j))) r ∙ ap (λ (t : Bool). t && eq_bytes (key i) (key j)) (lt-ltb (i + 1) n g)) ∙ sym p ∙ e)
+          sym (ap (λ (s : Scan). waits_at area s st i) r ∙ ap (λ (t : Bool). t && eq_bytes (key i) (key (i + 1))) (lt-ltb (i + 1) n g)) ∙ sym p ∙ e
 
     -- ---- by what is asked
 
@@ -224,12 +212,9 @@ module _ {st : Store} {area : Bytes} (b : Built st area) where
       go Intents = refl
       go Conflicts = refl
 
-abbrev box_in : Bytes → ℕ → List Slot → box.Box
-box_in area n lines = record { lines = shown (line_of area) n lines; defaults = stored (shown (default_in area) n lines) }
-
-pub record Pass (lines : List Slot) (n : ℕ) (area : Bytes) (q : PageQuery) (a : Bounds) (due : Due) (i count sum : ℕ) (slots : List Slot) : Type 0 where
-  pub walking : Walking n area (over_of q.scan) (walk_from q a (box_in area n lines) (box_in area n lines).lines 0 0) (walk_from q a (box_in area n lines) (drop i (box_in area n lines).lines)) i count sum slots
-  pub dues : i < n → DueAt q.scan area q.moment (box_in area n lines).defaults (key_of area (get_or lines i no_slot)) (take i (box_in area n lines).lines) due
+pub record Pass (st : Store) (area : Bytes) (q : PageQuery) (a : Bounds) (due : Due) (i count sum : ℕ) (slots : List Slot) : Type 0 where
+  pub walking : Walking st.load.lines area (over_of q.scan) (walk_from q a (box_of st area) (box_of st area).lines 0 0) (walk_from q a (box_of st area) (drop i (box_of st area).lines)) i count sum slots
+  pub dues : i < st.load.lines → DueAt q.scan area q.moment (box_of st area).defaults (key_of area (get_or st.lines i no_slot)) (take i (box_of st area).lines) due
 
 module _ {st : Store} {area : Bytes} {q : PageQuery} (asks : WalkAsks st area q) (a : Bounds) where
   abbrev bx : box.Box
@@ -244,31 +229,23 @@ module _ {st : Store} {area : Bytes} {q : PageQuery} (asks : WalkAsks st area q)
   nothing-due Intents = tt
   nothing-due Conflicts = tt
 
-  pub pass-start : {none : Slot} {d : Due} → none ≡ no_slot → d ≡ no_due → Pass st.lines st.load.lines area q a d 0 0 0 (replicate 1024 none)
+  pub pass-start : {none : Slot} {d : Due} → none ≡ no_slot → d ≡ no_due → Pass st area q a d 0 0 0 (replicate 1024 none)
   pass-start {none} {d} e f = record {
     walking = walking_start asks.built.lines.count_fits e refl;
     dues = λ h. subst (DueAt q.scan area q.moment bx.defaults (key_of area (at 0)) (take 0 bx.lines)) (sym f) (nothing-due q.scan);
   }
 
-  module _ {d : Due} {i count sum : ℕ} {slots : List Slot} (w : Pass st.lines st.load.lines area q a d i count sum slots) where
+  module _ {d : Due} {i count sum : ℕ} {slots : List Slot} (w : Pass st area q a d i count sum slots) where
     pub pass-end : {r : Walked} → st.load.lines ≤ i → r ≡ record { answer = Accepted; more = false; count = count; size = sum + over_of q.scan * count + 3; slots = slots }
         → WalkedAs area (walk_from q a (box_of st area) (box_of st area).lines 0 0) r
     pass-end h p = walking-listed w.walking (left-none asks.built i h q.scan q.moment (limits_of q) a count sum) p
 
-    pub pass-small : (count ≤ 1024) × (sum ≤ 1048576)
-    pass-small = let v = w.walking in (omega arith, omega arith)
-
-    module _ (h : i < st.load.lines) {line : LineView} {d' : Due} (e : line ≡ view_of area (get_or st.lines i no_slot)) (s : d' ≡ due_after q.scan q.moment d (get_or st.lines i no_slot) line)
-        {j : ℕ} (l : Later i st.load.lines j) {wait next more t : Bool} (p₁ : wait ≡ by_key q.scan) (p₂ : next ≡ eq_bytes (key_of area (get_or st.lines i no_slot)) (key_of area (get_or st.lines j no_slot))) (p₃ : more ≡ ltb (i + 1) st.load.lines && next)
-        (p₄ : t ≡ wait && more) where
-      p : t ≡ waits_for q.scan (ltb (i + 1) st.load.lines) (eq_bytes (key_of area (at i)) (key_of area (at j)))
-      p = p₄ ∙ ap₂ (λ (x y : Bool). x && y) p₁ (p₃ ∙ ap (λ (x : Bool). ltb (i + 1) st.load.lines && x) p₂)
-
+    module _ (h : i < st.load.lines) {line : LineView} {d' : Due} (e : line ≡ view_of area (get_or st.lines i no_slot)) (s : d' ≡ due_after q.scan q.moment d (get_or st.lines i no_slot) line) {t : Bool} (p : t ≡ waits_at area q.scan st i) where
       seen : d' ≡ due_after q.scan q.moment d (at i) (view_of area (at i))
       seen = s ∙ ap (due_after q.scan q.moment d (at i)) e
 
-      pub pass-waits : t ≡ true → Pass st.lines st.load.lines area q a d' (i + 1) count sum slots
-      pass-waits f = let z = waits-more asks.built i h q.scan l p f in record {
+      pub pass-waits : t ≡ true → Pass st area q a d' (i + 1) count sum slots
+      pass-waits f = let z = waits-more asks.built i h q.scan p f in record {
         walking = walking-pass w.walking h (left q.scan z.0 z.1 z.2);
         dues = λ g. go q.scan z.0 z.1 z.2 (subst (DueAt q.scan area q.moment bx.defaults (key_of area (at i)) (take (i + 1) bx.lines)) (sym seen) (due-seen asks.built i h q.scan q.moment d (w.dues h)));
       }
@@ -289,12 +266,12 @@ module _ {st : Store} {area : Bytes} {q : PageQuery} (asks : WalkAsks st area q)
         stepped : Stepped area (over_of q.scan) (walk_from q a bx (drop i bx.lines)) (walk_from q a bx (drop (i + 1) bx.lines)) count sum turn
         stepped =
             subst (Stepped area (over_of q.scan) (walk_from q a bx (drop i bx.lines)) (walk_from q a bx (drop (i + 1) bx.lines)) count sum) (sym (r ∙ ap (λ (x : Due). turn_due inside x q.limit q.bytes count sum) seen))
-            (line-stepped asks.built i h q.scan q.moment (limits_of q) a count sum d (λ x. let v = w.walking in omega (arith, asks.large x)) (λ x. last-here asks.built i h q.scan l p x f) (w.dues h) o)
+            (line-stepped asks.built i h q.scan q.moment (limits_of q) a count sum d (λ x. let v = w.walking in omega (arith, asks.large x)) (λ x. last-here asks.built i h q.scan p x f) (w.dues h) o)
 
         new : {z : Due} → z ≡ no_due → i + 1 < st.load.lines → DueAt q.scan area q.moment bx.defaults (key_of area (at (i + 1))) (take (i + 1) bx.lines) z
-        new x g = subst (DueAt q.scan area q.moment bx.defaults (key_of area (at (i + 1))) (take (i + 1) bx.lines)) (sym x) (due-new asks.built i h g q.scan q.moment (λ y. last-here asks.built i h q.scan l p y f g))
+        new x g = subst (DueAt q.scan area q.moment bx.defaults (key_of area (at (i + 1))) (take (i + 1) bx.lines)) (sym x) (due-new asks.built i h g q.scan q.moment (λ y. last-here asks.built i h q.scan p y f g))
 
-        pub pass_on : {z : Due} → z ≡ no_due → turn ≡ On → Pass st.lines st.load.lines area q a z (i + 1) count sum slots
+        pub pass_on : {z : Due} → z ≡ no_due → turn ≡ On → Pass st area q a z (i + 1) count sum slots
         pass_on x y = record { walking = turn_on w.walking stepped h y; dues = new x }
 
         pub pass-stop : {v : Walked} → turn ≡ Stop → v ≡ record { answer = Accepted; more = true; count = count; size = sum + over_of q.scan * count + 3; slots = slots }
@@ -304,8 +281,5 @@ module _ {st : Store} {area : Bytes} {q : PageQuery} (asks : WalkAsks st area q)
         pub pass-refuse : {v : Walked} {x : Answer} → turn ≡ Refuse x → v ≡ empty_of x → WalkedAs area (walk_from q a (box_of st area) (box_of st area).lines 0 0) v
         pass-refuse y u = turn-refuse w.walking stepped y u
 
-        pub pass-cheap : {x : Slot} {cost : ℕ} → turn ≡ Add x cost → cost ≤ 600
-        pass-cheap y = turn-cheap w.walking stepped y
-
-        pub pass-add : {z : Due} {x : Slot} {cost : ℕ} → z ≡ no_due → turn ≡ Add x cost → Pass st.lines st.load.lines area q a z (i + 1) (count + 1) (sum + cost) (set slots count x)
+        pub pass-add : {z : Due} {x : Slot} {cost : ℕ} → z ≡ no_due → turn ≡ Add x cost → Pass st area q a z (i + 1) (count + 1) (sum + cost) (set slots count x)
         pass-add z y = record { walking = turn-add w.walking stepped h y; dues = new z }

@@ -1,12 +1,10 @@
 -- What is asked of a walk, by the definitions, and the page that the lines show which it leaves. Entries are taken as their bytes: so rows and
 -- locks are one matter.
 -- Assumes nothing.
-use Rattle.std.specs.Prelude.{ℕ, suc, ◌+◌, ◌≤◌, ◌<◌, ◌≡◌, true, false, List, ◌++◌, map, length, replicate}
+use Rattle.std.specs.Prelude.{ℕ, suc, ◌+◌, ◌≤◌, ◌≡◌, Bool, true, false, List, ◌++◌, map, length, replicate, Result, Ok, Err, ltb, slice_index_or}
 use Rattle.seqs.specs.Tables as tables
-use Rattle.forms.specs.Bytes.{Bytes, bytes_at}
-use Rattle.rules.specs.declared.answers.Answer.{Answer}
-use Rattle.rules.specs.declared.answers.Answer.TheVariants.{Accepted, No, Held}
-use Rattle.rules.specs.Answers.{Reply, nothing, shown, refused, if_passed}
+use Rattle.forms.specs.Bytes.{Bytes, bytes_at, eq_bytes}
+use Rattle.rules.specs.Answers.{Answer, Accepted, No, Held, Reply, nothing, shown, refused, if_passed}
 use Rattle.rules.specs.Box.{Box, KeyLine}
 use Rattle.rules.specs.Page.{Bounds, Limits, Page, empty_page, on_page, read_key, row_cost, lock_cost, conflicting, intent_walk, page_walk, keys_within, keys_of, locks_within, locks_of, page, intent_page, conflict_page}
 use Rattle.rules.specs.Written.{piece_bytes, lock_bytes, key_row_bytes, key_lock_bytes, page_bytes}
@@ -19,12 +17,14 @@ use Rattle.store.specs.declared.views.LineView.TheVariants as view
 use Rattle.store.specs.View.{place_of, key_of, past, no_slot}
 use Rattle.store.specs.Made.{Built}
 use Rattle.store.specs.Views.{lock_in, view_of}
-use Rattle.walks.specs.declared.walked.PageQuery.{PageQuery}
-use Rattle.turns.specs.declared.dues.Scan.{Scan}
-use Rattle.turns.specs.declared.dues.Scan.TheVariants.{Rows, Intents, Conflicts}
-use Rattle.turns.specs.declared.turns.Turn.{Turn}
-use Rattle.turns.specs.declared.turns.Turn.TheVariants.{On, Stop, Refuse, Add}
-use Rattle.walks.specs.declared.walked.Walked.{Walked}
+use Rattle.turns.specs.declared.asked.PageQuery.{PageQuery}
+use Rattle.turns.specs.declared.asked.Scan.{Scan}
+use Rattle.turns.specs.declared.asked.Scan.TheVariants.{Rows, Intents, Conflicts}
+use Rattle.turns.specs.Scans.{waits_for}
+use Rattle.turns.specs.Turns.{Turn, On, Stop, Refuse, Add}
+use Rattle.walks.specs.declared.walked as code
+use Rattle.rules.specs.declared.answers.Refusal.{Refusal as Why}
+use Rattle.rules.specs.Outcomes.{refusal}
 
 -- ---- what is asked
 
@@ -45,12 +45,6 @@ page_by floor Conflicts moment m a b = page_on key_lock_bytes (conflict_page a m
 
 abbrev pub page_asked : ℕ → PageQuery → Bounds → Box → Reply (Page Bytes)
 page_asked floor q a b = page_by floor q.scan q.moment (limits_of q) a b
-
--- "14, below the floor, for a .. row page moment below F": a page of locks asks for none, as one on the floor 0
-abbrev pub floor_of : Scan → ℕ → ℕ
-floor_of Rows floor = floor
-floor_of Intents floor = 0
-floor_of Conflicts floor = 0
 
 -- what is left of its walk at these lines, with a page of this count and sum
 abbrev pub walk_by : Scan → ℕ → Limits → Bounds → Box → List KeyLine → ℕ → ℕ → Reply (Page Bytes)
@@ -84,18 +78,11 @@ pub record SlotIn (area : Bytes) (s : Slot) : Type 0 where
   pub within : place_of s + s.len + past s.line ≤ length area
   pub short : part_len s.line ≤ 255
 
--- how many bytes an entry has besides its cost: the lengths of key and row; of the key, since a lock's 26 have the primary's
-abbrev pub over_of : Scan → ℕ
-over_of Rows = 2
-over_of Intents = 1
-over_of Conflicts = 1
-
 -- ---- how the walk goes on
 
--- the next of n places, or the last one
-pub record Later (i n r : ℕ) : Type 0 where
-  pub within : r < n
-  pub next : i + 1 < n → r ≡ i + 1
+-- whether the turn of the key of the line at i is not yet
+abbrev pub waits_at : Bytes → Scan → Store → ℕ → Bool
+waits_at area scan st i = waits_for scan (ltb (i + 1) st.load.lines) (eq_bytes (key_of area (slice_index_or st.lines i no_slot)) (key_of area (slice_index_or st.lines (i + 1) no_slot)))
 
 -- after a line's turn: `left` is what the lines after it say of a page of a count and a sum
 abbrev pub turn_to : Bytes → (ℕ → ℕ → Reply (Page Bytes)) → ℕ → ℕ → Turn → Reply (Page Bytes)
@@ -115,6 +102,25 @@ Refusal (Held h) = Unit {0}
 abbrev pub same : Bytes → Bytes
 same b = b
 
+-- the answer; of an accepted page, whether more follow, how many lines it is to hold and how many bytes it has. Slots from the count on say nothing
+pub record Walked : Type 0 where
+  pub answer : Answer
+  pub more : Bool
+  pub count : ℕ
+  pub size : ℕ
+  pub slots : List Slot
+
+abbrev pub lines_in : code.Walked.Walked → Walked
+lines_in w = record { answer = Accepted; more = w.more; count = w.count; size = w.size; slots = w.slots }
+
+abbrev pub empty_of : Answer → Walked
+empty_of v = record { answer = v; more = false; count = 0; size = 3; slots = replicate 1024 no_slot }
+
+-- a walk that refuses leaves no lines
+abbrev pub walked_in : Result code.Walked.Walked Why → Walked
+walked_in (Ok w) = lines_in w
+walked_in (Err r) = empty_of (refusal r)
+
 abbrev pub page_of : Bytes → Walked → Page Bytes
 page_of area w = record { rows = tables.shown (entry_bytes area) w.count w.slots; more = w.more }
 
@@ -123,6 +129,3 @@ pub record WalkedAs (area : Bytes) (want : Reply (Page Bytes)) (w : Walked) : Ty
   pub is : if_passed w.answer (shown (page_of area w)) ≡ want
   pub size_is : w.answer ≡ Accepted → w.size ≡ length (page_bytes same (page_of area w))
   pub table : tables.Table (SlotIn area) no_slot 1024 w.count w.slots
-
-abbrev pub empty_of : Answer → Walked
-empty_of v = record { answer = v; more = false; count = 0; size = 3; slots = replicate 1024 no_slot }

@@ -7,4 +7,4 @@ pub mod walk;
 pub mod walked;
 
 pub use judge::judge_page;
-pub use walked::{PageQuery, Walked};
+pub use walked::Walked;

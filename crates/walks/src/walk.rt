@@ -1,103 +1,66 @@
 // The lines in turn: "Keys are those of records and locks together, ascending .. Each key is read first"; or "keys of locks only". One pass
-// over the table, which this function alone holds.
+// over the table.
 ghost use Rattle.std.specs.Prelude.{◌≡◌, ◌+◌, ◌*◌, ◌<◌, ◌≤◌};
 ghost use Rattle.store.specs.View.{box_of};
+ghost use Rattle.store.specs.Made.{Built};
 ghost use Rattle.bounds.specs.Bounds.{bounds_of};
-ghost use Rattle.walks.specs.Walked.{walk_from, WalkAsks, over_of, WalkedAs, Later};
+ghost use Rattle.turns.specs.Scans.{over_of};
+ghost use Rattle.walks.specs.Walked.{waits_at, walk_from, WalkAsks, WalkedAs, walked_in};
 
-use crate::walked::{PageQuery, Walked, empty};
-use bounds::{slot_inside, slots_share};
-use forms::both;
-use rules::Answer;
+use crate::walked::Walked;
+use bounds::{Bounds, slots_share};
+use rules::Refusal;
 use store::{Slot, Store, view_of};
-use turns::{Scan, Turn, by_key, no_due, see, turn_of};
+use turns::{PageQuery, Scan, Turn, no_due, turn_of};
 
-// The next of n places, or the last one.
-fn later(i: usize, n: usize) -> usize
-    requires { i < n }
-    ensures { Later i n result }
+// Whether the turn of the key of line i is not yet: a page of rows waits for the key's last line.
+fn waits(store: &Store, area: &[u8], scan: Scan, i: usize) -> bool
+    requires { Built store.now area.now × (i < store.now.load.lines) }
+    ensures { result ≡ waits_at area.now scan store.now i }
 {
-    if i + 1 < n {
-        return i + 1;
-    }
-    i
-}
-
-// How many bytes besides its cost an entry has: the lengths of key and row; of the key, since a lock's 26 have the primary's.
-fn over_of(scan: Scan) -> usize
-    ensures { result ≡ over_of scan }
-{
-    match scan {
-        Scan::Rows => 2,
-        Scan::Intents => 1,
-        Scan::Conflicts => 1,
-    }
+    scan.by_key()
+        && i + 1 < store.load.lines
+        && slots_share(store.lines[i], store.lines[i + 1], area)
 }
 
 // A page of the first `count` slots: its entries, the count and the more byte.
 fn listed(scan: Scan, more: bool, count: usize, sum: usize, slots: [Slot; 1024]) -> Walked
     requires { (count ≤ 1024) × (sum ≤ 1048576) }
-    ensures { result ≡ record { answer = Answer.Accepted; more = more; count = count; size = sum + over_of scan * count + 3; slots = slots } }
+    ensures { result ≡ record { more = more; count = count; size = sum + over_of scan * count + 3; slots = slots } }
 {
-    let over = over_of(scan);
     Walked {
-        answer: Answer::Accepted,
-        more: more,
-        count: count,
-        size: sum + over * count + 3,
-        slots: slots,
+        more,
+        count,
+        size: sum + scan.over() * count + 3,
+        slots,
     }
 }
 
 pub(crate) fn walk_lines(
-    store: Store,
+    store: &Store,
     area: &[u8],
-    asked: PageQuery,
-    starts: bool,
-    start: &[u8],
-    ends: bool,
-    end: &[u8],
-    resumes: bool,
-    resume: &[u8],
-) -> Walked
-    requires { WalkAsks store area.now asked }
-    ensures { WalkedAs area.now (walk_from asked (bounds_of starts start.now ends end.now resumes resume.now) (box_of store area.now) (box_of store area.now).lines 0 0) result }
+    asked: &PageQuery,
+    bounds: &Bounds,
+) -> Result<Walked, Refusal>
+    requires { WalkAsks store.now area.now asked.now }
+    ensures { WalkedAs area.now (walk_from asked.now (bounds_of bounds.now) (box_of store.now area.now) (box_of store.now area.now).lines 0 0) (walked_in result) }
 {
-    let scan = asked.scan;
-    let lines = store.lines;
-    let load = store.load;
-    let n = load.lines;
-    let wait = by_key(scan);
-    let none = store::table::no_slot();
-    let mut found = [none; 1024];
+    let mut found = [store::table::no_slot(); 1024];
     let mut due = no_due();
     let mut count: usize = 0;
     let mut sum: usize = 0;
-    let mut i: usize = 0;
-    while i < n {
-        let s = lines[i];
-        let j = later(i, n);
-        let t = lines[j];
-        let told = view_of(s, area);
-        let seen = see(due, scan, asked.moment, s, told);
-        let next = slots_share(s, t, area);
-        i += 1;
-        let more = both(i < n, next);
-        if both(wait, more) {
+    for i in 0..store.load.lines {
+        let s = store.lines[i];
+        let seen = due.with(asked, s, view_of(s, area));
+        if waits(store, area, asked.scan, i) {
             due = seen;
             continue;
         }
         due = no_due();
-        let inside = slot_inside(s, area, starts, start, ends, end, resumes, resume);
-        let lets = seen.lets;
-        let line = seen.line;
-        let turn = turn_of(inside, lets, line, asked.limit, asked.bytes, count, sum);
-        match turn {
-            Turn::On => {
-                continue;
-            }
-            Turn::Stop => return listed(scan, true, count, sum, found),
-            Turn::Refuse(a) => return empty(a),
+        match turn_of(bounds.hold_slot(s, area), seen, asked, count, sum) {
+            Turn::On => {}
+            Turn::Stop => return Ok(listed(asked.scan, true, count, sum, found)),
+            Turn::Refuse(why) => return Err(why),
             Turn::Add(p, cost) => {
                 found[count] = p;
                 count += 1;
@@ -105,5 +68,5 @@ pub(crate) fn walk_lines(
             }
         }
     }
-    listed(scan, false, count, sum, found)
+    Ok(listed(asked.scan, false, count, sum, found))
 }

@@ -5,10 +5,10 @@ use Prim.Native.Nat.{◌-◌}
 use Rattle.actions.proofs.apply_prewrite.Goals as goal
 
 pub put_lock-requires : goal.put_lock-requires
-put_lock-requires c = prewrite-asks c.requires.0 c.requires.1 c.in-Nobody.is
+put_lock-requires c = prewrite-asks c.requires.0 c.requires.1 c.in-None.is
 
-pub returns-in-Nobody : goal.returns-in-Nobody
-returns-in-Nobody c = let q = c.put_lock.ensures in (q.0, prewrite-done c.requires.0 c.requires.1 c.in-Nobody.is q.1)
+pub returns-in-None : goal.returns-in-None
+returns-in-None c = let q = c.put_lock.ensures in (q.0, prewrite-done c.requires.0 c.requires.1 c.in-None.is q.1)
 
-pub returns-in-By : goal.returns-in-By
-returns-in-By c = (tt, prewrite-stays c.requires.0 c.requires.1 c.in-By.is)
+pub returns-in-Some : goal.returns-in-Some
+returns-in-Some c = (tt, prewrite-stays c.requires.0 c.requires.1 c.in-Some.is)

@@ -5,7 +5,7 @@ use Prim.Native.Nat.{◌-◌}
 use Rattle.actions.proofs.apply_step.Goals as goal
 
 pub put_record-requires : goal.put_record-requires
-put_record-requires c = (c.args.store.floor, step-asks c.requires.0 c.requires.1 (c.kind_for-kind.ensures _))
+put_record-requires c = rw c.bytes_of-bytes.ensures (step-asks c.requires.0 c.requires.1 c.kind_for-kind.ensures)
 
 pub returns : goal.returns
-returns c = let q = c.put_record.ensures c.args.store.floor in (q.0, step-done c.requires.0 c.requires.1 (c.kind_for-kind.ensures _) q.1)
+returns c = let q = c.put_record.ensures in (q.0, step-done c.requires.0 c.requires.1 c.kind_for-kind.ensures (rw c.bytes_of-bytes.ensures at q.1))

@@ -2,8 +2,8 @@
 use Rattle.driving.proofs.KeepLaws.{Keeps}
 use Rattle.drive.proofs.answer_calls.Given as goal
 
-abbrev pub invariant-loop-left : goal.invariant-loop-left
-invariant-loop-left g l = Keeps l.initial.out l.kept l.area l.out
+abbrev pub invariant-loop-call : goal.invariant-loop-call
+invariant-loop-call g l = Keeps l.initial.out l.store l.area l.out
 
-abbrev pub decreases-loop-left : goal.decreases-loop-left
-decreases-loop-left g l = l.left
+abbrev pub decreases-loop-call : goal.decreases-loop-call
+decreases-loop-call g l = l.calls.left

@@ -1,6 +1,6 @@
--- `bench::turning::change_on_copy` meets its contract: what is made on the copy is made with the same store. Assumes nothing.
+-- What is made on the copy is made with the same store.
 use Rattle.bench.proofs.BenchTurnLaws.{made-copy}
 use Rattle.bench.proofs.turning.change_on_copy.Goals as goal
 
 pub change_call-requires : goal.change_call-requires
-change_call-requires c = record { made = made-copy c.requires.0 c.copy_below.ensures; places = c.requires.1 }
+change_call-requires c = made-copy c.requires.made c.copy_below.ensures c.requires.length_is

@@ -1,9 +1,6 @@
--- `bench::turning::many_turns` meets its contract, as one turn does. Assumes nothing.
+-- The copy stays as long.
 use Rattle.bench.specs.Asks.{TurnAsks}
 use Rattle.bench.proofs.turning.many_turns.Given as goal
 
-abbrev pub invariant-loop-left : goal.invariant-loop-left
-invariant-loop-left l = TurnAsks l.store l.area l.copy
-
-abbrev pub decreases-loop-left : goal.decreases-loop-left
-decreases-loop-left l = l.left
+abbrev pub invariant-loop-turn : goal.invariant-loop-turn
+invariant-loop-turn l = TurnAsks l.subject l.copy

@@ -3,11 +3,8 @@
 use Rattle.calls.proofs.RoomJudgeLaws.{judge-full, judge-passed}
 use Rattle.calls.proofs.judged.judge.Goals as goal
 
-pub left_load-left-requires : goal.left_load-left-requires
-left_load-left-requires c = c.requires
-
 pub returns-then-not-load_fits : goal.returns-then-not-load_fits
-returns-then-not-load_fits c = judge-full _ _ c.left_load-left.ensures c.load_fits.ensures c.if-not-load_fits.true-raw
+returns-then-not-load_fits c = judge-full _ _ c.left_load-left.ensures c.load_fits.ensures c.if-not-load_fits.true
 
 pub returns : goal.returns
-returns c = judge-passed _ _ c.left_load-left.ensures c.load_fits.ensures c.if-not-load_fits.false-raw
+returns c = judge-passed _ _ c.left_load-left.ensures c.load_fits.ensures c.if-not-load_fits.false

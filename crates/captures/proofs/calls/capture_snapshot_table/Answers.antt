@@ -4,20 +4,20 @@
 use Rattle.captures.proofs.CaptureImageLaws.{captured-zero, captured-short, put_front, captured-put}
 use Rattle.captures.proofs.MadeLaws.{built-lined}
 use Rattle.captures.proofs.MadeStoredLaws.{written-restores, refused}
-use native.Mathlib.Omega.{arith}
+use Rattle.std.proofs.Common.{arith, refl}
 use Rattle.captures.proofs.calls.capture_snapshot_table.Goals as goal
 
 pub returns-then-table-eq0 : goal.returns-then-table-eq0
-returns-then-table-eq0 c = record { captured = captured-zero c.args.store c.args.area.now c.args.table c.args.out.now c.if-table-eq0.true c.refusal.ensures; restores = λ e. absurd (refused 3 c.refusal.ensures e) }
+returns-then-table-eq0 c = record { captured = captured-zero c.args.store.now c.args.area.now c.args.table c.args.out.now c.if-table-eq0.true refl; restores = λ e. absurd (refused 3 refl e) }
 
 pub sizes_of-z-requires : goal.sizes_of-z-requires
 sizes_of-z-requires c = built-lined c.requires.built
 
 pub returns-then-out-z : goal.returns-then-out-z
-returns-then-out-z c = record { captured = captured-short c.args.store c.args.area.now c.args.table c.args.out.now c.if-table-eq0.false c.sizes_of-z.ensures c.if-out-z.true c.refusal-then-out-z.ensures; restores = λ e. absurd (refused 12 c.refusal-then-out-z.ensures e) }
+returns-then-out-z c = record { captured = captured-short c.args.store.now c.args.area.now c.args.table c.args.out.now c.if-table-eq0.false c.sizes_of-z.ensures c.if-out-z.true refl; restores = λ e. absurd (refused 12 refl e) }
 
-pub put_image-count-requires : goal.put_image-count-requires
-put_image-count-requires c = record { lined = built-lined c.requires.built; sizes = c.sizes_of-z.ensures; room = c.if-out-z.false }
+pub put_image-requires : goal.put_image-requires
+put_image-requires c = record { lined = built-lined c.requires.built; sizes = c.sizes_of-z.ensures; room = c.if-out-z.false }
 
 pub returns : goal.returns
-returns c = record { captured = captured-put c.args.store c.args.area.now c.args.table c.args.out.now c.if-table-eq0.false c.sizes_of-z.ensures c.if-out-z.false c.put_image-count.ensures; restores = λ e. written-restores c.requires c.sizes_of-z.ensures.octets (omega arith) c.args.table (record { above = omega (arith, c.if-table-eq0.false); small = omega arith }) (put_front c.args.store c.args.area.now c.args.table c.args.out.now c.if-table-eq0.false c.sizes_of-z.ensures c.put_image-count.ensures) }
+returns c = record { captured = captured-put c.args.store.now c.args.area.now c.args.table c.args.out.now c.if-table-eq0.false c.sizes_of-z.ensures c.if-out-z.false c.put_image.ensures; restores = λ e. written-restores c.requires c.sizes_of-z.ensures.octets (omega arith) c.args.table (record { above = omega (arith, c.if-table-eq0.false); small = omega arith }) (put_front c.args.store.now c.args.area.now c.args.table c.args.out.now c.if-table-eq0.false c.sizes_of-z.ensures c.put_image.ensures) }

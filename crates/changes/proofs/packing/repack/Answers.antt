@@ -5,8 +5,8 @@ use Prim.Native.Nat.{ℕ}
 use lib.ListN.{length-replicate}
 use Rattle.changes.proofs.packing.repack.Goals as goal
 
-pub pack-l-requires : goal.pack-l-requires
-pack-l-requires c = pack-asks c.requires (length-replicate {A = ℕ} 68608 0)
+pub pack-requires : goal.pack-requires
+pack-requires c = pack-asks c.requires (length-replicate {A = ℕ} 68608 0)
 
 pub returns : goal.returns
-returns c = repacked c.requires c.pack-l.ensures c.put_bytes.ensures
+returns c = repacked c.requires c.pack.ensures c.put_bytes.ensures

@@ -3,18 +3,11 @@
 -- Assumes nothing.
 use Rattle.collects.proofs.WalkLaws.{Walked}
 use Rattle.collects.proofs.CollectedLaws.{Packing}
-use Prim.Native.Nat.{◌-◌}
-use lib.ListN.{take}
+use Rattle.std.proofs.Common.{take}
 use Rattle.collects.proofs.collecting.collect.Given as goal
 
 abbrev pub invariant-loop-i : goal.invariant-loop-i
 invariant-loop-i l = Walked l.floor l.area (take l.store.load.lines l.store.lines) l.i l.kept l.p
 
-abbrev pub decreases-loop-i : goal.decreases-loop-i
-decreases-loop-i l = l.i
-
 abbrev pub invariant-loop-i-2 : goal.invariant-loop-i-2
 invariant-loop-i-2 l = Packing l.floor l.area l.initial.store l.i l.k l.store
-
-abbrev pub decreases-loop-i-2 : goal.decreases-loop-i-2
-decreases-loop-i-2 l = l.initial.store.load.lines - l.i

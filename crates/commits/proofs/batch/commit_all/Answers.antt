@@ -1,13 +1,18 @@
 -- `commits::batch::commit_all` meets its contract.
 -- Assumes nothing.
-use Rattle.store.specs.View.{box_of}
-use Rattle.calls.proofs.DoneLaws.{asks-if}
-use Rattle.commits.proofs.CommitPassLaws.{ends-ready, pass-checked, pass-done}
-use Prim.Native.Nat.{◌-◌}
+use mathlib.Core.Path.{refl}
+use Rattle.calls.proofs.SettledLaws.{handed}
+use Rattle.commits.proofs.CommitPassLaws.{pass-still, pass-asks, pass-done}
 use Rattle.commits.proofs.batch.commit_all.Goals as goal
 
-pub apply_all-applied-requires : goal.apply_all-applied-requires
-apply_all-applied-requires c = let a = c.args in let h = a.terms in asks-if c.requires.0 c.only_if-m.ensures (λ move. ends-ready h _ (box_of a.store a.area.now) c.requires.1 c.requires.0.form (pass-checked c.requires.0 h c.check_all-v.ensures move)) (λ _. tt)
+pub returns-in_err-moves : goal.returns-in_err-moves
+returns-in_err-moves c = rw (handed _ _ c.from_residual.ensures.1) (pass-still c.requires.0 c.args.terms c.in_err-moves.ensures refl)
+
+pub returns-then-not-moves : goal.returns-then-not-moves
+returns-then-not-moves c = pass-still c.requires.0 c.args.terms c.in_ok-moves.ensures c.if-not-moves.true
+
+pub apply_all-requires : goal.apply_all-requires
+apply_all-requires c = pass-asks c.requires.0 c.args.terms c.in_ok-moves.ensures c.if-not-moves.false c.requires.1
 
 pub returns : goal.returns
-returns c = pass-done c.requires.0 (c.args.terms) c.check_all-v.ensures c.only_if-m.ensures c.apply_all-applied.ensures
+returns c = pass-done c.requires.0 c.args.terms c.in_ok-moves.ensures c.if-not-moves.false c.apply_all.ensures

@@ -1,35 +1,22 @@
-use mathlib.Core.Path.{sym, ◌∙◌}
-use Rattle.store.specs.View.{box_of}
-use Rattle.calls.proofs.SettledLaws.{is-accepted}
-use Rattle.calls.proofs.PassLaws.{pass-small, pass-in}
-use Rattle.commits.proofs.CommitPassLaws.{late-judged, checking-start, checking-more, checking-out, checking-end}
-use native.Mathlib.Omega.{arith}
-use Prim.Native.Nat.{◌-◌}
+-- `commits::passes::check_all` meets its contract.
+-- Assumes nothing.
+use mathlib.Core.Path.{refl, sym}
+use Rattle.calls.proofs.SettledLaws.{handed-is}
+use Rattle.calls.proofs.PassLaws.{pass-in}
+use Rattle.commits.proofs.CommitPassLaws.{late-judged, checking-more, checking-out, checking-end}
 use Rattle.commits.proofs.passes.check_all.Goals as goal
 
-pub returns-then-not-accepted : goal.returns-then-not-accepted
-returns-then-not-accepted c = late-judged _ c.floor_step-late.ensures c.accepted.ensures c.if-not-accepted.true-raw c.refused.ensures
+pub returns-in_err-floor_step : goal.returns-in_err-floor_step
+returns-in_err-floor_step c = rw (handed-is _ _ c.from_residual.ensures.1) (late-judged _ _ c.in_err-floor_step.ensures)
 
-pub loop-i-init : goal.loop-i-init
-loop-i-init c = checking-start (c.args.terms) (box_of c.args.store c.args.area.now) c.requires.form.listed
+pub of-key-requires : goal.of-key-requires
+of-key-requires c = (pass-in c.loop-e.invariant _ c.loop-e-test.true).key_in.within
 
-pub bounds-list-i : goal.bounds-list-i
-bounds-list-i c = pass-small c.loop-i.invariant c.loop-i-test.true
+pub returns-in_err-moves : goal.returns-in_err-moves
+returns-in_err-moves c = rw (handed-is _ _ c.from_residual-in_err-moves.ensures.1) (checking-out c.loop-e.invariant _ c.loop-e-test.true _ (rw c.of-key.ensures at c.in_err-moves.ensures) (sym c.in_ok-floor_step.ensures))
 
-pub key_of-key-requires : goal.key_of-key-requires
-key_of-key-requires c = pass-in c.loop-i.invariant c.loop-i-test.true
-
-pub check_key-v-requires : goal.check_key-v-requires
-check_key-v-requires c = c.requires.made.built
-
-pub returns-then-not-accepted-2 : goal.returns-then-not-accepted-2
-returns-then-not-accepted-2 c = checking-out c.loop-i.invariant c.loop-i-test.true (rw c.key_of-key.ensures at c.check_key-v.ensures) c.accepted-in-loop-i.ensures c.if-not-accepted-2.true-raw (sym c.floor_step-late.ensures ∙ is-accepted _ c.accepted.ensures c.if-not-accepted.false-raw)
-
-pub overflow_add-i : goal.overflow_add-i
-overflow_add-i c = omega (arith, pass-small c.loop-i.invariant c.loop-i-test.true)
-
-pub loop-i-preserved : goal.loop-i-preserved
-loop-i-preserved c = checking-more c.loop-i.invariant c.loop-i-test.true (rw c.key_of-key.ensures at c.check_key-v.ensures) (is-accepted _ c.accepted-in-loop-i.ensures c.if-not-accepted-2.false-raw) c.either-moves.ensures
+pub loop-e-preserved : goal.loop-e-preserved
+loop-e-preserved c = checking-more c.loop-e.invariant _ c.loop-e-test.true (rw c.of-key.ensures at c.in_ok-moves.ensures) refl
 
 pub returns : goal.returns
-returns c = checking-end c.loop-i.invariant c.loop-i-test.false (sym c.floor_step-late.ensures ∙ is-accepted _ c.accepted.ensures c.if-not-accepted.false-raw)
+returns c = checking-end c.loop-e.invariant c.loop-e-test.false (sym c.in_ok-floor_step.ensures)

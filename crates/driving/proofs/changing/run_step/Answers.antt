@@ -1,7 +1,7 @@
--- `driving::changing::run_step` meets its contract: the batch lies in the call, and the answer is told with its count (`step-ran`).
+-- `driving::changing::run_step` meets its contract: the answer is told with its count (`step-ran`).
 -- Assumes nothing.
 use Rattle.driving.proofs.RunCallLaws.{step-ran}
 use Rattle.driving.proofs.changing.run_step.Goals as goal
 
 pub returns : goal.returns
-returns c = step-ran c.args.call.now c.args.args c.part-rest.ensures c.commit_batch-done.ensures c.requires.length_is c.tell_plain-len.ensures
+returns c = step-ran c.args.args.now c.commit_batch-done.ensures c.written.ensures c.requires.length_is c.tell.ensures

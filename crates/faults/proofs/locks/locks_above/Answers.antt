@@ -1,21 +1,14 @@
-use native.Mathlib.Omega.{arith}
-use Prim.Native.Nat.{◌-◌}
-use mathlib.Core.Path.{refl}
-use Rattle.pairs.proofs.EachLaws.{each-bad, each_more, each-end}
-use Rattle.faults.proofs.JudgeLaws.{lock-below, lock-over}
+-- `faults::locks::locks_above` meets its contract.
+-- Assumes nothing.
+use Rattle.std.proofs.Common.{◌∙◌, rules, tests}
+use Rattle.std.proofs.lemmas.Iterator.{YieldsList-from_slice}
+use Rattle.std.proofs.lemmas.Iterator.Search.{all_from_yields_List}
+use Rattle.rules.specs.Restore.{lock_above}
+use Rattle.faults.specs.Judged.{lock_at}
+use Rattle.pairs.proofs.EachLaws.{all-each}
 use Rattle.faults.proofs.locks.locks_above.Goals as goal
 
-pub loop-i-init : goal.loop-i-init
-loop-i-init c = record { is = refl }
-
-pub overflow_cast-ls : goal.overflow_cast-ls
-overflow_cast-ls c = omega (arith, c.type_inv.ls c.loop-i.i)
-
-pub returns-then-e-floor : goal.returns-then-e-floor
-returns-then-e-floor c = each-bad c.loop-i.invariant c.loop-i-test.true (lock-below _ c.entry_at-e.ensures c.if-e-floor.true)
-
-pub loop-i-preserved : goal.loop-i-preserved
-loop-i-preserved c = each_more c.loop-i.invariant c.loop-i-test.true (lock-over _ c.entry_at-e.ensures c.if-e-floor.false)
-
 pub returns : goal.returns
-returns c = each-end c.loop-i.invariant c.loop-i-test.false
+returns c =
+    all_from_yields_List (λ p. lock_above c.args.floor (lock_at c.args.s.now p)) _ _ _ c.all.ensures.ran (YieldsList-from_slice c.args.ls.now cc) (λ x b q k. search (rules, tests))
+    ∙ all-each (lock_above c.args.floor) (lock_at c.args.s.now) c.args.ls.now

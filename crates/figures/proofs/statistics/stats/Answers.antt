@@ -2,7 +2,7 @@ use Rattle.figures.proofs.StatLaws.{lines_start, lines-ready, lines_more, few_ro
 use Rattle.figures.proofs.statistics.stats.Goals as goal
 
 pub loop-i-init : goal.loop-i-init
-loop-i-init c = lines_start c.requires.built c.no_run-none.ensures
+loop-i-init c = lines_start c.requires.built c.no_run.ensures c.no_run-2.ensures
 
 pub one_line-seen-requires : goal.one_line-seen-requires
 one_line-seen-requires c = lines-ready c.requires.built c.loop-i.invariant c.loop-i-test.true

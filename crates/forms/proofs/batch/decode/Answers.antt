@@ -1,17 +1,14 @@
 -- `forms::batch::decode` meets its contract: the count is missing, too large, or the entries are read, by `DecodeLaws`.
 -- Assumes nothing.
-use Rattle.forms.specs.Places.{item_at, item_key, item_of}
-use Rattle.forms.proofs.DecodeLaws.{decode-short, decode-long, decode-many, decode-few}
+use Rattle.forms.specs.Places.{item_of}
+use Rattle.forms.proofs.DecodeLaws.{decode_short, decode_many, decode_few, decoded_as}
 use Rattle.forms.proofs.batch.decode.Goals as goal
 
-pub returns-then-not-n : goal.returns-then-not-n
-returns-then-not-n c = rw c.no_entries.ensures (decode-short _ _ _ c.number_at-n.ensures c.if-not-n.true)
+pub returns-in_err-count : goal.returns-in_err-count
+returns-in_err-count g c = rw c.from_residual.ensures (decode_short _ _ _ c.in_err-count.ensures)
 
-pub returns-then-n-gt-MOST : goal.returns-then-n-gt-MOST
-returns-then-n-gt-MOST c = rw c.no_entries-then-n-gt-MOST.ensures (decode-many _ _ _ c.number_at-n.ensures c.if-not-n.false c.if-n-gt-MOST.true)
-
-pub read_all-requires : goal.read_all-requires
-read_all-requires c = (decode-long (item_key c.args.rows) (item_at c.args.rows) (item_of c.args.rows c.args.s.now) c.number_at-n.ensures c.if-not-n.false, c.if-n-gt-MOST.false)
+pub returns-then-count-gt-MOST : goal.returns-then-count-gt-MOST
+returns-then-count-gt-MOST g c = decode_many _ _ _ c.in_ok-count.ensures c.if-count-gt-MOST.true
 
 pub returns : goal.returns
-returns c = decode-few _ _ _ c.number_at-n.ensures c.if-not-n.false c.if-n-gt-MOST.false c.read_all.ensures
+returns g c = decoded_as (item_of g.F.Form.rows c.args.s.now) c.args.s.now c.read_all.result (decode_few _ _ _ c.in_ok-count.ensures c.if-count-gt-MOST.false) c.read_all.ensures

@@ -8,7 +8,7 @@ pub put_byte-requires : goal.put_byte-requires
 put_byte-requires c = omega (arith, key-room c.args.key.now c.put_digits-a.ensures c.put_fitting-b.ensures c.requires)
 
 pub returns-then-not-put : goal.returns-then-not-put
-returns-then-not-put c = delete-laid _ c.put_digits-a.ensures c.put_fitting-b.ensures c.args.put c.args.row.now c.if-not-put.true-raw c.put_byte.ensures
+returns-then-not-put c = delete-laid _ c.put_digits-a.ensures c.put_fitting-b.ensures c.args.put c.args.row.now c.if-not-put.true c.put_byte.ensures
 
 pub put_byte-c-requires : goal.put_byte-c-requires
 put_byte-c-requires c = omega (arith, key-room c.args.key.now c.put_digits-a.ensures c.put_fitting-b.ensures c.requires)
@@ -17,4 +17,4 @@ pub put_fitting-requires : goal.put_fitting-requires
 put_fitting-requires c = omega (arith, key-room c.args.key.now c.put_digits-a.ensures c.put_fitting-b.ensures c.requires, c.put_byte-c.ensures.next, c.put_byte-c.ensures.length_is)
 
 pub returns : goal.returns
-returns c = put-laid _ c.put_digits-a.ensures c.put_fitting-b.ensures c.args.put c.args.row.now c.if-not-put.false-raw c.put_byte-c.ensures c.put_fitting.ensures
+returns c = put-laid _ c.put_digits-a.ensures c.put_fitting-b.ensures c.args.put c.args.row.now c.if-not-put.false c.put_byte-c.ensures c.put_fitting.ensures

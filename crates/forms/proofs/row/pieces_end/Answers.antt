@@ -1,18 +1,14 @@
 use Rattle.forms.proofs.RowLaws.{passing-start, passing-bad, passing-more, passing-end}
-use native.Mathlib.Omega.{arith}
 use Rattle.forms.proofs.row.pieces_end.Goals as goal
 
-pub loop-left-init : goal.loop-left-init
-loop-left-init c = passing-start _ c.requires
+pub loop-init : goal.loop-init
+loop-init c = passing-start _ c.requires
 
-pub returns-then-not-p : goal.returns-then-not-p
-returns-then-not-p c = passing-bad c.loop-left.invariant c.part_at-p.ensures c.loop-left-test.true c.if-not-p.true
+pub returns-in_err-part_at : goal.returns-in_err-part_at
+returns-in_err-part_at c = rw c.from_residual.ensures (passing-bad c.loop.invariant c.loop-test.true c.in_err-part_at.ensures)
 
-pub overflow_add-end : goal.overflow_add-end
-overflow_add-end c = omega (arith, c.part_at-p.ensures.within)
-
-pub loop-left-preserved : goal.loop-left-preserved
-loop-left-preserved c = passing-more c.loop-left.invariant c.part_at-p.ensures c.loop-left-test.true c.if-not-p.false
+pub loop-preserved : goal.loop-preserved
+loop-preserved c = rw c.end-end.ensures (passing-more c.loop.invariant c.loop-test.true c.in_ok-part_at.ensures)
 
 pub returns : goal.returns
-returns c = passing-end c.loop-left.invariant c.loop-left-test.false
+returns c = passing-end c.loop.invariant c.loop-test.false

@@ -11,5 +11,5 @@ returns-then-filled-eq0 c = spares-filled _ _ _ c.requires c.if-filled-eq0.true
 pub bounds-s-at : goal.bounds-s-at
 bounds-s-at c = last-in _ _ _ c.requires c.if-filled-eq0.false
 
-pub returns : goal.returns
-returns c = spares-last c.args.s.now _ _ c.requires c.if-filled-eq0.false (omega (arith, c.type_inv.s (c.args.at + c.args.n / 8)))
+pub returns-else-filled-eq0 : goal.returns-else-filled-eq0
+returns-else-filled-eq0 c = spares-last c.args.s.now _ _ c.requires c.if-filled-eq0.false (omega (arith, c.type_inv.s (c.args.at + c.args.n / 8)))

@@ -1,12 +1,9 @@
-use Rattle.forms.proofs.WriterLaws.{counting-start, counting_more, counting-end}
-use native.Mathlib.Omega.{arith}
+-- `forms::writers::put_digits` meets its contract: the last bytes of a word are the digits of its number.
+-- Assumes nothing.
+use Rattle.forms.specs.Numbers.{width_of}
+use Rattle.forms.proofs.NumberLaws.{length_digits, word-digits}
+use Rattle.forms.proofs.WriterLaws.{laid-digits}
 use Rattle.forms.proofs.writers.put_digits.Goals as goal
 
-pub loop-i-init : goal.loop-i-init
-loop-i-init c = counting-start _ _ _ _ (omega (arith, c.bytes_in-w.ensures))
-
-pub loop-i-preserved : goal.loop-i-preserved
-loop-i-preserved c = counting_more c.loop-i.invariant c.loop-i-test.true
-
 pub returns : goal.returns
-returns c = rw (← c.bytes_in-w.ensures) (counting-end c.loop-i.invariant c.loop-i-test.false)
+returns c = laid-digits c.put_bytes.ensures (word-digits c.args.width c.args.value c.bytes_in.ensures c.to_be_bytes.ensures) (length_digits (width_of c.args.width) c.args.value)

@@ -1,24 +1,16 @@
--- `images::entries::numbers_at` meets its contract.
+-- `images::entries::numbers_at` meets its contract: each way out is a law of `ImageEntryLaws`.
 -- Assumes nothing.
-use Rattle.forms.proofs.NumberLaws.{number-long}
 use Rattle.images.proofs.ImageEntryLaws.{tail-no-two, tail-no-three, tail-no-kind, tail-good}
-use native.Mathlib.Omega.{arith}
 use Rattle.images.proofs.entries.numbers_at.Goals as goal
 
-pub returns-then-not-second : goal.returns-then-not-second
-returns-then-not-second c = rw c.no_tail.ensures (tail-no-two c.number_at-second.ensures c.if-not-second.true)
+pub returns-in_err-second : goal.returns-in_err-second
+returns-in_err-second c = rw c.from_residual.ensures (tail-no-two c.args.s.now c.args.at c.in_err-second.ensures)
 
-pub overflow_add-at : goal.overflow_add-at
-overflow_add-at c = omega (arith, number-long c.number_at-second.ensures c.if-not-second.false)
-
-pub returns-then-not-third : goal.returns-then-not-third
-returns-then-not-third c = rw c.no_tail-then-not-third.ensures (tail-no-three c.number_at-second.ensures c.if-not-second.false c.number_at-third.ensures c.if-not-third.true)
-
-pub overflow_add-b : goal.overflow_add-b
-overflow_add-b c = omega (arith, number-long c.number_at-second.ensures c.if-not-second.false, number-long c.number_at-third.ensures c.if-not-third.false)
+pub returns-in_err-third : goal.returns-in_err-third
+returns-in_err-third c = rw c.from_residual-in_err-third.ensures (tail-no-three _ _ c.in_ok-second.ensures c.in_err-third.ensures)
 
 pub returns-then-s-b : goal.returns-then-s-b
-returns-then-s-b c = rw c.no_tail-then-s-b.ensures (tail-no-kind c.number_at-second.ensures c.if-not-second.false c.number_at-third.ensures c.if-not-third.false c.if-s-b.true)
+returns-then-s-b c = tail-no-kind _ _ c.in_ok-second.ensures c.in_ok-third.ensures c.if-s-b.true
 
 pub returns : goal.returns
-returns c = tail-good c.number_at-second.ensures c.if-not-second.false c.number_at-third.ensures c.if-not-third.false c.if-s-b.false
+returns c = tail-good _ _ c.in_ok-second.ensures c.in_ok-third.ensures c.kind_from-kind.ensures c.if-s-b.false

@@ -1,34 +1,21 @@
+-- `images::sections::section_at` meets its contract: each way out is a law of `SpanLaws`.
+-- Assumes nothing.
+use Rattle.images.specs.Good.{form_of}
 use Rattle.images.proofs.SpanLaws.{span-no-count, listing_start, listing-bad, listing-room, listing-more, listing-end}
-use Rattle.forms.proofs.NumberLaws.{number-long}
 use native.Mathlib.Omega.{arith}
 use Rattle.images.proofs.sections.section_at.Goals as goal
 
-pub returns-then-not-n : goal.returns-then-not-n
-returns-then-not-n c = rw c.no_span.ensures (span-no-count _ _ _ c.number_at-n.ensures _ c.if-not-n.true)
-
-pub overflow_add-end : goal.overflow_add-end
-overflow_add-end c = omega (arith, number-long c.number_at-n.ensures c.if-not-n.false)
+pub returns-in_err-count : goal.returns-in_err-count
+returns-in_err-count c = rw c.from_residual.ensures (span-no-count (form_of c.args.form) c.args.section c.args.table c.args.s.now c.args.at c.args.places.now c.in_err-count.ensures)
 
 pub loop-k-init : goal.loop-k-init
-loop-k-init c = listing_start _ _ _ c.number_at-n.ensures c.if-not-n.false _
+loop-k-init c = listing_start _ _ _ c.in_ok-count.ensures _
 
-pub returns-then-not-e : goal.returns-then-not-e
-returns-then-not-e c = rw c.no_span-then-not-e.ensures (listing-bad _ _ _ c.number_at-n.ensures c.if-not-n.false c.loop-k.invariant c.good_at-e.ensures c.loop-k-test.true c.if-not-e.true)
-
-pub overflow_cast-places : goal.overflow_cast-places
-overflow_cast-places c = omega (arith, c.loop-k.invariant.end_near, c.loop-k.invariant.low, c.loop-k.invariant.count_fits, c.requires.1)
-
-pub bounds-places-k : goal.bounds-places-k
-bounds-places-k c = listing-room _ _ _ c.number_at-n.ensures c.if-not-n.false c.loop-k.invariant c.good_at-e.ensures c.loop-k-test.true c.if-not-e.false c.requires.0
-
-pub overflow_add-bytes : goal.overflow_add-bytes
-overflow_add-bytes c = omega (arith, c.good_at-e.ensures.key_small, c.good_at-e.ensures.piece_small)
-
-pub overflow_add-bytes-in-loop-k : goal.overflow_add-bytes-in-loop-k
-overflow_add-bytes-in-loop-k c = omega (arith, c.good_at-e.ensures.key_small, c.good_at-e.ensures.piece_small, c.loop-k.invariant.bytes_few, c.loop-k.invariant.low, c.loop-k.invariant.count_fits)
+pub returns-in_err-e : goal.returns-in_err-e
+returns-in_err-e c = rw c.from_residual-in_err-e.ensures (listing-bad _ _ _ c.in_ok-count.ensures c.loop-k.invariant c.loop-k.places (omega arith) c.in_err-e.ensures)
 
 pub loop-k-preserved : goal.loop-k-preserved
-loop-k-preserved c = listing-more _ _ _ c.number_at-n.ensures c.if-not-n.false c.loop-k.invariant c.good_at-e.ensures c.loop-k-test.true c.if-not-e.false (listing-room _ _ _ c.number_at-n.ensures c.if-not-n.false c.loop-k.invariant c.good_at-e.ensures c.loop-k-test.true c.if-not-e.false c.requires.0)
+loop-k-preserved c = listing-more _ _ _ c.in_ok-count.ensures c.loop-k.invariant c.in_ok-e.ensures (omega arith) (listing-room _ _ _ c.in_ok-count.ensures c.loop-k.invariant c.in_ok-e.ensures (omega arith) c.requires.0)
 
 pub returns : goal.returns
-returns c = listing-end _ _ _ c.number_at-n.ensures c.if-not-n.false c.loop-k.invariant c.loop-k-test.false
+returns c = listing-end _ _ _ c.in_ok-count.ensures c.loop-k.invariant (omega arith)

@@ -7,13 +7,10 @@ use Prim.Native.Nat.{◌-◌, ◌^◌, ◌<◌}
 use Rattle.lookups.proofs.lookup.look_up.Given as goal
 
 abbrev pub invariant-loop-low : goal.invariant-loop-low
-invariant-loop-low l = record { halving : Halving l.area l.key l.lines l.n l.low l.high; enough : l.high - l.low < 2 ^ l.rounds }
+invariant-loop-low l = record { halving : Halving l.area l.key l.store.lines l.store.load.lines l.low l.high; enough : l.high - l.low < 2 ^ l.rounds }
 
 abbrev pub decreases-loop-low : goal.decreases-loop-low
 decreases-loop-low l = l.high - l.low
 
 abbrev pub invariant-loop-i : goal.invariant-loop-i
-invariant-loop-i l = Looking l.area l.key l.start l.stamp l.lines l.n l.i l.seen
-
-abbrev pub decreases-loop-i : goal.decreases-loop-i
-decreases-loop-i l = l.n - l.i
+invariant-loop-i l = Looking l.area l.key l.start l.stamp l.store.lines l.store.load.lines l.i l.seen

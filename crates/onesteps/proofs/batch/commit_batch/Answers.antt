@@ -1,18 +1,19 @@
 -- `onesteps::batch::commit_batch` meets its contract.
 -- Assumes nothing.
-use Rattle.actions.specs.EntryAsks.{commit_terms_for}
-use Rattle.calls.proofs.SettledLaws.{is-accepted, is-refusal}
+use mathlib.Core.Path.{refl}
+use Rattle.rules.proofs.OutcomeLaws.{refusal-not}
+use Rattle.calls.proofs.SettledLaws.{handed-is}
 use Rattle.onesteps.proofs.StepBatchLaws.{not-form, head-out, batch-asks, batch-done}
 use Rattle.onesteps.proofs.batch.commit_batch.Goals as goal
 
-pub returns-then-not-entries : goal.returns-then-not-entries
-returns-then-not-entries c = not-form c.requires (commit_terms_for c.args.txn c.args.start c.args.commit) c.mutations_of-entries.ensures c.if-not-entries.true
+pub returns-in_default : goal.returns-in_default
+returns-in_default c = not-form c.requires (record { txn = c.args.txn; start = c.args.start; commit = c.args.commit }) c.args.batch.now c.in_default.ensures
 
-pub returns-then-not-accepted : goal.returns-then-not-accepted
-returns-then-not-accepted c = head-out c.requires (commit_terms_for c.args.txn c.args.start c.args.commit) c.mutations_of-entries.ensures c.if-not-entries.false c.commit_terms_step-head.ensures (is-refusal _ c.accepted.ensures c.if-not-accepted.true-raw)
+pub returns-in_err-commit_terms_step : goal.returns-in_err-commit_terms_step
+returns-in_err-commit_terms_step c = rw (handed-is _ _ c.from_residual.ensures.1) (head-out c.requires (record { txn = c.args.txn; start = c.args.start; commit = c.args.commit }) c.args.batch.now c.in-Some.ensures c.in_err-commit_terms_step.ensures (refusal-not _))
 
 pub step_all-requires : goal.step_all-requires
-step_all-requires c = batch-asks c.requires (commit_terms_for c.args.txn c.args.start c.args.commit) c.mutations_of-entries.ensures c.if-not-entries.false c.commit_terms_step-head.ensures (is-accepted _ c.accepted.ensures c.if-not-accepted.false-raw)
+step_all-requires c = rw c.deref.ensures.0 (batch-asks c.requires (record { txn = c.args.txn; start = c.args.start; commit = c.args.commit }) c.args.batch.now c.in-Some.ensures c.in_ok-commit_terms_step.ensures refl)
 
 pub returns : goal.returns
-returns c = batch-done c.requires (commit_terms_for c.args.txn c.args.start c.args.commit) c.mutations_of-entries.ensures c.if-not-entries.false c.commit_terms_step-head.ensures (is-accepted _ c.accepted.ensures c.if-not-accepted.false-raw) c.step_all.ensures
+returns c = batch-done c.requires (record { txn = c.args.txn; start = c.args.start; commit = c.args.commit }) c.args.batch.now c.in-Some.ensures c.in_ok-commit_terms_step.ensures refl (rw c.deref.ensures.0 at c.step_all.ensures)

@@ -1,15 +1,22 @@
 -- `onesteps::batch::step_all` meets its contract.
 -- Assumes nothing.
-use Rattle.calls.proofs.DoneLaws.{asks-if}
-use Rattle.onesteps.proofs.StepBatchLaws.{all_left, batch-ready, batch-left}
-use Prim.Native.Nat.{◌-◌}
+use mathlib.Core.Path.{refl}
+use Rattle.rules.proofs.OutcomeLaws.{refusal-not}
+use Rattle.calls.proofs.SettledLaws.{handed-is}
+use Rattle.onesteps.proofs.StepBatchLaws.{all_left, all-refused, all-applied, batch-ready, all-stepped}
 use Rattle.onesteps.proofs.batch.step_all.Goals as goal
 
-pub judge-answer-requires : goal.judge-answer-requires
-judge-answer-requires c = all_left c.requires.0 c.requires.1 c.check_all-met.ensures
+pub judge-requires : goal.judge-requires
+judge-requires c = all_left c.requires.0 c.requires.1 c.check_all-all.ensures
 
-pub apply_all-applied-requires : goal.apply_all-applied-requires
-apply_all-applied-requires c = asks-if c.requires.0 c.only_if-m.ensures (batch-ready c.requires.0 c.requires.1 c.check_all-met.ensures c.judge-answer.ensures c.accepted-passed.ensures c.both-moves.ensures _) (λ _. tt)
+pub returns-in_err-judge : goal.returns-in_err-judge
+returns-in_err-judge c = rw (handed-is _ _ c.from_residual.ensures.1) (all-refused c.requires.0 c.requires.1 c.check_all-all.ensures c.in_err-judge.ensures (refusal-not _))
+
+pub returns-then-all : goal.returns-then-all
+returns-then-all c = all-applied c.requires.0 c.requires.1 c.check_all-all.ensures c.in_ok-judge.ensures refl c.if-all.true
+
+pub apply_all-requires : goal.apply_all-requires
+apply_all-requires c = batch-ready c.requires.0 c.requires.1 c.check_all-all.ensures c.in_ok-judge.ensures refl c.if-all.false _
 
 pub returns : goal.returns
-returns c = batch-left c.requires.0 c.requires.1 c.check_all-met.ensures c.judge-answer.ensures c.accepted-passed.ensures c.both-moves.ensures c.only_if-m.ensures c.only_if-count.ensures c.apply_all-applied.ensures
+returns c = all-stepped c.requires.0 c.requires.1 c.check_all-all.ensures c.in_ok-judge.ensures refl c.if-all.false c.apply_all.ensures

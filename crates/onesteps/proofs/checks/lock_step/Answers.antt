@@ -1,10 +1,14 @@
 -- `onesteps::checks::lock_step` meets its contract.
 -- Assumes nothing.
-use Rattle.forms.specs.Readers.{when}
-use Rattle.rules.specs.Calls.{kind_of}
+use mathlib.Core.Path.{refl, ◌∙◌}
 use Rattle.lookups.specs.KeyStates.{locked_by}
+use Rattle.laws.proofs.ChainLaws.{call-on}
+use Rattle.calls.proofs.SettledLaws.{handed, first-out}
 use Rattle.onesteps.proofs.StepCheckLaws.{lock_is}
 use Rattle.onesteps.proofs.checks.lock_step.Goals as goal
 
+pub returns-in_err-own_step : goal.returns-in_err-own_step
+returns-in_err-own_step c = λ area. handed _ _ c.from_residual.ensures.1 ∙ first-out _ _ (c.in_err-own_step.ensures area) ∙ lock_is c.args.terms c.args.kind (locked_by area c.args.lock)
+
 pub returns : goal.returns
-returns c = λ area row. let a = c.args in lock_is a.terms (kind_of (when a.put row)) (locked_by area a.lock) (c.own_step-own.ensures area) (c.kind_step-kind.ensures area row) c.first.ensures
+returns c = λ area. call-on _ _ _ _ (c.in_ok-own_step.ensures area) refl (c.kind_step.ensures area) ∙ lock_is c.args.terms c.args.kind (locked_by area c.args.lock)

@@ -1,29 +1,26 @@
+-- `pairs::puts::puts_match` meets its contract: each step and each way out is a law of `PutsMatchLaws`.
+-- Assumes nothing.
+use mathlib.Core.Path.{sym, ◌∙◌}
 use Rattle.pairs.proofs.PutsMatchLaws.{match-end, match-other, match_none, match-wrong, match-next}
 use native.Mathlib.Omega.{arith}
-use Prim.Native.Nat.{◌-◌}
-use mathlib.Core.Path.{refl}
 use Rattle.pairs.proofs.puts.puts_match.Goals as goal
-
-pub loop-i-init : goal.loop-i-init
-loop-i-init c = record { is = refl }
-
-pub overflow_cast-p : goal.overflow_cast-p
-overflow_cast-p c = omega (arith, c.type_inv.ps c.loop-i.i)
+use Rattle.pairs.proofs.puts.puts_match.Goals.{then-ds-j-via-then-ds-j, then-ds-j-via-else-ds-j+then-not-points_to, then-is_put+else-ds-j+else-not-points_to, else-is_put}
 
 pub returns-then-ds-j : goal.returns-then-ds-j
-returns-then-ds-j c = match_none c.loop-i.invariant c.loop-i-test.true c.section_of-section.ensures c.entry_at-e.ensures c.if-e-eq1.true c.if-ds-j.true
+returns-then-ds-j c =
+    elim c.then-ds-j.branch [
+      | then-ds-j-via-then-ds-j w ↦ match_none c.loop-place.invariant c.loop-place-test.true c.line_at-e.ensures (sym c.is_put.ensures ∙ c.if-is_put.true) w.if-ds-j.true
+      | then-ds-j-via-else-ds-j+then-not-points_to w ↦
+          match-wrong c.loop-place.invariant c.loop-place-test.true c.line_at-e.ensures (sym c.is_put.ensures ∙ c.if-is_put.true) w.if-ds-j.false w.points_to.ensures w.if-not-points_to.true-raw
+    ]
 
-pub points_to-requires : goal.points_to-requires
-points_to-requires c = c.entry_at-e.ensures.key_in
-
-pub returns-then-not-points_to : goal.returns-then-not-points_to
-returns-then-not-points_to c = match-wrong c.loop-i.invariant c.loop-i-test.true c.section_of-section.ensures c.entry_at-e.ensures c.if-e-eq1.true c.if-ds-j.false c.points_to.ensures c.if-not-points_to.true-raw
-
-pub loop-i-preserved-then-e-eq1 : goal.loop-i-preserved-then-e-eq1
-loop-i-preserved-then-e-eq1 c = match-next c.loop-i.invariant c.loop-i-test.true c.section_of-section.ensures c.entry_at-e.ensures c.if-e-eq1.true c.if-ds-j.false c.points_to.ensures c.if-not-points_to.false-raw
-
-pub loop-i-preserved : goal.loop-i-preserved
-loop-i-preserved c = match-other c.loop-i.invariant c.loop-i-test.true c.section_of-section.ensures c.entry_at-e.ensures c.if-e-eq1.false
+pub loop-place-preserved : goal.loop-place-preserved
+loop-place-preserved c =
+    elim c.if-is_put.branch [
+      | then-is_put+else-ds-j+else-not-points_to w ↦
+          rw w.j-is (match-next c.loop-place.invariant c.loop-place-test.true c.line_at-e.ensures (sym c.is_put.ensures ∙ w.if-is_put.true) w.if-ds-j.false w.points_to.ensures w.if-not-points_to.false-raw)
+      | else-is_put w ↦ rw w.j-is (match-other c.loop-place.invariant c.loop-place-test.true c.line_at-e.ensures (sym c.is_put.ensures ∙ w.if-is_put.false))
+    ]
 
 pub returns : goal.returns
-returns c = match-end c.loop-i.invariant c.loop-i-test.false
+returns c = match-end c.loop-place.invariant (omega arith)

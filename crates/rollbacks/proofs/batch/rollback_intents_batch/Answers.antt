@@ -1,19 +1,26 @@
 -- `rollbacks::batch::rollback_intents_batch` meets its contract.
 -- Assumes nothing.
+use mathlib.Core.Path.{refl}
+use Rattle.forms.specs.Places.{key_at}
 use Rattle.forms.proofs.DecodeLaws.{keys-in-form}
 use Rattle.rules.specs.Rollback.{rollback_batch}
-use Rattle.calls.proofs.SettledLaws.{is-accepted, is-refusal}
-use Rattle.calls.proofs.DoneLaws.{batch-refused, batch-good, batch-head, batch-done}
+use Rattle.rules.proofs.OutcomeLaws.{refusal-not}
+use Rattle.calls.proofs.SettledLaws.{handed}
+use Rattle.calls.proofs.DoneLaws.{batch-bad, batch-refused, batch-head, batch-done}
 use Rattle.rollbacks.proofs.RollbackApplyLaws.{by-keys}
 use Rattle.rollbacks.proofs.batch.rollback_intents_batch.Goals as goal
 
-pub returns-then-not-accepted : goal.returns-then-not-accepted
+pub returns-in_default : goal.returns-in_default
 unfolding rollback_batch
-returns-then-not-accepted c = let a = c.args in batch-refused (by-keys a.store.floor a.txn a.start) c.requires c.keys_of-entries.ensures (rw c.zero_step.ensures at c.batch_step-answer.ensures) (is-refusal _ c.accepted.ensures c.if-not-accepted.true-raw)
+returns-in_default c = let a = c.args in batch-bad (by-keys a.store.now.floor a.txn a.start) c.requires c.in_default.ensures
+
+pub returns-in_err-batch_step : goal.returns-in_err-batch_step
+unfolding rollback_batch
+returns-in_err-batch_step c = let a = c.args in rw (handed _ _ c.from_residual.ensures.1) (batch-refused (by-keys a.store.now.floor a.txn a.start) c.requires (key_at a.batch.now) _ c.in-Some.ensures.is (rw (c.deref.ensures.0, c.zero_step.ensures) at c.in_err-batch_step.ensures) (refusal-not _))
 
 pub rollback_all-requires : goal.rollback_all-requires
-rollback_all-requires c = let a = c.args in let made = c.requires in let d = c.keys_of-entries.ensures in let w = by-keys a.store.floor a.txn a.start in let e = rw c.zero_step.ensures at c.batch_step-answer.ensures in let p = is-accepted _ c.accepted.ensures c.if-not-accepted.false-raw in (record { made = made; form = keys-in-form d (batch-good w made d e p) }, batch-head w made d e p)
+rollback_all-requires c = let a = c.args in (record { made = c.requires; form = rw c.deref-2.ensures.0 (keys-in-form c.in-Some.ensures) }, batch-head (by-keys a.store.now.floor a.txn a.start) c.requires (key_at a.batch.now) _ c.in-Some.ensures.is (rw (c.deref.ensures.0, c.zero_step.ensures) at c.in_ok-batch_step.ensures) refl)
 
 pub returns : goal.returns
 unfolding rollback_batch
-returns c = let a = c.args in batch-done (by-keys a.store.floor a.txn a.start) c.requires c.keys_of-entries.ensures (rw c.zero_step.ensures at c.batch_step-answer.ensures) (is-accepted _ c.accepted.ensures c.if-not-accepted.false-raw) c.rollback_all.ensures
+returns c = let a = c.args in batch-done (by-keys a.store.now.floor a.txn a.start) c.requires (key_at a.batch.now) _ c.in-Some.ensures.is (rw (c.deref.ensures.0, c.zero_step.ensures) at c.in_ok-batch_step.ensures) refl (rw c.deref-2.ensures.0 at c.rollback_all.ensures)

@@ -6,4 +6,4 @@ use mathlib.Core.Path.{refl, ap}
 use Rattle.showing.proofs.replying.show_marks.Goals as goal
 
 pub returns : goal.returns
-returns c = rw c.shown.ensures (shown-as refl refl (ap marks_payload c.allocator_high_water_marks-highest.ensures) (put-shown _ _ (marks-fits _ c.requires.1) c.put_marks.ensures))
+returns c = shown-as refl refl (ap marks_payload c.allocator_high_water_marks-highest.ensures) (put-shown refl refl (marks-fits _ c.requires.1) c.put_marks.ensures)

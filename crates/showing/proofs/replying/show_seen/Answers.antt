@@ -1,13 +1,14 @@
 -- `showing::replying::show_seen` meets its contract: `seen-shown` for each case of what a read answers.
 -- Assumes nothing.
+use mathlib.Core.Path.{refl, ◌∙◌, ap}
+use Rattle.std.specs.Prelude.{Option, Ok, Some}
+use Rattle.forms.specs.declared.part.Part.{Part}
+use Rattle.reads.specs.Seen.{RowSeen}
 use Rattle.showing.proofs.ReplyLaws.{seen-shown}
 use Rattle.showing.proofs.replying.show_seen.Goals as goal
 
-pub returns-in-Nothing : goal.returns-in-Nothing
-returns-in-Nothing c = rw c.shown.ensures (seen-shown _ _ _ _ c.in-Nothing.is c.requires c.put_nothing.ensures)
+abbrev given : Option Part → RowSeen
+given o = Ok o
 
-pub returns-in-Row : goal.returns-in-Row
-returns-in-Row c = rw c.shown-in-Row.ensures (seen-shown _ _ _ _ c.in-Row.is c.requires c.put_row.ensures)
-
-pub returns-in-Refused : goal.returns-in-Refused
-returns-in-Refused c = rw c.shown-in-Refused.ensures (seen-shown _ _ _ _ c.in-Refused.is c.requires c.put_nothing-in-Refused.ensures)
+pub returns-in-Ok-Some : goal.returns-in-Ok-Some
+returns-in-Ok-Some c = seen-shown _ _ (Ok (Some c.in-Ok-Some.field-0-0)) _ (c.in-Ok-Some.is ∙ ap (λ (o : Option Part). given o) (rw c.in-Ok-Some.is at c.in-Ok-Some.field-0-is)) refl refl c.requires c.put_row.ensures

@@ -6,4 +6,4 @@ use mathlib.Core.Path.{refl, ap}
 use Rattle.showing.proofs.replying.show_stats.Goals as goal
 
 pub returns : goal.returns
-returns c = rw c.shown.ensures (shown-as refl refl (ap stats_payload c.stats-counted.ensures) (put-shown _ _ (stats-fits _ c.requires.1) c.put_stats.ensures))
+returns c = shown-as refl refl (ap stats_payload c.stats-counted.ensures) (put-shown refl refl (stats-fits _ c.requires.1) c.put_stats.ensures)

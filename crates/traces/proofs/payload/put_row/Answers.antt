@@ -2,14 +2,11 @@
 -- Assumes nothing.
 use Rattle.forms.proofs.WriterLaws.{laid_then}
 use Rattle.traces.proofs.PutLaws.{put_all}
-use Rattle.traces.proofs.FormLaws.{row_short, row-long}
+use Rattle.traces.proofs.FormLaws.{row-long}
 use Rattle.traces.proofs.payload.put_row.Goals as goal
 
-pub returns-then-out-lt1 : goal.returns-then-out-lt1
-returns-then-out-lt1 c = row_short c.if-out-lt1.true
-
 pub returns-then-out-row : goal.returns-then-out-row
-returns-then-out-row c = row-long c.if-out-lt1.false c.if-out-row.true
+returns-then-out-row c = row-long c.if-out-row.true
 
 pub returns : goal.returns
 returns c = put_all (laid_then c.put_byte-a.ensures c.put_bytes.ensures)

@@ -1,3 +1,0 @@
--- Laws of bounds.
--- Assumes nothing.
-pub mod BoundLaws
