@@ -92,6 +92,7 @@ fn one_turn(subject: Subject, copy: &mut [u8; AREA], way: Way, turn: u64, calls:
 {
     let mut rest = calls;
     let mut sum: u64 = 0;
+    // What is left is a slice that each call shortens: there is no index to count.
     while !rest.is_empty() {
         let (asked, after) = first_call(rest);
         sum = sum.wrapping_add(one_call(subject, copy, way, turn, asked));

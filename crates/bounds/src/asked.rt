@@ -1,4 +1,4 @@
-// The bounds of a page: "start, end and resume may each be absent". Every method takes any bytes.
+// The bounds of a page: "start, end and resume may each be absent". The keys may be any bytes.
 
 // Each key as the caller has it: it need not be in form.
 #[derive(Clone, Copy)]

@@ -1,5 +1,5 @@
-// The bounds of a page: what is asked of them, and which keys lie within them. `bounds`, `walks` and `pages` are one layer, kept apart for the
-// gate's time: a must-fail edit repeats the check of its whole crate.
+// The bounds of a page: what is asked of them, and which keys lie within them. `bounds`, `walks` and `pages` are one layer, set apart for the
+// check's time with the older kit (docs/ARCHITECTURE.md, 'The crates').
 #![tactic(auto)]
 
 pub mod arguments;

@@ -50,7 +50,7 @@ impl Bounds<'_> {
     }
 }
 
-// Whether two slots have one key: by `same`, which begins at the last byte, since keys of one table begin alike.
+// Whether two slots have one key.
 pub fn slots_share(s: Slot, t: Slot, area: &[u8]) -> bool
     requires { (place_of s + s.len ≤ length area.now) × (place_of t + t.len ≤ length area.now) }
     ensures { result ≡ eq_bytes (key_of area.now s) (key_of area.now t) }

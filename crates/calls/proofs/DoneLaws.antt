@@ -26,7 +26,7 @@ use Rattle.actions.specs.declared.action.Action.{Action}
 use Rattle.actions.specs.Actions.{StartsAbove}
 use Rattle.calls.specs.Settled.{Changed, Settled}
 use Rattle.calls.specs.Entries.{AllAsks}
-use Rattle.calls.specs.Passes.{BatchVerdict, all_done, Judged, apply_entry, Ready, ApplyAsks, AllApplied}
+use Rattle.calls.specs.Passes.{BatchVerdict, all_done, Judged, apply_entry, Ready, ApplyAsks, AllApplied, SettledBy}
 use Rattle.calls.proofs.SettledLaws.{settled_same, settled-new}
 use Rattle.calls.proofs.ApplyAllLaws.{applied-is}
 use Rattle.calls.proofs.AnswerLaws.{head-out, head-on, batch_call, bad-batch, empty-batch, full-batch}
@@ -37,6 +37,16 @@ unfolding settle
 settle-still Accepted new old e = ap (λ (b : Box). record { answer = Accepted; box = b }) (e refl)
 settle-still (No n) new old e = refl
 settle-still (Held h) new old e = refl
+
+-- `settle`: a call that keeps its promise where nothing moves, and where each entry is applied, keeps it
+pub settled-by : {d : Done} {v : BatchVerdict} {deed : Action} {primary : Key} {st : Store} {area s : Bytes} {es : List Entry} {a : Answer} {t : Store} {area' : Bytes} → SettledBy v deed primary st area s es a t area'
+    → (v.moves ≡ false → Settled st area d (record { store = st; answer = v.answer }) area) → (v.moves ≡ true → v.answer ≡ Accepted)
+    → (v.moves ≡ true → AllApplied deed primary st area s es t area' → Settled st area d (record { store = t; answer = Accepted }) area') → Settled st area d (record { store = t; answer = a }) area'
+settled-by {d} {v} {st = st} {area} {t = t} {area'} w still passes done = subst (λ (x : Answer). Settled st area d (record { store = t; answer = x }) area') (sym w.answer_is) (go v.moves refl)
+  where
+    go : (m : Bool) → v.moves ≡ m → Settled st area d (record { store = t; answer = v.answer }) area'
+    go true e = subst (λ (x : Answer). Settled st area d (record { store = t; answer = x }) area') (sym (passes e)) (done e (w.applied e))
+    go false e = rw ((w.still e).store_is, (w.still e).area_is) (still e)
 
 module _ {A : Type 0} {late : Answer} {check : Box → A → Answer} {apply : A → Box → Box} (item : Entry → A) where
   -- ---- from its entries on
@@ -83,6 +93,11 @@ module _ {A : Type 0} {late : Answer} {check : Box → A → Answer} {apply : A 
         where
           same : box_of t area' ≡ new
           same = w.shown ∙ sym (applied-is apply item d primary s is es b)
+
+    -- by what the checks came to
+    pub pass-settled : {d : Action} {primary : Key} → ((e : Entry) (x : Box) → apply (item e) x ≡ apply_entry d primary s e x) → {r : Answer} {t : Store} {area' : Bytes} → SettledBy v d primary st area s es r t area'
+        → Settled st area (all_done late check apply (map item es) (box_of st area)) (record { store = t; answer = r }) area'
+    pass-settled is w = settled-by w pass-still j.passes (λ e u. pass-done e is u)
 
 -- ---- before its entries: the head's answer
 

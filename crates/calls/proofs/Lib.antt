@@ -7,5 +7,6 @@ pub mod PassLaws
 pub mod SeenLaws
 pub mod ApplyAllLaws
 pub mod RoomJudgeLaws
+pub mod CheckEachLaws
 pub mod DoneLaws
 pub mod StoreLaws

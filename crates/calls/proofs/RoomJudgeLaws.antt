@@ -17,16 +17,16 @@ use Rattle.rules.specs.declared.answers.Refusal.TheVariants.{NoRoom}
 use Rattle.rules.specs.Outcomes.{refusal}
 use Rattle.rules.proofs.OutcomeLaws.{refusal-not, refusal-first}
 use Rattle.rules.specs.declared.room.Load.{Load}
-use Rattle.rules.specs.Box.{Box, in_order}
+use Rattle.rules.specs.Box.{Box}
 use Rattle.rules.specs.Room.{load_of, fits, room_for, Fits}
-use Rattle.laws.specs.Adds.{plus, sum_loads}
+use Rattle.laws.specs.Adds.{sum_loads}
 use Rattle.laws.proofs.StepLaws.{and_left, and_right}
 use Rattle.laws.proofs.LoadLaws.{load-eq, load_fields}
 use Rattle.laws.proofs.BatchLaws.{check_all, apply_all}
 use Rattle.store.specs.Made.{Tallied}
 use Rattle.calls.specs.Settled.{is_accepted}
 use Rattle.calls.specs.Weights.{LeftAsks, Steps, checked, AllChecked}
-use Rattle.calls.specs.Passes.{BatchVerdict, verdict, left_by, RoomJudged, Judged}
+use Rattle.calls.specs.Passes.{BatchVerdict, verdict, left_by, RoomJudged, Judged, Weighed}
 use Rattle.calls.specs.declared.weights.Weight.{Weight}
 use Rattle.calls.proofs.SettledLaws.{is-accepted}
 use Rattle.calls.proofs.ApplyAllLaws.{Changes, Applying}
@@ -42,14 +42,6 @@ pub late-judged : {A : Type 0} {late : Answer} {check : Box → A → Answer} {a
 late-judged {check = check} {apply} {b} {xs} why e = refused-judged why (sym (refusal-first why _) ∙ ap (λ (x : Answer). x ▸ check_all check b xs ▸ need (room_for (apply_all apply xs b)) 11) e)
 
 -- ---- what an entry adds and frees
-
--- the load of the box after the entries; an entry that adds no line is a replay; no line goes without one that comes; and where lines and
--- locks are as many as they were, none came
-pub record Weighed {A : Type 0} (c : Steps A) (key : A → Key) (apply : A → Box → Box) : Type 0 where
-  pub load : (xs : List A) (b : Box) → ascend key xs ≡ true → in_order b ≡ true → plus (load_of b) (sum_loads (c.adds b) xs) ≡ plus (sum_loads (c.frees b) xs) (load_of (apply_all apply xs b))
-  pub replay : (x : A) (b : Box) → (c.adds b x).lines ≡ 0 → apply x b ≡ b
-  pub lines : (x : A) (b : Box) → (c.frees b x).lines ≤ (c.adds b x).lines
-  pub locks : (x : A) (b : Box) → (c.frees b x).lines + (c.frees b x).lines + (c.adds b x).locks ≤ (c.adds b x).lines + (c.frees b x).locks
 
 module _ {A : Type 0} {c : Steps A} {key : A → Key} {apply : A → Box → Box} (w : Weighed c key apply) where
   all_lines : (xs : List A) (b : Box) → (sum_loads (c.frees b) xs).lines ≤ (sum_loads (c.adds b) xs).lines

@@ -1,30 +1,33 @@
 -- A call over the entries of a batch, for every check and every change of one entry: what the checks come to, what the applying pass asks
 -- and leaves, and the whole of it.
 -- Assumes nothing.
-use Rattle.std.specs.Prelude.{ℕ, ◌+◌, ◌≤◌, ◌<◌, ◌≡◌, Bool, true, false, ◌&&◌, List, [], ◌∷◌, length, ltb, Result}
+use Rattle.std.specs.Prelude.{ℕ, ◌+◌, ◌≤◌, ◌<◌, ◌≡◌, Bool, true, false, ◌&&◌, List, [], ◌∷◌, map, length, ltb, Result}
 use Rattle.forms.specs.Bytes.{Bytes}
 use Rattle.forms.specs.Key.{Key}
-use Rattle.forms.specs.Places.{key_at, mutation_of, given_part, EntryIn, Listed}
+use Rattle.seqs.specs.Tables.{All}
+use Rattle.forms.specs.Batch.{ascend}
+use Rattle.forms.specs.Places.{key_at, mutation_of, given_part, EntryIn, Listed, Item, item_key, item_of}
 use Rattle.forms.specs.declared.batch.Entry.{Entry}
 use Rattle.rules.specs.Answers.{Answer, Accepted, ◌▸◌, need}
 use Rattle.rules.specs.declared.answers.Refusal.{Refusal}
 use Rattle.rules.specs.Outcomes.{outcome, value_or}
 use Rattle.rules.specs.declared.room.Load.{Load}
-use Rattle.rules.specs.Box.{Box}
-use Rattle.rules.specs.Room.{fits, room_for}
+use Rattle.rules.specs.Box.{Box, in_order}
+use Rattle.rules.specs.Room.{load_of, fits, room_for, Fits}
 use Rattle.rules.specs.Calls.{Done, settle}
-use Rattle.laws.specs.Adds.{plus, minus}
+use Rattle.laws.specs.Adds.{plus, minus, sum_loads}
 use Rattle.laws.proofs.BatchLaws.{check_all, apply_all}
 use Rattle.store.specs.declared.table.Store.{Store}
 use Rattle.store.specs.View.{box_of}
 use Rattle.ledger.specs.Tidy.{LocksAbove}
-use Rattle.store.specs.Made.{Built, Made}
+use Rattle.store.specs.Made.{Built, Made, Tallied}
 use Rattle.changes.specs.declared.change.Change.{Change}
 use Rattle.changes.specs.Changes.{entry_for, changed, ChangeAsks}
 use Rattle.actions.specs.declared.action.Action.{Action}
 use Rattle.actions.specs.EntryAsks.{Applied}
 use Rattle.actions.specs.Actions.{most_of, apply_of, EntryAsks, StartsAbove}
 use Rattle.calls.specs.Settled.{is_accepted, Untouched}
+use Rattle.calls.specs.Weights.{Steps, checked, EntryChecked}
 use Rattle.calls.specs.declared.weights.Weight.{Weight}
 
 -- what the checks of all entries come to: the answer, and whether the box becomes another one
@@ -59,6 +62,42 @@ pub record Judged {A : Type 0} (late : Answer) (check : Box → A → Answer) (a
   pub stays : r.moves ≡ false → r.answer ≡ Accepted → apply_all apply xs b ≡ b
   pub passes : r.moves ≡ true → r.answer ≡ Accepted
   pub moves : r.moves ≡ true → apply_all apply xs b ≡ b → ⊥
+
+-- ---- the checking pass
+
+-- the load of the box after the entries; an entry that adds no line is a replay; no line goes without one that comes; and where lines and
+-- locks are as many as they were, none came
+pub record Weighed {A : Type 0} (c : Steps A) (key : A → Key) (apply : A → Box → Box) : Type 0 where
+  pub load : (xs : List A) (b : Box) → ascend key xs ≡ true → in_order b ≡ true → plus (load_of b) (sum_loads (c.adds b) xs) ≡ plus (sum_loads (c.frees b) xs) (load_of (apply_all apply xs b))
+  pub replay : (x : A) (b : Box) → (c.adds b x).lines ≡ 0 → apply x b ≡ b
+  pub lines : (x : A) (b : Box) → (c.frees b x).lines ≤ (c.adds b x).lines
+  pub locks : (x : A) (b : Box) → (c.frees b x).lines + (c.frees b x).lines + (c.adds b x).locks ≤ (c.adds b x).lines + (c.frees b x).locks
+
+-- what the entries of a batch are to a call: mutations or keys, its steps at one, what it changes, and the box before it
+pub record Plan : Type 0 where
+  pub rows : Bool
+  pub batch : Bytes
+  pub steps : Steps (Item rows)
+  pub apply : Item rows → Box → Box
+  pub box : Box
+
+abbrev pub items_of : (p : Plan) → List Entry → List (Item p.rows)
+items_of p es = map (item_of p.rows p.batch) es
+
+-- what a check may answer for an entry is what the steps say of the box
+abbrev pub Told : Plan → (Entry → Result Weight Refusal → Type 0) → Entry → Type 0
+Told p post e = (r : Result Weight Refusal) → post e r → EntryChecked p.steps p.box (item_of p.rows p.batch e) (checked r)
+
+-- so it is of each entry of a batch in form; and the weights are those of the changes, in small numbers
+pub record Follows (p : Plan) (load : Load) (es : List Entry) (post : Entry → Result Weight Refusal → Type 0) : Type 0 where
+  pub listed : Listed p.batch es
+  pub ascends : ascend (item_key p.rows) (items_of p es) ≡ true
+  pub weighed : Weighed p.steps (item_key p.rows) p.apply
+  pub add_small : p.steps.add ≤ 65887
+  pub free_small : p.steps.free ≤ 65887
+  pub tallied : Tallied p.box load
+  pub fit : Fits load
+  pub each : All (Told p post) es
 
 -- ---- the applying pass
 
@@ -107,3 +146,9 @@ pub record AllApplied (d : Action) (primary : Key) (st : Store) (area s : Bytes)
   pub floor_is : r.floor ≡ st.floor
   pub above : LocksAbove r.floor (box_of r area')
   pub still : length es ≡ 0 → Untouched st area r area'
+
+-- by what the checks came to: the same answer; where the call moves each entry is applied, and else nothing has changed
+pub record SettledBy (v : BatchVerdict) (d : Action) (primary : Key) (st : Store) (area s : Bytes) (es : List Entry) (a : Answer) (r : Store) (area' : Bytes) : Type 0 where
+  pub answer_is : a ≡ v.answer
+  pub applied : v.moves ≡ true → AllApplied d primary st area s es r area'
+  pub still : v.moves ≡ false → Untouched st area r area'

@@ -1,13 +1,15 @@
 // The applying pass of every changing call: one entry after the other, each the definition's own change.
-ghost use Rattle.std.specs.Prelude.{ℕ, ◌≤◌, length};
+ghost use Rattle.std.specs.Prelude.{ℕ, ◌≡◌, ◌≤◌, true, length};
+ghost use Rattle.rules.specs.Outcomes.{outcome};
 ghost use Rattle.store.specs.Made.{Made};
-ghost use Rattle.calls.specs.Passes.{EntryAt, EntryChanged, ApplyAsks, AllApplied, Roomy};
+ghost use Rattle.calls.specs.Passes.{EntryAt, EntryChanged, ApplyAsks, AllApplied, Roomy, SettledBy, verdict};
 
 use crate::parts::row_of;
 use actions::{Action, apply_entry, most_of, point_of};
 use changes::{Change, make_change, repack};
 use forms::Entry;
 use lookups::look_up;
+use rules::Refusal;
 use store::{AREA, Store};
 
 // The area is packed anew where the bytes to come would pass its end.
@@ -56,4 +58,23 @@ pub fn apply_all(
         let change = change_of(store, area, action, primary, batch, *e);
         make_change(store, change);
     }
+}
+
+// What a batch comes to, once its entries are judged: a refusal, or a call where nothing changes, applies no entry.
+pub fn settle(
+    store: &mut Store,
+    area: &mut [u8],
+    judged: Result<bool, Refusal>,
+    action: Action,
+    primary: &[u8],
+    batch: &[u8],
+    entries: &[Entry],
+) -> Result<(), Refusal>
+    requires { (verdict judged).moves ≡ true → ApplyAsks action primary.now store.old area.old batch.now entries.now }
+    ensures { SettledBy (verdict judged) action primary.now store.old area.old batch.now entries.now (outcome result) store.new area.new }
+{
+    if judged? {
+        apply_all(store, area, action, primary, batch, entries);
+    }
+    Ok(())
 }

@@ -4,13 +4,15 @@
 #![tactic(auto)]
 
 pub mod applying;
+pub mod checking;
 pub mod judged;
 pub mod parts;
 pub mod steps;
 pub mod terms;
 pub mod weights;
 
-pub use applying::apply_all;
+pub use applying::{apply_all, settle};
+pub use checking::check_each;
 pub use judged::judge;
 pub use parts::row_of;
 pub use steps::{argument_step, batch_step, floor_step, own_step, row_stands, zero_step};

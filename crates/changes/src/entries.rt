@@ -38,7 +38,7 @@ pub fn bytes_of(row: Option<&[u8]>) -> &[u8]
 }
 
 // The slot of a line whose stretch begins after `at` pairs of bytes, by how long its pieces are.
-fn lock_slot(at: usize, key: usize, primary: usize, kind: Kind, row: usize) -> Slot
+pub fn lock_slot(at: usize, key: usize, primary: usize, kind: Kind, row: usize) -> Slot
     requires at_bound { at ≤ 65535 }
     requires key_bound { (key ≤ 255) × (primary ≤ 255) × (row ≤ 255) }
     ensures { result ≡ lock_slot at key primary kind row }
@@ -55,7 +55,7 @@ fn lock_slot(at: usize, key: usize, primary: usize, kind: Kind, row: usize) -> S
     }
 }
 
-fn record_slot(at: usize, key: usize, kind: Kind, row: usize) -> Slot
+pub fn record_slot(at: usize, key: usize, kind: Kind, row: usize) -> Slot
     requires at_bound { at ≤ 65535 }
     requires key_bound { (key ≤ 255) × (row ≤ 255) }
     ensures { result ≡ record_slot at key kind row }

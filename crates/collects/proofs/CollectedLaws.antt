@@ -11,7 +11,7 @@ use lib.Seq.{get_or-take, drop-length}
 use borrow.Author.Tests.{le-leb, lt-leb}
 use Rattle.seqs.specs.Tables.{Table, shown}
 use Rattle.forms.specs.Bytes.{Bytes}
-use Rattle.rules.specs.Answers.{Answer, Accepted, No, Held, ◌▸◌, need}
+use Rattle.rules.specs.Answers.{Answer, Accepted, No, ◌▸◌, need}
 use Rattle.rules.specs.declared.room.Load.{Load}
 use Rattle.rules.specs.Box as box
 use Rattle.rules.specs.Room.{load_of}
@@ -24,7 +24,7 @@ use Rattle.laws.specs.Adds.{minus}
 use Rattle.laws.proofs.StepLaws.{answered, own-true}
 use Rattle.laws.proofs.SettleLaws.{settle_state-answer, settle_state-leaves}
 use Rattle.laws.proofs.Sorted.{fewer-good}
-use Rattle.laws.proofs.FewerLaws.{FewerBox, fewer-same, fewer-each}
+use Rattle.laws.proofs.FewerLaws.{fewer-same, fewer-each}
 use Rattle.laws.proofs.LoadLaws.{load-eq, load_fields}
 use Rattle.laws.proofs.CollectLaws.{collected-fewer, collected-order}
 use Rattle.ledger.specs.Tidy.{line_above, LocksAbove}
@@ -40,7 +40,8 @@ use Rattle.collects.specs.declared.passing.Passed.{Passed}
 use Rattle.collects.specs.Promise.{CollectedAs}
 use Rattle.collects.proofs.LeftLaws.{left_of, left-lines, left-fewer, left-rows, box_from, load_in, freed_of, load-left}
 use Rattle.collects.proofs.PackLaws.{Packed, pack-start, pack-read, pack-goes, pack-stays, pack-end}
-use Rattle.collects.proofs.WalkLaws.{Walked, many, from}
+use Rattle.std.specs.Prelude.{None, Some}
+use Rattle.collects.proofs.WalkLaws.{FirstHeld, HeldBy, Walked, many, from}
 
 -- ---- the loop
 
@@ -110,12 +111,18 @@ module _ {st : Store} {area : Bytes} (m : Made st area) (f : ℕ) where
     unfolding collect_steps need ◌▸◌ shown
     steps-are = rw (le-leb st.floor f up, all)
 
+    held-at : {h : ℕ} → p.held ≡ Some h → FirstHeld f area slots i h
+    held-at o = subst (HeldBy f area slots i) o w.held
+
+    pub held_low : {h : ℕ} → p.held ≡ Some h → h < st.load.lines
+    held_low o = omega (arith, (held-at o).within, many m.built f)
+
     -- "answers 7 for the first such key"
-    pub collect-held : p.held < st.load.lines → {a : Answer} → a ≡ line_above_step f (line_of area (get_or st.lines p.held no_slot)).line → CollectedAs f st area (record { store = st; answer = a }) area
-    collect-held h {a} e =
-        let s : get_or slots p.held no_slot ≡ get_or st.lines p.held no_slot = get_or-take st.load.lines st.lines p.held no_slot h in
-        let v = rw s at (w.first (omega (arith, many m.built f))) in
-        refused (steps-are ∙ v.0 ∙ sym e) (λ q. holds (line_of area (get_or st.lines p.held no_slot)).line v.1 (sym e ∙ q))
+    pub collect-held : {h : ℕ} → p.held ≡ Some h → {a : Answer} → a ≡ line_above_step f (line_of area (get_or st.lines h no_slot)).line → CollectedAs f st area (record { store = st; answer = a }) area
+    collect-held {h} o {a} e =
+        let v : FirstHeld f area slots i h = held-at o in
+        let s : get_or slots h no_slot ≡ get_or st.lines h no_slot = get_or-take st.load.lines st.lines h no_slot (held_low o) in
+        refused (steps-are ∙ (rw s at v.is) ∙ sym e) (λ q. holds (line_of area (get_or st.lines h no_slot)).line (rw s at v.holds) (sym e ∙ q))
       where
         holds : (x : box.Line) → line_above f x ≡ false → line_above_step f x ≡ Accepted → ⊥
         holds (box.Standing l) n q = true≢false (sym (own-true _ _ q) ∙ n)
@@ -160,10 +167,13 @@ module _ {st : Store} {area : Bytes} (m : Made st area) (f : ℕ) where
           once = once-fewer like_line pair-sym c.lines k.once;
         }
 
-    module _ (free : st.load.lines ≤ p.held) where
+    module _ (free : p.held ≡ None) where
+      nobody : locks_above_step f (map line (drop i slots)) ≡ Accepted
+      nobody = subst (HeldBy f area slots i) free w.held
+
       collect-is : collect f (state_shown st area) ≡ record { answer = Accepted; state = record { box = collected f (box_of st area); floor = f } }
       unfolding collect settle_state
-      collect-is = rw (steps-are ∙ w.nobody (omega (arith, many m.built f)))
+      collect-is = rw (steps-are ∙ nobody)
 
       left-above : LocksAbove f (collected f (box_of st area))
       unfolding perform

@@ -7,47 +7,59 @@ use native.Mathlib.Numerals.{sub-one}
 use mathlib.Core.Path.{◌≡◌, refl, sym, ap, ◌∙◌, subst}
 use mathlib.Core.Bool.{Bool, true, false, not, true≢false}
 use mathlib.Core.List.{List, [], ◌∷◌, map}
+use mathlib.Core.Option.{Option}
 use lib.Dec.{eqb}
 use lib.ListN.{length, get_or, take, drop, set, length-set}
 use lib.Seq.{length-take-le, get_or-take, drop-cons, drop-length, get_or-set_same, get_or-set_other}
 use borrow.Author.Tests.{eqb-true, eqb-false}
 use Rattle.seqs.specs.Tables.{shown}
 use Rattle.seqs.proofs.Tables.{table-long, drop-map}
-use Rattle.forms.specs.Bytes.{Bytes, bytes_at, eq_bytes}
-use Rattle.forms.specs.Key.{Key, key_form}
+use Rattle.std.specs.Prelude.{None, Some}
+use Rattle.std.specs.Prelude.{Option as Maybe}
+use Rattle.forms.specs.Bytes.{Bytes}
+use Rattle.forms.specs.Key.{Key}
+use Rattle.forms.specs.Places.{given_part}
 use Rattle.rules.specs.Answers.{Answer, Accepted, ◌▸◌, need_own}
 use Rattle.rules.specs.declared.room.Load.{Load}
 use Rattle.rules.specs.Box as box
-use Rattle.rules.specs.Restore.{all_good}
 use Rattle.rules.specs.Collect.{stays, line_above_step, locks_above_step}
-use Rattle.laws.proofs.StepLaws.{by-test, and_left}
-use Rattle.laws.proofs.Sorted.{fewer-drop, fewer-good, ordered-fewer}
+use Rattle.laws.proofs.StepLaws.{by-test}
+use Rattle.laws.proofs.Sorted.{fewer-drop, ordered-fewer}
 use Rattle.laws.proofs.LoadLaws.{load_fields}
 use Rattle.ledger.specs.Tidy.{line_above}
 use Rattle.store.specs.declared.table.Slot.{Slot}
 use Rattle.store.specs.declared.table.Store.{Store}
 use Rattle.store.specs.View.{place_of, past, line_of, row_in, box_of, no_slot}
-use Rattle.store.specs.Made.{good_line, Built}
+use Rattle.store.specs.Made.{Built}
 use Rattle.store.proofs.BuiltLaws.{lines-order, slot-in}
 use Rattle.store.proofs.NeedLaws.{counted}
 use Rattle.store.proofs.ViewLaws.{past-numbers}
 use Rattle.changes.specs.Loads.{Small}
 use Rattle.collects.specs.declared.passing.Passed.{Passed}
-use Rattle.collects.specs.Passes.{nothing_passed, line_passed, PassAsks}
+use Rattle.collects.specs.Passes.{nothing_passed, is_key, NewerIn, line_passed, PassAsks}
 use Rattle.collects.proofs.NextLaws.{counts, key_if, next_key, next-none}
 use Rattle.collects.proofs.LeftLaws.{load_in, freed_if, freed_of, load-left, load-drop}
 use Rattle.collects.proofs.PassLaws.{place_if, LinePassed, line-passed}
+
+-- the first lock at or below the floor, of the slots from i on
+pub record FirstHeld (f : ℕ) (area : Bytes) (slots : List Slot) (i h : ℕ) : Type 0 where
+  pub within : h < length slots
+  pub is : locks_above_step f (map (line_of area) (drop i slots)) ≡ line_above_step f (line_of area (get_or slots h no_slot)).line
+  pub holds : line_above f (line_of area (get_or slots h no_slot)).line ≡ false
+
+-- or that there is none
+abbrev pub HeldBy : ℕ → Bytes → List Slot → ℕ → Maybe ℕ → Type 0
+HeldBy f area slots i None = locks_above_step f (map (line_of area) (drop i slots)) ≡ Accepted
+HeldBy f area slots i (Some h) = FirstHeld f area slots i h
 
 -- of the slots those from i on have been passed
 pub record Walked (f : ℕ) (area : Bytes) (slots : List Slot) (i : ℕ) (kept : List Bool) (p : Passed) : Type 0 where
   pub low : i ≤ length slots
   pub long : length kept ≡ 1024
-  pub key_in : p.at + p.len ≤ length area
-  pub next : bytes_at area p.at p.len ≡ next_key f (map (line_of area) (drop i slots))
+  pub key_in : NewerIn area p.newer
+  pub next : given_part area p.newer ≡ next_key f (map (line_of area) (drop i slots))
   pub freed : p.freed ≡ freed_of (line_of area) (load_in (line_of area) (row_in area)) f (drop i slots)
-  -- no lock at or below the floor, or the first one
-  pub nobody : length slots ≤ p.held → locks_above_step f (map (line_of area) (drop i slots)) ≡ Accepted
-  pub first : p.held < length slots → (locks_above_step f (map (line_of area) (drop i slots)) ≡ line_above_step f (line_of area (get_or slots p.held no_slot)).line) × (line_above f (line_of area (get_or slots p.held no_slot)).line ≡ false)
+  pub held : HeldBy f area slots i p.held
   pub marks : (j : ℕ) → i ≤ j → j < length slots → get_or kept j false ≡ stays f (map (line_of area) (drop (suc j) slots)) (line_of area (get_or slots j no_slot))
 
 -- ---- the lock that holds the collection up
@@ -72,16 +84,15 @@ module _ {st : Store} {area : Bytes} (b : Built st area) (f : ℕ) where
   pub many : length (take st.load.lines st.lines) ≡ st.load.lines
   many = length-take-le st.load.lines st.lines (table-long b.lines)
 
-  pub walk_start : {kept : List Bool} {p : Passed} → length kept ≡ 1024 → p ≡ nothing_passed st.load.lines → Walked f area (take st.load.lines st.lines) st.load.lines kept p
+  pub walk_start : {kept : List Bool} {p : Passed} → length kept ≡ 1024 → p ≡ nothing_passed → Walked f area (take st.load.lines st.lines) st.load.lines kept p
   unfolding next_key freed_of locks_above_step
   walk_start {kept} {p} h e = subst (λ (p : Passed). Walked f area slots st.load.lines kept p) (sym e) (record {
     low = omega (arith, many);
     long = h;
-    key_in = omega arith;
+    key_in = tt;
     next = rw past_end;
     freed = rw past_end;
-    nobody = λ _. rw past_end;
-    first = λ g. absurd (omega (arith, many));
+    held = rw past_end;
     marks = λ j l g. absurd (omega (arith, many));
   })
     where
@@ -124,10 +135,6 @@ module _ {st : Store} {area : Bytes} (b : Built st area) (f : ℕ) where
     order_from : box.ordered box.before (line slot ∷ map line (drop (suc j) slots)) ≡ true
     order_from = ap (box.ordered box.before) (sym lines_from) ∙ ordered-fewer box.before (fewer-drop j (box_of st area).lines) (lines-order b)
 
-    form-at : key_form (line slot).key ≡ true
-    unfolding all_good
-    form-at = and_left _ _ (and_left _ _ (ap (all_good good_line) (sym lines_from) ∙ fewer-good good_line (fewer-drop j (box_of st area).lines) b.kept.good))
-
     inside : place_of slot + slot.len + past slot.line ≤ length area
     inside = subst (λ (s : Slot). place_of s + s.len + past s.line ≤ length area) (sym same) (slot-in b j h)
 
@@ -136,7 +143,7 @@ module _ {st : Store} {area : Bytes} (b : Built st area) (f : ℕ) where
       passed =
           subst (λ (q : Passed). LinePassed f area (line slot) (load_in line (row_in area) slot) (map line (drop (suc j) slots)) j p q)
           (sym (e ∙ ap (λ (s : Slot). line_passed f area p s j) (sym same)))
-          (line-passed f area p slot j (map line (drop (suc j) slots)) w.key_in (next-none f (line slot) form-at (map line (drop (suc j) slots)) order_from ∙ ap (λ (k : Key). not (eq_bytes (line slot).key k)) (sym w.next)) inside)
+          (line-passed f area p slot j (map line (drop (suc j) slots)) w.key_in (next-none f (line slot) (map line (drop (suc j) slots)) order_from ∙ ap (λ (k : Option Key). not (is_key (line slot).key k)) (sym w.next)) inside)
 
       abbrev above : Bool
       above = line_above f (line slot).line
@@ -144,19 +151,17 @@ module _ {st : Store} {area : Bytes} (b : Built st area) (f : ℕ) where
       abbrev rest : Answer
       rest = locks_above_step f (map line (drop (suc j) slots))
 
-      held-here : (t : Bool) → above ≡ t → q.held ≡ place_if t p.held j
-      held-here t r = passed.held ∙ ap (λ (t : Bool). place_if t p.held j) r
+      locks_one : locks_above_step f (map line (drop j slots)) ≡ line_above_step f (line slot).line ▸ rest
+      unfolding locks_above_step
+      locks_one = ap (λ (l : List Slot). locks_above_step f (map line l)) from
 
-      nobody-here : (t : Bool) → above ≡ t → length slots ≤ q.held → line_above_step f (line slot).line ▸ rest ≡ Accepted
-      nobody-here true r g = step-above f (line slot).line rest r ∙ w.nobody (omega (arith, held-here true r))
-      nobody-here false r g = absurd (omega (arith, held-here false r, many))
+      held-up : (o : Maybe ℕ) → above ≡ true → HeldBy f area slots (suc j) o → HeldBy f area slots j o
+      held-up None r v = locks_one ∙ step-above f (line slot).line rest r ∙ v
+      held-up (Some h) r v = record { within = v.within; is = locks_one ∙ step-above f (line slot).line rest r ∙ v.is; holds = v.holds }
 
-      first-here : (t : Bool) → above ≡ t → q.held < length slots
-          → (line_above_step f (line slot).line ▸ rest ≡ line_above_step f (line (get_or slots q.held no_slot)).line) × (line_above f (line (get_or slots q.held no_slot)).line ≡ false)
-      first-here true r g =
-          let v = w.first (omega (arith, held-here true r)) in
-          rw (held-here true r) (step-above f (line slot).line rest r ∙ v.0, v.1)
-      first-here false r g = rw (held-here false r) (step-held f (line slot).line rest r, r)
+      held-here : (t : Bool) → above ≡ t → HeldBy f area slots j (place_if t p.held (Some j))
+      held-here true r = held-up p.held r w.held
+      held-here false r = record { within = omega (arith, many); is = locks_one ∙ step-held f (line slot).line rest r; holds = r }
 
       marks-here : (i : ℕ) → j ≤ i → i < length slots → get_or (set kept j q.stays) i false ≡ stays f (map line (drop (suc i) slots)) (line (get_or slots i no_slot))
       marks-here i l g =
@@ -166,15 +171,14 @@ module _ {st : Store} {area : Bytes} (b : Built st area) (f : ℕ) where
           (λ _ r. let n : i ≡ j → ⊥ = eqb-false i j r in get_or-set_other kept j i q.stays false n ∙ w.marks i (omega (arith, n)) g) refl
 
       walk-one : Walked f area (take st.load.lines st.lines) j (set kept j q.stays) q
-      unfolding next_key freed_of locks_above_step
+      unfolding next_key freed_of
       walk-one = record {
         low = omega (arith, many);
         long = length-set kept j q.stays ∙ w.long;
         key_in = passed.key_in;
         next = passed.next ∙ ap (key_if (counts f (line slot).line) (line slot).key) w.next ∙ sym (ap (λ (l : List Slot). next_key f (map line l)) from);
         freed = passed.freed ∙ ap (λ (a : Load). freed_if (stays f (map line (drop (suc j) slots)) (line slot)) a (load_in line (row_in area) slot)) w.freed ∙ sym (ap (freed_of line (load_in line (row_in area)) f) from);
-        nobody = λ g. ap (λ (l : List Slot). locks_above_step f (map line l)) from ∙ nobody-here above refl g;
-        first = λ g. let v = first-here above refl g in (ap (λ (l : List Slot). locks_above_step f (map line l)) from ∙ v.0, v.1);
+        held = subst (HeldBy f area slots j) (sym passed.held) (held-here above refl);
         marks = marks-here;
       }
 

@@ -22,14 +22,15 @@ pub fn collect(store: &mut Store, area: &[u8; AREA], floor: u64) -> Result<(), R
     }
     let load = store.load;
     let n = load.lines;
+    // Marks beside the table, since nothing is written to the store before the walk has ended.
     let mut kept = [false; 1024];
-    let mut p = nothing_passed(n);
+    let mut p = nothing_passed();
     for i in (0..n).rev() {
         p = pass_line(p, store.lines[i], i, area, floor);
         kept[i] = p.stays;
     }
-    if p.held < n {
-        return line_step(store.lines[p.held], area, floor);
+    if let Some(first) = p.held {
+        return line_step(store.lines[first], area, floor);
     }
     let mut k = 0;
     for i in 0..n {

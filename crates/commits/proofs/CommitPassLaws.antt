@@ -30,10 +30,11 @@ use Rattle.store.specs.View.{box_of}
 use Rattle.actions.specs.declared.action.Action.TheVariants.{Commit}
 use Rattle.calls.specs.Settled.{is_accepted, Settled}
 use Rattle.calls.specs.Entries.{AllAsks}
-use Rattle.calls.specs.Passes.{BatchVerdict, verdict, EntryReady, Ready, ApplyAsks, AllApplied}
+use Rattle.calls.specs.Passes.{BatchVerdict, verdict, EntryReady, Ready, ApplyAsks, AllApplied, SettledBy}
 use Rattle.calls.proofs.SettledLaws.{is-accepted, is-refusal, first-out, settled_same, settled-new}
 use Rattle.calls.proofs.PassLaws.{Pass, pass-start, pass-here, pass-more, pass-end}
 use Rattle.calls.proofs.CheckAllLaws.{Walking, walking_start, walking-more, walking-out, walking-end}
+use Rattle.calls.proofs.DoneLaws.{settled-by}
 use Rattle.calls.proofs.ApplyAllLaws.{Changes, Applying, applying-passed, applied-is, ready-all}
 use Rattle.commits.specs.Checks.{is_new, some_new, Judged}
 use Rattle.commits.specs.Passes.{floor_keys, all_done}
@@ -125,7 +126,7 @@ module _ {st : Store} {area s : Bytes} {es : List Entry} (a : AllAsks st area s 
           let old : some_new h b ks ≡ false = sym (j.moves_is ∙ ap (λ (t : Bool). t && some_new h b ks) e) ∙ x in
           settle-new v.answer (apply_commits h ks b) b p ∙ ap₂ (λ (y : Answer) (c : Box). record { answer = y; box = c }) (sym p) (all_old h b ks old)
 
-  pub pass-still : v.moves ≡ false → Settled st area (all_done st.floor h (map (key_at s) es) (box_of st area)) (record { store = st; answer = v.answer }) area
+  pass-still : v.moves ≡ false → Settled st area (all_done st.floor h (map (key_at s) es) (box_of st area)) (record { store = st; answer = v.answer }) area
   pass-still e = settled_same a.made (done-is ∙ stays_is e)
 
   module _ (move : v.moves ≡ true) where
@@ -143,7 +144,7 @@ module _ {st : Store} {area s : Bytes} {es : List Entry} (a : AllAsks st area s 
     pass-asks p {primary} = record { made = a.made; listed = a.form.listed; ready = ends-ready h primary b p a.form checked; above = λ _. tt }
 
     -- and the box becomes another one, for which there is room: a commit takes none
-    pub pass-done : {primary : Key} {t : Store} {area' : Bytes} → AllApplied (Commit h) primary st area s es t area' → Settled st area (all_done st.floor h (map (key_at s) es) (box_of st area)) (record { store = t; answer = Accepted }) area'
+    pass-done : {primary : Key} {t : Store} {area' : Bytes} → AllApplied (Commit h) primary st area s es t area' → Settled st area (all_done st.floor h (map (key_at s) es) (box_of st area)) (record { store = t; answer = Accepted }) area'
     pass-done {primary} {t} {area'} w =
         let y = load_fields (w.built.kept.load_is ∙ ap load_of same) in
         let z = load_fields a.made.built.kept.load_is in
@@ -154,3 +155,7 @@ module _ {st : Store} {area s : Bytes} {es : List Entry} (a : AllAsks st area s 
       where
         same : box_of t area' ≡ apply_commits h ks b
         same = w.shown ∙ sym (applied-is (apply_commit h) (key_at s) (Commit h) primary s (λ k x. refl) es b) ∙ sym (apply_commits-all h ks b)
+
+  -- by what the checks came to
+  pub pass-settled : {primary : Key} {r : Answer} {t : Store} {area' : Bytes} → SettledBy v (Commit h) primary st area s es r t area' → Settled st area (all_done st.floor h (map (key_at s) es) (box_of st area)) (record { store = t; answer = r }) area'
+  pass-settled w = settled-by w pass-still passes (λ e u. pass-done e u)

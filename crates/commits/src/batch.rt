@@ -12,7 +12,7 @@ ghost use Rattle.commits.specs.Passes.{all_done};
 
 use crate::passes::check_all;
 use actions::Action;
-use calls::{apply_all, batch_step, commit_terms_step};
+use calls::{batch_step, commit_terms_step, settle};
 use forms::{Entry, keys_of};
 use rules::{CommitTerms, Refusal};
 use store::{AREA, Store};
@@ -29,12 +29,9 @@ fn commit_all(
     requires { (AllAsks store.old area.old batch.now entries.now) × (commit_terms_step 0 terms ≡ Accepted) }
     ensures { Settled store.old area.old (all_done store.old.floor terms (map (key_at batch.now) entries.now) (box_of store.old area.old)) (record { store = store.new; answer = outcome result }) area.new }
 {
-    let moves = check_all(store, area, terms, batch, entries)?;
-    if !moves {
-        return Ok(());
-    }
-    apply_all(store, area, Action::Commit(terms), &[], batch, entries);
-    Ok(())
+    let judged = check_all(store, area, terms, batch, entries);
+    let action = Action::Commit(terms);
+    settle(store, area, judged, action, &[], batch, entries)
 }
 
 // "6, 5; 3"; 14; "per key: ..". Of the terms' steps the head takes those on the floor 0, where 14 never comes: the checking pass asks the store's

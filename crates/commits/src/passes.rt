@@ -14,7 +14,8 @@ use rules::{CommitTerms, Refusal};
 use store::Store;
 
 // 14; "per key: ..": every key on the store before the call, the whole list for one key before the next. Where each key has its record already
-// nothing changes. Whether the box becomes another one, or why the batch is refused.
+// nothing changes. Whether the box becomes another one, or why the batch is refused. A commit has no 11 and sums no weights, so this is not calls'
+// `check_each`.
 pub fn check_all(
     store: &Store,
     area: &[u8],

@@ -13,8 +13,8 @@ pub fn convert_image(image: &[u8], out: &mut [u8]) -> Result<usize, Refusal>
     let Some(defaults) = old_image(image) else {
         return Err(Refusal::BadImage);
     };
-    let n = image.len() + 8;
-    if out.len() < n || out.len() - n < defaults {
+    let size = image.len() + 8;
+    if out.len() < size || out.len() - size < defaults {
         return Err(Refusal::ShortBuffer);
     }
     Ok(put_converted(out, image, defaults))

@@ -16,62 +16,68 @@ use orders::{By, order, order_both};
 // reads what the one before it sorted, which a chain of `&&` does not carry on.
 fn entries_good(
     s: &[u8],
-    i: Sections,
-    ds: &mut [u32],
-    ls: &[u32],
-    ws: &[u32],
-    ps: &mut [u32],
+    found: Sections,
+    defaults: &mut [u32],
+    locks: &[u32],
+    writes: &[u32],
+    lines: &mut [u32],
     room: &mut [u32],
 ) -> bool
-    requires { AlikeAsk Old s.now i ds.old ls.now ws.now ps.old room.old }
+    requires { AlikeAsk Old s.now found defaults.old locks.now writes.now lines.old room.old }
     ensures { result ≡ is_good (form_of Old) (old_image s.now) }
 {
-    if !order(s, By::Rows, ds, room) {
+    if !order(s, By::Rows, defaults, room) {
         return false;
     }
-    if !order_both(s, By::Lines(i.writesat), ls, ws, ps, room) {
+    if !order_both(s, By::Lines(found.writesat), locks, writes, lines, room) {
         return false;
     }
-    puts_have(s, ds, ws)
+    puts_have(s, defaults, writes)
 }
 
 // How many defaults an image has that can be converted; with room for the places of each section, and for those of all lines. The five lists stay
-// apart, as in `faults`: each is cut to what was found.
+// apart, and the function too, as in `faults`: each list is cut to what was found.
 fn judge_in(
     s: &[u8],
-    ds: &mut [u32],
-    ls: &mut [u32],
-    ws: &mut [u32],
-    ps: &mut [u32],
+    defaults: &mut [u32],
+    locks: &mut [u32],
+    writes: &mut [u32],
+    lines: &mut [u32],
     room: &mut [u32],
 ) -> Option<usize>
-    requires { JudgeAsk s.now ds.old ls.old ws.old ps.old room.old }
+    requires { JudgeAsk s.now defaults.old locks.old writes.old lines.old room.old }
     ensures { OldJudged s.now result }
 {
-    let i = sections_of(s, Form::Old, ds, ls, ws)?;
-    let (d, l, w) = (i.defaults, i.locks, i.writes);
+    let found = sections_of(s, Form::Old, defaults, locks, writes)?;
     if !entries_good(
         s,
-        i,
-        &mut ds[..d],
-        &ls[..l],
-        &ws[..w],
-        &mut ps[..l + w],
+        found,
+        &mut defaults[..found.defaults],
+        &locks[..found.locks],
+        &writes[..found.writes],
+        &mut lines[..found.locks + found.writes],
         room,
     ) {
         return None;
     }
-    Some(d)
+    Some(found.defaults)
 }
 
 // A section has at most 65,535 entries.
 pub(crate) fn old_image(s: &[u8]) -> Option<usize>
     ensures { OldJudged s.now result }
 {
-    let mut ds = [0u32; 65536];
-    let mut ls = [0u32; 65536];
-    let mut ws = [0u32; 65536];
-    let mut ps = [0u32; 131072];
+    let mut defaults = [0u32; 65536];
+    let mut locks = [0u32; 65536];
+    let mut writes = [0u32; 65536];
+    let mut lines = [0u32; 131072];
     let mut room = [0u32; 131072];
-    judge_in(s, &mut ds, &mut ls, &mut ws, &mut ps, &mut room)
+    judge_in(
+        s,
+        &mut defaults,
+        &mut locks,
+        &mut writes,
+        &mut lines,
+        &mut room,
+    )
 }

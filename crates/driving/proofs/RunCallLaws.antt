@@ -6,14 +6,16 @@ use mathlib.Core.Path.{◌≡◌, refl, sym, ◌∙◌, ap, ap₂, subst}
 use mathlib.Core.Bool.{Bool, true, false}
 use mathlib.Core.List.{[]}
 use mathlib.Core.Option.{Option}
-use lib.ListN.{length, take, length-replicate}
+use lib.ListN.{length, length-replicate}
 use lib.Dec.{ltb}
 use borrow.Author.Tests.{ltb-true, ltb-false}
 use Rattle.std.specs.Prelude.{None, Some}
 use Rattle.forms.specs.Bytes.{Bytes}
 use Rattle.forms.specs.Readers.{when}
 use Rattle.rules.specs.Answers.{Answer, No}
-use Rattle.rules.specs.Box.{Box}
+use Rattle.rules.specs.declared.records.Kind.{Kind}
+use Rattle.rules.specs.declared.records.Kind.TheVariants.{Put, Delete, Rollback}
+use Rattle.rules.specs.Box.{Box, eq_kind}
 use Rattle.rules.specs.Calls.{State, Done, Ended, on_floor}
 use Rattle.rules.specs.Prewrite.{PrewriteTerms, prewrite}
 use Rattle.rules.specs.OneStep.{one_step}
@@ -29,7 +31,7 @@ use Rattle.traces.specs.declared.op.AskOp.{AskOp}
 use Rattle.traces.specs.declared.op.Op.{Op}
 use Rattle.traces.specs.Calls.{TraceCall, one_entry, call_from, call}
 use Rattle.traces.specs.Ops.{is_long}
-use Rattle.traces.specs.Taken.{kind_of, first_width, buffer_below, Ends}
+use Rattle.traces.specs.Taken.{first_width, buffer_below, Ends}
 use Rattle.traces.specs.Args.{call_of, call_as}
 use Rattle.traces.specs.Payloads.{bone_payload}
 use Rattle.traces.specs.Answers.{answer_bytes}
@@ -60,12 +62,13 @@ replaced v = record { answer_is = v.answer_is.case_is; made = v.made; shown = v.
 pub settled : {st : Store} {area : Bytes} {d : Done} {m : Changed} {area' : Bytes} → Settled st area d m area' → DoneAs (on_floor st.floor d) m area'
 settled v = record { answer_is = v.answer_is.case_is; made = v.made; shown = ap₂ (λ (b : Box) (f : ℕ). record { box = b; floor = f }) v.shown v.floor_is }
 
--- a single prewrite is its batch of one, and its kind a flag
-pub prewritten : (h : PrewriteTerms) (k r : Bytes) (put : Bool) {st : Store} {area : Bytes} {m : Changed} {area' : Bytes} → Settled st area (prewrite st.floor h (record { key = k; row = when put r }) (box_of st area)) m area'
-    → DoneAs (perform (Changing.Prewrite h (one_entry (kind_of put) k r)) (state_shown st area)) m area'
+-- a single prewrite is its batch of one, in which only the row of a Put stands
+pub prewritten : (h : PrewriteTerms) (k r : Bytes) (kind : Kind) {st : Store} {area : Bytes} {m : Changed} {area' : Bytes} → Settled st area (prewrite st.floor h (record { key = k; row = when (eq_kind kind Put) r }) (box_of st area)) m area'
+    → DoneAs (perform (Changing.Prewrite h (one_entry kind k r)) (state_shown st area)) m area'
 unfolding prewrite perform
-prewritten h k r true v = settled v
-prewritten h k r false v = settled v
+prewritten h k r Put v = settled v
+prewritten h k r Delete v = settled v
+prewritten h k r Rollback v = settled v
 
 -- ---- by the op
 
@@ -130,11 +133,11 @@ module _ (a : Args) (state : State) where
 
 -- of a one-step batch
 pub step-ran : (a : Args) {st : Store} {area : Bytes} {m : Stepped} {area' out out' : Bytes} {r : Shown} {n : ℕ} → Counts st area (one_step st.floor (record { txn = a.first; start = a.second; commit = a.third }) a.rest.now (box_of st area)) m area'
-    → ShownOf (record { answer = m.answer; count = m.count }) 0 r → longest ≤ length out → Writes (answer_bytes (outcome r.answer) r.count (take r.len [])) out n out' → RanAs (told (call_as Op.OneStep a) a.buffer (state_shown st area)) out (record { store = m.store; len = n }) area' out'
+    → ShownOf (record { answer = m.answer; count = m.count }) [] r → longest ≤ length out → Writes (answer_bytes (outcome r.answer) r.count r.payload.now) out n out' → RanAs (told (call_as Op.OneStep a) a.buffer (state_shown st area)) out (record { store = m.store; len = n }) area' out'
 unfolding told perform
 step-ran a {st} {area} {m} {area'} {out} {out'} {r} {n} v u length_is w =
     let d = settled v.settled in
-    let w' : Writes (answer_bytes (outcome r.answer) r.count []) out n out' = subst (λ (k : ℕ). Writes (answer_bytes (outcome r.answer) r.count (take k [])) out n out') u.len_is w in
+    let w' : Writes (answer_bytes (outcome r.answer) r.count []) out n out' = subst (λ (p : Bytes). Writes (answer_bytes (outcome r.answer) r.count p) out n out') u.payload_is w in
     counts-told (one_step st.floor (record { txn = a.first; start = a.second; commit = a.third }) a.rest.now (box_of st area)).count _ (record { answer_is = u.answer_is ∙ d.answer_is; made = d.made; shown = d.shown }) (u.count_is ∙ v.count_is) length_is w'
 
 -- ---- the calls that have a long buffer: it is within its limit, and so is the table

@@ -11,12 +11,11 @@ use Rattle.calls.specs.Settled.{Changed}
 use Rattle.traces.specs.declared.op.ChangeOp.{ChangeOp}
 use Rattle.traces.specs.declared.args.Args.{Args}
 use Rattle.traces.specs.Calls.{one_entry}
-use Rattle.traces.specs.Taken.{kind_of}
 use Rattle.store.specs.View.{state_shown}
 use Rattle.store.specs.Made.{Made}
 
 abbrev pub changed_by : ChangeOp → Args → State → Ended
-changed_by ChangeOp.Prewrite a st = perform (Changing.Prewrite (record { txn = a.first; start = a.second; primary = a.primary.now; ttl = a.third }) (one_entry (kind_of a.put) a.key.now a.row.now)) st
+changed_by ChangeOp.Prewrite a st = perform (Changing.Prewrite (record { txn = a.first; start = a.second; primary = a.primary.now; ttl = a.third }) (one_entry a.kind a.key.now a.row.now)) st
 changed_by ChangeOp.PrewriteBatch a st = perform (Changing.Prewrite (record { txn = a.first; start = a.second; primary = a.primary.now; ttl = a.third }) a.rest.now) st
 changed_by ChangeOp.Commit a st = perform (Changing.Commit (record { txn = a.first; start = a.second; commit = a.third }) (one_key a.key.now)) st
 changed_by ChangeOp.CommitBatch a st = perform (Changing.Commit (record { txn = a.first; start = a.second; commit = a.third }) a.rest.now) st

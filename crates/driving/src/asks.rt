@@ -34,7 +34,8 @@ pub(crate) fn tell_convert(image: &[u8], len: usize, out: &mut [u8]) -> usize
     requires { len < 262145 }
     ensures { Writes (written_bytes (convert_image image.now (lent len))) out.old result out.new }
 {
-    let mut lent = [0xEEu8; 262144];
-    let done = converts::convert_image(image, &mut lent[..len]);
-    written(done, len).tell(&lent, out)
+    let mut longest = [0xEEu8; 262144];
+    let converted = &mut longest[..len];
+    let done = converts::convert_image(image, converted);
+    written(done, converted).tell(out)
 }

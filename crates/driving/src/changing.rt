@@ -8,7 +8,7 @@ ghost use Rattle.showing.specs.Told.{told};
 ghost use Rattle.showing.specs.Ran.{RunAsks, RanAs};
 ghost use Rattle.driving.specs.Changes.{changed_by, DoneAs};
 
-use rules::Refusal;
+use rules::{Kind, Refusal};
 use showing::written;
 use store::{AREA, Store};
 use traces::{Args, ChangeOp, put_answer};
@@ -27,7 +27,8 @@ fn change(
     let (primary, key, rest) = (args.primary, args.key, args.rest);
     match op {
         ChangeOp::Prewrite => {
-            prewrites::prewrite(store, area, a, b, c, primary, key, args.put, args.row)
+            let put = args.kind == Kind::Put;
+            prewrites::prewrite(store, area, a, b, c, primary, key, put, args.row)
         }
         ChangeOp::PrewriteBatch => prewrites::prewrite_batch(store, area, a, b, c, primary, rest),
         ChangeOp::Commit => commits::commit_intent(store, area, a, b, c, key),
@@ -65,5 +66,5 @@ pub(crate) fn run_step(
     ensures { RanAs (told (call_as Op.OneStep args.now) args.now.buffer (state_shown store.old area.old)) out.old (record { store = store.new; len = result }) area.new out.new }
 {
     let done = onesteps::commit_batch(store, area, args.first, args.second, args.third, args.rest);
-    written(done, 0).tell(&[], out)
+    written(done, &[]).tell(out)
 }

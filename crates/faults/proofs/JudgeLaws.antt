@@ -2,7 +2,7 @@
 -- Assumes nothing.
 use Prim.Native.Nat.{ℕ, ◌+◌, ◌≤◌}
 use native.Mathlib.Omega.{arith}
-use mathlib.Core.Path.{◌≡◌, refl, sym, ◌∙◌, ap, ap₂}
+use mathlib.Core.Path.{◌≡◌, refl, sym, ◌∙◌, ap, ap₂, subst}
 use mathlib.Core.Bool.{Bool, true, false, not, ◌&&◌, and-false, and_assoc, and_comm, false≢true}
 use mathlib.Core.List.{List, ◌++◌, map, map-map}
 use mathlib.Core.Option.{Option, none, some}
@@ -11,6 +11,7 @@ use lib.Seq.{length-take-le, take_at}
 use borrow.Author.Tests.{ne_eqb, not-false}
 use Rattle.forms.specs.Bytes.{Bytes}
 use Rattle.forms.specs.Row.{row_form}
+use Rattle.seqs.specs.Tables.{All}
 use Rattle.rules.specs.Box.{KeyLine, Default, ordered}
 use Rattle.rules.specs.Image.{Image, image}
 use Rattle.rules.specs.Restore.{all_good, no_second, like_default, like_lock, like_write, has_default, good_image, image_lines, lock_has_default, pointed_to, like_line, healthy_image, lock_above, floored_image, box_of}
@@ -28,8 +29,9 @@ use Rattle.images.specs.Good.{key_lock_of}
 use Rattle.images.specs.Sections.{is_good, image_of, row_at, line_at, Listed, SectionsAre}
 use Rattle.images.proofs.TestLaws.{fails, holds, and-out}
 use Rattle.pairs.specs.Puts.{puts_of, same_pairs, puts_match}
-use Rattle.faults.specs.Judged.{is_sound, locks_above, Alike, load_from, Sound}
-use Rattle.pairs.proofs.SortedLaws.{and-cross, sorted-once}
+use Rattle.faults.specs.Judged.{is_sound, locks_above, Alike, load_from, KindSaid, Sound}
+use Rattle.faults.proofs.KindLaws.{lines-said}
+use Rattle.pairs.proofs.SortedLaws.{and-cross, sorted_all, sorted-once}
 use Rattle.pairs.proofs.SortedPlaceLaws.{likes-rows, likes-pairs, rows-in-order, rows-placed, rows-once, pairs-in-order, pairs-once, lines-placed, lines_once}
 use Rattle.pairs.proofs.EntryPairLaws.{line_has, lines-have, pairs-match}
 use Rattle.faults.proofs.ImageLoadLaws.{load_at}
@@ -185,6 +187,9 @@ module _ {s : Bytes} {i : Sections} {ds ls ws : List ℕ} (v : SectionsAre New s
             rows_are = ap (map (row_at s)) (part (before_at Rows s) i.defaults ds ds' d dl (a.rows t)) ∙ rows-placed row_form w.table s w.begin w.lat d w.defaults;
             lines_are =
                 ap (map (line_at s i.writesat)) (part (before_at (Lines i.writesat) s) n ps ps' (l ++ m) length_is (a.lines t)) ∙ lines-placed row_form w.table s w.lat i.writesat (length s) l m w.locks w.writes;
+            said =
+                subst (All (KindSaid s i.writesat)) (sym (part (before_at (Lines i.writesat) s) n ps ps' (l ++ m) length_is (a.lines t)))
+                (sorted_all (before_at (Lines i.writesat) s) (KindSaid s i.writesat) (l ++ m) (lines-said row_form w.table s w.lat i.writesat (length s) l m w.locks w.writes));
           };
           few_rows = part-few (before_at Rows s) i.defaults ds ds' d dl (a.rows t);
           few_lines = part-few (before_at (Lines i.writesat) s) n ps ps' (l ++ m) length_is (a.lines t);

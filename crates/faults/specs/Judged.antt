@@ -1,8 +1,9 @@
 -- An image judged whole, and of a sound one its entries in the order of the box.
 -- Assumes nothing.
-use Rattle.std.specs.Prelude.{◌≡◌, Bool, true, false, ◌&&◌, List, ◌++◌, map, ℕ, ◌+◌, ◌≤◌, length, take, Option, Some, None}
+use Rattle.std.specs.Prelude.{◌≡◌, Bool, true, false, ◌&&◌, List, ◌++◌, map, ℕ, ◌+◌, ◌≤◌, length, take, Option, Some, None, ltb}
 use Rattle.std.proofs.Math.Option.{none, some}
 use Rattle.std.proofs.Math.Option as maths
+use Rattle.seqs.specs.Tables.{All}
 use Rattle.forms.specs.Bytes.{Bytes}
 use Rattle.rules.specs.declared.room.Load.{Load}
 use Rattle.rules.specs.Room.{load_of}
@@ -12,10 +13,10 @@ use Rattle.rules.specs.Restore.{all_good, good_image, healthy_image, lock_above,
 use Rattle.orders.specs.declared.marks.By.TheVariants.{Rows, Lines}
 use Rattle.orders.specs.Marks.{before_at}
 use Rattle.orders.specs.Sorts.{sorted}
-use Rattle.images.specs.declared.entries.Section.TheVariants.{Lock}
+use Rattle.images.specs.declared.entries.Section.TheVariants.{Lock, Write}
 use Rattle.images.specs.declared.sections.Sections.{Sections}
 use Rattle.images.specs.Entries.{raw_at}
-use Rattle.images.specs.Good.{key_lock_of}
+use Rattle.images.specs.Good.{known, key_lock_of}
 use Rattle.images.specs.Sections.{row_at, line_at}
 
 -- ---- the entries held against each other
@@ -45,6 +46,17 @@ pub record Alike (s : Bytes) (i : Sections) (ds ls ws : List ℕ) (r : Bool) (ds
 abbrev pub load_from : Sections → Load
 load_from i = record { lines = i.locks + i.writes; locks = i.locks; defaults = i.defaults; bytes = i.bytes }
 
+-- the line at a place says its kind
+abbrev pub said_if : Bool → Bytes → ℕ → Bool
+said_if true s p = known (raw_at Lock s p).kind
+said_if false s p = known (raw_at Write s p).kind
+
+abbrev pub kind_said : Bytes → ℕ → ℕ → Bool
+kind_said s writesat p = said_if (ltb p writesat) s p
+
+abbrev pub KindSaid : Bytes → ℕ → ℕ → Type 0
+KindSaid s writesat p = kind_said s writesat p ≡ true
+
 -- a sound image, and its box by places
 pub record InPlace (s : Bytes) (i : Sections) (ds ps : List ℕ) : Type 0 where
   pub img : Image
@@ -56,6 +68,7 @@ pub record InPlace (s : Bytes) (i : Sections) (ds ps : List ℕ) : Type 0 where
   pub load_is : load_from i ≡ load_of (box_of img)
   pub rows_are : map (row_at s) ds ≡ (box_of img).defaults
   pub lines_are : map (line_at s i.writesat) ps ≡ (box_of img).lines
+  pub said : All (KindSaid s i.writesat) ps
 
 pub record Sound (s : Bytes) (i : Sections) (ds ps : List ℕ) : Type 0 where
   pub in_place : InPlace s i (take i.defaults ds) (take (i.locks + i.writes) ps)

@@ -15,57 +15,56 @@ use pairs::puts_match;
 // chain of `&&` does not carry on.
 fn entries_agree(
     s: &[u8],
-    i: Sections,
-    ds: &mut [u32],
-    ls: &[u32],
-    ws: &[u32],
-    ps: &mut [u32],
+    found: Sections,
+    defaults: &mut [u32],
+    locks: &[u32],
+    writes: &[u32],
+    lines: &mut [u32],
     room: &mut [u32],
 ) -> bool
-    requires { AlikeAsk New s.now i ds.old ls.now ws.now ps.old room.old }
-    ensures { Alike s.now i ds.old ls.now ws.now result ds.new ps.new }
+    requires { AlikeAsk New s.now found defaults.old locks.now writes.now lines.old room.old }
+    ensures { Alike s.now found defaults.old locks.now writes.now result defaults.new lines.new }
 {
-    let writes = i.writesat;
-    if !locks_above(s, i.floor, ls) {
+    if !locks_above(s, found.floor, locks) {
         return false;
     }
-    if !order(s, By::Rows, ds, room) {
+    if !order(s, By::Rows, defaults, room) {
         return false;
     }
-    if !order_both(s, By::Pairs(writes), ls, ws, ps, room) {
+    if !order_both(s, By::Pairs(found.writesat), locks, writes, lines, room) {
         return false;
     }
-    if !puts_match(s, writes, ds, ps) {
+    if !puts_match(s, found.writesat, defaults, lines) {
         return false;
     }
-    order_both(s, By::Lines(writes), ls, ws, ps, room)
+    order_both(s, By::Lines(found.writesat), locks, writes, lines, room)
 }
 
 // The sections of a sound image, and the places of its defaults and of its lines in order. The five lists stay apart: a struct of them would be
-// taken to pieces here, where each is cut to what was found.
+// taken to pieces here, where each is cut to what was found. `convert_image` judges an old image by the same two steps, a function of its own: one for
+// both would take the test as a closure over all five lists, and promise no more than what the closure's own contract says of them.
 pub fn judge(
     s: &[u8],
-    ds: &mut [u32],
-    ls: &mut [u32],
-    ws: &mut [u32],
-    ps: &mut [u32],
+    defaults: &mut [u32],
+    locks: &mut [u32],
+    writes: &mut [u32],
+    lines: &mut [u32],
     room: &mut [u32],
 ) -> Option<Sections>
-    requires { JudgeAsk s.now ds.old ls.old ws.old ps.old room.old }
-    ensures { Judged s.now result ds.new ps.new }
+    requires { JudgeAsk s.now defaults.old locks.old writes.old lines.old room.old }
+    ensures { Judged s.now result defaults.new lines.new }
 {
-    let i = sections_of(s, Form::New, ds, ls, ws)?;
-    let (d, l, w) = (i.defaults, i.locks, i.writes);
+    let found = sections_of(s, Form::New, defaults, locks, writes)?;
     if !entries_agree(
         s,
-        i,
-        &mut ds[..d],
-        &ls[..l],
-        &ws[..w],
-        &mut ps[..l + w],
+        found,
+        &mut defaults[..found.defaults],
+        &locks[..found.locks],
+        &writes[..found.writes],
+        &mut lines[..found.locks + found.writes],
         room,
     ) {
         return None;
     }
-    Some(i)
+    Some(found)
 }

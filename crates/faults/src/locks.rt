@@ -12,8 +12,8 @@ fn starts_above(s: &[u8], floor: u64, place: u32) -> bool
 }
 
 // Whether the locks at these places start above the floor.
-pub(crate) fn locks_above(s: &[u8], floor: u64, ls: &[u32]) -> bool
-    ensures { result ≡ locks_above s.now floor ls.now }
+pub(crate) fn locks_above(s: &[u8], floor: u64, locks: &[u32]) -> bool
+    ensures { result ≡ locks_above s.now floor locks.now }
 {
-    ls.iter().all(|place| starts_above(s, floor, *place))
+    locks.iter().all(|place| starts_above(s, floor, *place))
 }

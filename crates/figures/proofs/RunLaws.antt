@@ -5,6 +5,7 @@ use native.Mathlib.Omega.{arith}
 use mathlib.Core.Path.{◌≡◌, refl, sym, ap, ◌∙◌, subst}
 use mathlib.Core.Bool.{Bool, true, false, true≢false}
 use mathlib.Core.List.{List, [], ◌∷◌}
+use mathlib.Core.Option.{Option, some, none}
 use lib.ListN.{length}
 use Rattle.forms.specs.Bytes.{eq_bytes, lt_bytes}
 use Rattle.forms.specs.Key.{Key}
@@ -15,7 +16,7 @@ use Rattle.laws.proofs.StepLaws.{and_left, and_right}
 use Rattle.laws.proofs.Sorted.{ordered-first, ordered-rest}
 use Rattle.laws.proofs.BoxOrder.{before-not-above}
 use Rattle.figures.specs.declared.runs.Run.{Run}
-use Rattle.figures.specs.Walks.{ended, Few, next_run, key_at, run_of}
+use Rattle.figures.specs.Walks.{ended, Few, next_run, goes_on, key_at, run_of}
 use Rattle.figures.proofs.Chains.{times, times_more, times_long, chain-past, figures-run, figures-few}
 
 -- the keys that lines add, each as often as it is added
@@ -51,7 +52,7 @@ module _ (n : Line → ℕ) where
   keys-after e (f ∷ es) h = below-times (n f.line) e.key f.key (keys_of n es) (before-not-above e f (and_left _ _ h)) (keys-after e es (and_right (before e f) _ h))
 
   -- a key that is not the next one does not stand further on
-  far : (e : KeyLine) (es : List KeyLine) → ordered before (e ∷ es) ≡ true → eq_bytes (key_at es) e.key ≡ false → chain_of e.key (keys_of n es) ≡ 0
+  far : (e : KeyLine) (es : List KeyLine) → ordered before (e ∷ es) ≡ true → goes_on (key_at es) e.key ≡ false → chain_of e.key (keys_of n es) ≡ 0
   unfolding all_after keys_of key_at chain_of
   far e [] o h = refl
   far e (f ∷ es) o h =
@@ -59,25 +60,34 @@ module _ (n : Line → ℕ) where
       chain-past (n f.line) e.key f.key (keys_of n es) (lt_bytes-not-eq e.key f.key p)
       ∙ below_none e.key f.key (keys_of n es) p (keys-after f es (ordered-first before f es (ordered-rest before e (f ∷ es) o)))
 
+  -- the key before; any one will do where there is none
+  abbrev last : Option Key → Key
+  last none = []
+  last (some k) = k
+
+  last-is : (o : Option Key) (k : Key) → goes_on o k ≡ true → last o ≡ k
+  last-is none k h = absurd (true≢false (sym h))
+  last-is (some j) k h = eq_bytes-true j k h
+
   -- ---- what the walk keeps: the run of the last key, and the figures of the rest
 
   record Kept (es : List KeyLine) (r : Run) : Type 0 where
     rest : List Key
-    keys-are : keys_of n es ≡ times r.long (key_at es) rest
+    keys-are : keys_of n es ≡ times r.long (last (key_at es)) rest
     closed_is : r.closed ≡ figures rest
-    apart : chain_of (key_at es) rest ≡ 0
+    apart : chain_of (last (key_at es)) rest ≡ 0
 
   kept-ended : {es : List KeyLine} {r : Run} → Kept es r → ended r.long r.closed ≡ figures (keys_of n es)
-  kept-ended {es} {r} v = ap (ended r.long) v.closed_is ∙ sym (ap figures v.keys-are ∙ figures-run r.long (key_at es) v.rest v.apart)
+  kept-ended {es} {r} v = ap (ended r.long) v.closed_is ∙ sym (ap figures v.keys-are ∙ figures-run r.long (last (key_at es)) v.rest v.apart)
 
   kept : (es : List KeyLine) → ordered before es ≡ true → Kept es (run_of n es)
   unfolding keys_of key_at run_of chain_of figures chains different chains_of from_to over longest
   kept [] o = record { rest = []; keys-are = refl; closed_is = refl; apart = refl }
-  kept (e ∷ es) o = go (eq_bytes (key_at es) e.key) refl (kept es (ordered-rest before e es o))
+  kept (e ∷ es) o = go (goes_on (key_at es) e.key) refl (kept es (ordered-rest before e es o))
     where
-      go : (b : Bool) → eq_bytes (key_at es) e.key ≡ b → Kept es (run_of n es) → Kept (e ∷ es) (next_run b (n e.line) (run_of n es))
+      go : (b : Bool) → goes_on (key_at es) e.key ≡ b → Kept es (run_of n es) → Kept (e ∷ es) (next_run b (n e.line) (run_of n es))
       go true h v =
-          let q : key_at es ≡ e.key = eq_bytes-true (key_at es) e.key h in
+          let q : last (key_at es) ≡ e.key = last-is (key_at es) e.key h in
           record {
             rest = v.rest;
             keys-are =
@@ -100,4 +110,4 @@ module _ (n : Line → ℕ) where
   pub run-few : ((x : Line) → n x ≤ 1) → (es : List KeyLine) → ordered before es ≡ true → length es ≤ 1024 → Few (run_of n es).long (run_of n es).closed
   run-few one es o h =
       let v = kept es o in
-      subst (Few (run_of n es).long) (sym v.closed_is) (figures-few (run_of n es).long (key_at es) v.rest (omega (arith, few-keys one es, ap length v.keys-are)))
+      subst (Few (run_of n es).long) (sym v.closed_is) (figures-few (run_of n es).long (last (key_at es)) v.rest (omega (arith, few-keys one es, ap length v.keys-are)))

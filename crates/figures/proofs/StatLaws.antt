@@ -1,13 +1,14 @@
 -- The loop of `stats`: what it keeps is the walk over the lines passed, and at its end the statistics of the box.
 -- Assumes nothing.
-use Prim.Native.Nat.{ℕ, ◌+◌, ◌-◌, ◌≤◌, ◌<◌}
+use Prim.Native.Nat.{ℕ, ◌-◌, ◌≤◌, ◌<◌}
 use native.Mathlib.Omega.{arith}
 use mathlib.Core.Path.{◌≡◌, refl, sym, ap, ap₂, ◌∙◌, subst}
 use mathlib.Core.List.{List, ◌∷◌}
-use lib.ListN.{length, get_or, drop, take, length-drop}
+use lib.ListN.{get_or, drop, take, length-drop}
 use Rattle.seqs.specs.Tables.{shown}
 use Rattle.seqs.proofs.Tables.{shown-length}
 use Rattle.seqs.proofs.Downs.{Down, down-start, down-more, down-end}
+use Rattle.std.specs.Prelude.{None}
 use Rattle.forms.specs.Bytes.{Bytes}
 use Rattle.rules.specs.declared.records.Kind.{Kind}
 use Rattle.rules.specs.declared.records.Kind.TheVariants.{Put, Delete, Rollback}
@@ -26,7 +27,7 @@ use Rattle.store.specs.declared.table.Slot.{Slot}
 use Rattle.store.specs.declared.table.Store.{Store}
 use Rattle.figures.specs.declared.runs.Run.{Run}
 use Rattle.figures.specs.declared.runs.Runs.{Runs}
-use Rattle.figures.specs.Walks.{no_run, ended, Few, if_row, rows_in, records_in, Sight, add_line, key_at, run_of, sight_of, sight_in, NextLine, LineCounted}
+use Rattle.figures.specs.Walks.{no_run, ended, Few, if_row, rows_in, records_in, Sight, add_line, key_at, run_of, sight_of, sight_in, KeyIn, NextLine, LineCounted}
 use Rattle.figures.proofs.RunLaws.{run-figures, run-few}
 use Rattle.figures.proofs.DefaultFigureLaws.{record-keys, stored-keys}
 
@@ -49,12 +50,12 @@ cons e es = refl
 
 pub record LinesPassed (area : Bytes) (slots : List Slot) (n i : ℕ) (seen : Runs) : Type 0 where
   pub down : Down sight_of (shown (line_of area) n slots) n i (sight_in area seen)
-  pub within : seen.at + seen.len ≤ length area
+  pub within : KeyIn area seen.key
 
 module _ {st : Store} {area : Bytes} (m : Built st area) where
-  pub lines_start : {r q : Run} → r ≡ no_run → q ≡ no_run → LinesPassed area st.lines st.load.lines st.load.lines (record { at = 0; len = 0; rows = r; records = q })
+  pub lines_start : {r q : Run} → r ≡ no_run → q ≡ no_run → LinesPassed area st.lines st.load.lines st.load.lines (record { key = None; rows = r; records = q })
   unfolding key_at run_of
-  lines_start e f = rw (e, f) (record { down = down-start m.lines (line_of area) sight_of refl; within = omega arith })
+  lines_start e f = rw (e, f) (record { down = down-start m.lines (line_of area) sight_of refl; within = tt })
 
   module _ {i : ℕ} {seen : Runs} (w : LinesPassed area st.lines st.load.lines i seen) where
     few : (n : box.Line → ℕ) → ((x : box.Line) → n x ≤ 1) → {r : Run} → r ≡ run_of n (drop i (box_of st area).lines) → Few r.long r.closed

@@ -2,8 +2,13 @@
 -- records the length of that key's run and the figures of the runs that have ended. The other keeps the marks.
 -- Assumes nothing.
 use Rattle.std.specs.Prelude.{ℕ, zero, suc, ◌+◌, ◌≤◌, max, ◌≡◌, Bool, true, false, ◌&&◌, not, List, [], ◌∷◌, length, leb}
-use Rattle.forms.specs.Bytes.{Bytes, bytes_at, eq_bytes}
+use Rattle.std.specs.Prelude.{None, Some}
+use Rattle.std.specs.Prelude.{Option as Maybe}
+use Rattle.std.proofs.Math.Option.{Option, some, none}
+use Rattle.forms.specs.Bytes.{Bytes, eq_bytes}
 use Rattle.forms.specs.Key.{Key}
+use Rattle.forms.specs.declared.part.Part.{Part}
+use Rattle.forms.specs.Places.{given_part}
 use Rattle.rules.specs.declared.records.Kind.{Kind}
 use Rattle.rules.specs.declared.records.Kind.TheVariants.{Put, Delete, Rollback}
 use Rattle.rules.specs.declared.figures.Figures.{Figures}
@@ -74,45 +79,54 @@ abbrev pub added_by : table.Line → Added
 added_by (slot.Standing l) = record { rows = if_row l.kind; records = 0 }
 added_by (slot.Finished w) = record { rows = if_row w.kind; records = 1 }
 
+-- the run goes on: there is a key before, and it is this one
+abbrev pub goes_on : Option Key → Key → Bool
+goes_on none k = false
+goes_on (some j) k = eq_bytes j k
+
 pub record Sight : Type 0 where
-  pub key : Key
+  pub key : Option Key
   pub rows : Run
   pub records : Run
 
 abbrev pub add_line : KeyLine → Sight → Sight
 add_line e s = record {
-  key = e.key;
-  rows = next_run (eq_bytes s.key e.key) (rows_in e.line) s.rows;
-  records = next_run (eq_bytes s.key e.key) (records_in e.line) s.records;
+  key = some e.key;
+  rows = next_run (goes_on s.key e.key) (rows_in e.line) s.rows;
+  records = next_run (goes_on s.key e.key) (records_in e.line) s.records;
 }
 
 -- ---- the walk
 
-unfoldable pub key_at : List KeyLine → Key
-key_at [] = []
-key_at (e ∷ es) = e.key
+unfoldable pub key_at : List KeyLine → Option Key
+key_at [] = none
+key_at (e ∷ es) = some e.key
 
 unfoldable pub run_of : (Line → ℕ) → List KeyLine → Run
 run_of n [] = no_run
-run_of n (e ∷ es) = next_run (eq_bytes (key_at es) e.key) (n e.line) (run_of n es)
+run_of n (e ∷ es) = next_run (goes_on (key_at es) e.key) (n e.line) (run_of n es)
 
 abbrev pub sight_of : List KeyLine → Sight
 sight_of es = record { key = key_at es; rows = run_of rows_in es; records = run_of records_in es }
 
 -- what the code keeps
 abbrev pub sight_in : Bytes → Runs → Sight
-sight_in area q = record { key = bytes_at area q.at q.len; rows = q.rows; records = q.records }
+sight_in area q = record { key = given_part area q.key; rows = q.rows; records = q.records }
+
+abbrev pub KeyIn : Bytes → Maybe Part → Type 0
+KeyIn area None = Unit {0}
+KeyIn area (Some key) = key.at + key.len ≤ length area
 
 -- what one line more asks: both keys lie in the area, and the counts are few
 pub record NextLine (area : Bytes) (seen : Runs) (s : Slot) : Type 0 where
-  pub before_in : seen.at + seen.len ≤ length area
+  pub before_in : KeyIn area seen.key
   pub key_in : place_of s + s.len ≤ length area
   pub rows : Few seen.rows.long seen.rows.closed
   pub records : Few seen.records.long seen.records.closed
 
 pub record LineCounted (area : Bytes) (seen : Runs) (s : Slot) (q : Runs) : Type 0 where
   pub is : sight_in area q ≡ add_line (line_of area s) (sight_in area seen)
-  pub within : q.at + q.len ≤ length area
+  pub within : KeyIn area q.key
 
 -- ---- high-water marks
 

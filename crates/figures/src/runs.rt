@@ -1,4 +1,5 @@
 // What the walk over lines keeps.
+use forms::Part;
 use rules::Figures;
 
 // The length of the run of one key, and the figures of the runs that have ended.
@@ -15,11 +16,10 @@ pub struct Added {
     pub records: usize,
 }
 
-// The key before, which is the `len` bytes of the area from `at`, and the runs of rows and of records. Before the first key the length is 0.
+// The key before, if there is one, and the runs of rows and of records.
 #[derive(Clone, Copy)]
 pub struct Runs {
-    pub at: usize,
-    pub len: usize,
+    pub key: Option<Part>,
     pub rows: Run,
     pub records: Run,
 }

@@ -8,6 +8,7 @@ ghost use Rattle.figures.specs.Walks.{if_row, added_by, NextLine, LineCounted};
 
 use crate::runs::{Added, Runs};
 use crate::walks::{close, next_run, no_run};
+use forms::Part;
 use rules::{Kind, Stats};
 use store::{AREA, Line, Slot, Store, place_of};
 
@@ -42,13 +43,16 @@ fn one_line(seen: Runs, s: Slot, area: &[u8]) -> Runs
     requires { NextLine area.now seen s }
     ensures { LineCounted area.now seen s result }
 {
-    let at = place_of(s);
-    let len = s.len as usize;
-    let same = forms::same(&area[seen.at..seen.at + seen.len], &area[at..at + len]);
+    let key = Part {
+        at: place_of(s),
+        len: usize::from(s.len),
+    };
+    let same = seen
+        .key
+        .is_some_and(|k| forms::same(k.of(area), key.of(area)));
     let more = added_by(s.line);
     Runs {
-        at,
-        len,
+        key: Some(key),
         rows: next_run(seen.rows, same, more.rows),
         records: next_run(seen.records, same, more.records),
     }
@@ -60,8 +64,7 @@ pub fn stats(store: &Store, area: &[u8; AREA]) -> Stats
     ensures { result ≡ stats (box_of store.now area.now) }
 {
     let mut seen = Runs {
-        at: 0,
-        len: 0,
+        key: None,
         rows: no_run(),
         records: no_run(),
     };

@@ -1,5 +1,5 @@
 // The forms on bytes of document 01, "Key, row, batch, image": what every call is told and what the store keeps.
-// Every function here takes any bytes and any place, and says what the definition in specs/ says of them.
+// Every reader here takes any bytes and any place, and says what the definition in specs/ says of them.
 #![tactic(auto)]
 
 pub mod batch;

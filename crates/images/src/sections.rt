@@ -86,29 +86,29 @@ pub struct Sections {
 pub fn sections_of(
     s: &[u8],
     form: Form,
-    ds: &mut [u32],
-    ls: &mut [u32],
-    ws: &mut [u32],
+    defaults: &mut [u32],
+    locks: &mut [u32],
+    writes: &mut [u32],
 ) -> Option<Sections>
-    requires { Room s.now ds.old ls.old ws.old }
-    ensures { SectionsAt form s.now result ds.new ls.new ws.new }
+    requires { Room s.now defaults.old locks.old writes.old }
+    ensures { SectionsAt form s.now result defaults.new locks.new writes.new }
 {
-    let t = head_at(s, form)?;
-    if t.table == 0 {
+    let head = head_at(s, form)?;
+    if head.table == 0 {
         return None;
     }
-    let d = section_at(s, t.end, Section::Default, form, t.table, ds)?;
-    let l = section_at(s, d.end, Section::Lock, form, t.table, ls)?;
-    let w = section_at(s, l.end, Section::Write, form, t.table, ws)?;
-    if w.end != s.len() {
+    let of_defaults = section_at(s, head.end, Section::Default, form, head.table, defaults)?;
+    let of_locks = section_at(s, of_defaults.end, Section::Lock, form, head.table, locks)?;
+    let of_writes = section_at(s, of_locks.end, Section::Write, form, head.table, writes)?;
+    if of_writes.end != s.len() {
         return None;
     }
     Some(Sections {
-        floor: t.floor,
-        defaults: d.count,
-        locks: l.count,
-        writes: w.count,
-        writesat: l.end,
-        bytes: d.bytes + l.bytes + w.bytes,
+        floor: head.floor,
+        defaults: of_defaults.count,
+        locks: of_locks.count,
+        writes: of_writes.count,
+        writesat: of_locks.end,
+        bytes: of_defaults.bytes + of_locks.bytes + of_writes.bytes,
     })
 }

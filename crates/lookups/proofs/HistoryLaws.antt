@@ -1,18 +1,15 @@
 -- One record more: what a history says then, and what a key has in two lists of lines, one after the other.
 -- Assumes nothing.
 use Rattle.std.specs.Prelude.{None, Some}
-use Prim.Native.Nat.{ℕ, ◌+◌, ◌≤◌, ◌<◌}
+use Prim.Native.Nat.{ℕ, ◌+◌, ◌≤◌}
 use native.Mathlib.Omega.{arith}
 use mathlib.Core.Path.{◌≡◌, refl, sym, ap, ◌∙◌}
 use mathlib.Core.Bool.{Bool, true, false, ◌&&◌, not, and-true, and_assoc}
 use mathlib.Core.List.{List, [], ◌∷◌, ◌++◌, reverse, reverse-append}
 use mathlib.Core.Option.{Option, none, some}
 use lib.Dec.{ltb, leb, eqb}
-use borrow.Author.Tests.{le-leb, lt-leb}
 use Rattle.forms.specs.Bytes.{Bytes, eq_bytes}
 use Rattle.forms.specs.Key.{Key}
-use Rattle.forms.specs.Numbers.{either_if}
-use Rattle.rules.specs.declared.records.Kind.{Kind}
 use Rattle.rules.specs.declared.records.Kind.TheVariants.{Rollback}
 use Rattle.rules.specs.declared.records.Record.{Record}
 use Rattle.rules.specs.Box as box
@@ -21,12 +18,8 @@ use Rattle.rules.specs.Commit.{with_start}
 use Rattle.rules.specs.Read.{newest_first, at_or_below, keep_if}
 use Rattle.store.specs.declared.views.RecordView.{RecordView}
 use Rattle.lookups.specs.declared.lookup.History.{History}
-use Rattle.lookups.specs.declared.lookup.KeyState.{KeyState}
-use Rattle.store.specs.declared.views.LockView.{LockView}
-use Rattle.store.specs.declared.views.LineView.{LineView}
-use Rattle.store.specs.declared.views.LineView.TheVariants as view
 use Rattle.store.specs.Views.{record_in, RowThere}
-use Rattle.lookups.specs.KeyStates.{Found, said, is_if, first_found, examined_if, sight_after, no_history, history_after, see_line, not_rolled, examined_in, FoundThere, HistoryAt}
+use Rattle.lookups.specs.KeyStates.{Found, said, is_if, first_found, examined_if, no_history, history_after, not_rolled, examined_in, FoundThere, HistoryAt}
 
 -- a test of each
 module _ (t : Record → Bool) (all : List Record → Bool) (nil : all [] ≡ true) (cons : (w : Record) (ws : List Record) → all (w ∷ ws) ≡ t w && all ws) where

@@ -1,5 +1,5 @@
--- The two loops of `look_up`: the search by halves for the place of the key's first line, and the walk over the key's lines from there, where
--- lock and history are those of the lines passed.
+-- The loops of the lookup: the search by halves for the place of the key's first line (`first_line`), and the walk over the key's lines from there
+-- (`look_up`), where lock and history are those of the lines passed.
 -- Assumes nothing.
 use Prim.Native.Nat.{ℕ, zero, suc, ◌+◌, ◌-◌, ◌/◌, ◌^◌, ◌≤◌, ◌<◌}
 use native.Mathlib.Nat.{pow-zero, pow-suc}
@@ -47,7 +47,7 @@ use Rattle.store.specs.View.{eight_at, line_in, place_of, past, row_len, key_of,
 use Rattle.store.specs.Made.{SlotBelow, Built}
 use Rattle.store.specs.Views.{view_in, view_of, RowThere}
 use Rattle.lookups.specs.KeyStates.{locked_by, nothing_at, see_line, LockThere, HistoryAt, stamp_line, record_place, KeyStateAt}
-use Rattle.store.proofs.BuiltLaws.{es, ds, slot, lines-order, same, inside, row-there}
+use Rattle.store.proofs.BuiltLaws.{es, ds, slot, slot-in, lines-order, same, inside, row-there}
 use Rattle.lookups.proofs.HistoryLaws.{history-none, history-more, examined-few, records-append, or_lock, lock-append}
 
 -- p is the lesser of i and n
@@ -66,7 +66,7 @@ lesser-either true e l = lesser-more (ltb-true _ _ (sym e))
 lesser-either false e l = lesser-same (ltb-false _ _ (sym e)) l
 
 -- a range that is not empty has a round left
-pub round-left : (rounds : ℕ) {d : ℕ} → d < 2 ^ rounds → 0 < d → 0 < rounds
+round-left : (rounds : ℕ) {d : ℕ} → d < 2 ^ rounds → 0 < d → 0 < rounds
 round-left zero f g = absurd (omega (arith, f, g, pow-zero 2))
 round-left (suc r) f g = omega arith
 
@@ -138,12 +138,13 @@ module _ {st : Store} {area : Bytes} (b : Built st area) (k : Key) where
   pub halving-start : Halving area k st.lines st.load.lines 0 st.load.lines
   halving-start = record { from = omega arith; to = first-in; count_fits = omega arith }
 
-  module _ {low high : ℕ} (v : Halving area k st.lines st.load.lines low high) (h : low < high) where
-    abbrev mid : ℕ
-    mid = low + (high - low) / 2
-
-    pub mid-in : mid < st.load.lines
+  -- any place of the range may be compared
+  module _ (mid : ℕ) {low high : ℕ} (v : Halving area k st.lines st.load.lines low high) (from : low ≤ mid) (to : mid < high) where
+    mid-in : mid < st.load.lines
     mid-in = omega (arith, v.count_fits)
+
+    pub key-in : place_of (slot b mid) + (slot b mid).len ≤ length area
+    key-in = omega (arith, slot-in b mid mid-in)
 
     pub halving-up : is_less (cmp (key_of area (slot b mid)) k) ≡ true → Halving area k st.lines st.load.lines (mid + 1) high
     unfolding lt_bytes
@@ -155,14 +156,13 @@ module _ {st : Store} {area : Bytes} (b : Built st area) (k : Key) where
 
 module _ {st : Store} {area : Bytes} (b : Built st area) (k : Key) (start stamp : ℕ) where
   -- where the search ends, the walk begins
-  nothing_seen : {low high : ℕ} → Halving area k st.lines st.load.lines low high → high ≤ low → Looking area k start stamp st.lines st.load.lines low (nothing_at low)
-  nothing_seen {low} {high} v e =
-      let f : low ≡ lines_before k (es b) = omega (arith, v.from, v.to) in
+  nothing_seen : {low : ℕ} → low ≡ first b k → Looking area k start stamp st.lines st.load.lines low (nothing_at low)
+  nothing_seen {low} f =
       let p = record-place k (record_for 0 stamp Put) (es b) (lines-order b) in
       let t : take low (es b) ≡ those (λ (x : box.KeyLine). lt_bytes x.key k) (es b) = ap (λ (n : ℕ). take n (es b)) f ∙ take-place box.before (λ (x : box.KeyLine). lt_bytes x.key k) (below-down (λ (x : box.KeyLine). x.key) box.before before-not-above k) (es b) (lines-order b) in
       record {
-        low = omega (arith, v.to, v.count_fits, v.from);
-        from = omega (arith, v.to);
+        low = omega (arith, f, first-in b k);
+        from = omega (arith, f);
         first_is = f;
         place_is = record { before = λ _. refl; after = λ g. omega (arith, p, f) };
         count_fits = omega arith;
@@ -172,9 +172,8 @@ module _ {st : Store} {area : Bytes} (b : Built st area) (k : Key) (start stamp 
             subst (λ (ws : List Record). HistoryAt top area (ds b) k start stamp ws (nothing_at low).history) (sym (ap (box.records_of k) t ∙ (none_below k (es b)).1)) history-none;
       }
 
-  pub looking-start : {low high : ℕ} {seen : KeyState} → Halving area k st.lines st.load.lines low high → high ≤ low → seen ≡ nothing_at low
-      → Looking area k start stamp st.lines st.load.lines low seen
-  looking-start {low} v e q = subst (Looking area k start stamp st.lines st.load.lines low) (sym q) (nothing_seen v e)
+  pub looking-start : {low : ℕ} {seen : KeyState} → low ≡ first b k → seen ≡ nothing_at low → Looking area k start stamp st.lines st.load.lines low seen
+  looking-start {low} f q = subst (Looking area k start stamp st.lines st.load.lines low) (sym q) (nothing_seen f)
 
   module _ {i : ℕ} {seen : KeyState} (w : Looking area k start stamp st.lines st.load.lines i seen) where
     -- the walk ends: what follows says nothing of the key
@@ -198,9 +197,6 @@ module _ {st : Store} {area : Bytes} (b : Built st area) (k : Key) (start stamp 
         (ap (box.lock_of k) (shown-past b.lines (line_of area) i h), ap (box.records_of k) (shown-past b.lines (line_of area) i h))
 
     module _ (l : i < st.load.lines) where
-      pub looking-few : seen.history.examined < 1024
-      looking-few = omega (arith, w.count_fits, b.lines.count_fits)
-
       abbrev here : Slot
       here = slot b i
 

@@ -1,7 +1,9 @@
 // What stands at a key, as every call asks of it: its lock, and what its records say to a start and to a stamp. A search by halves for
 // its first line, then a walk over its lines.
 ghost use Rattle.std.specs.Prelude.{◌≡◌, ◌<◌};
+ghost use Rattle.laws.specs.Places.{lines_before};
 ghost use Rattle.store.specs.Made.{Built};
+ghost use Rattle.store.specs.View.{box_of};
 ghost use Rattle.lookups.specs.KeyStates.{first_found, sight_after, history_after, nothing_at, see_line, KeyStateAt};
 
 use rules::Kind;
@@ -118,12 +120,11 @@ fn see(seen: KeyState, line: LineView, start: u64, stamp: u64, next: usize) -> K
 // "The lookup that finds a key's first line shall halve its range." So 11 rounds leave nothing of a full table, 1,024 lines.
 const ROUNDS: usize = 11;
 
-// The search compares one key a round and takes one of the rounds for it. It is proved that each time one is left, so nothing tests for it, and
-// the compiler leaves the count out. A key without lines has the place where one would stand. The walk from there ends at the first line of
-// another key.
-pub fn look_up(store: &Store, area: &[u8], key: &[u8], start: u64, stamp: u64) -> KeyState
+// The place of the key's first line, or where one would stand. The search compares one key a round and takes one of the rounds for it. It is
+// proved that each time one is left, so nothing tests for it, and the compiler leaves the count out.
+fn first_line(store: &Store, area: &[u8], key: &[u8]) -> usize
     requires { Built store.now area.now }
-    ensures { KeyStateAt store.now area.now key.now start stamp result }
+    ensures { result ≡ lines_before key.now (box_of store.now area.now).lines }
 {
     let mut low = 0;
     let mut high = store.load.lines;
@@ -138,8 +139,17 @@ pub fn look_up(store: &Store, area: &[u8], key: &[u8], start: u64, stamp: u64) -
             Ordering::Greater => high = mid,
         }
     }
-    let mut seen = nothing_at(low);
-    for i in low..store.load.lines {
+    low
+}
+
+// The walk begins at the key's first line and ends at the first line of another key.
+pub fn look_up(store: &Store, area: &[u8], key: &[u8], start: u64, stamp: u64) -> KeyState
+    requires { Built store.now area.now }
+    ensures { KeyStateAt store.now area.now key.now start stamp result }
+{
+    let first = first_line(store, area, key);
+    let mut seen = nothing_at(first);
+    for i in first..store.load.lines {
         let s = store.lines[i];
         match slot_order(s, area, key) {
             Ordering::Equal => seen = see(seen, view_of(s, area), start, stamp, i + 1),

@@ -1,9 +1,9 @@
-// The public face: document 01's calls under the Rust's names, as they stand in their crates, re-exported and not wrapped, so that no call
-// copies a table for its name; and every type that a call takes or gives back, with the types of its fields, so that a caller names no other
-// crate. `fresh` is the Rust's `new`, `open` the same over an area that is lent, `restore` its `restore_from_snapshot_entries`,
-// `capture_snapshot_table` its `capture_snapshot_state` of one table. A store and its area of `AREA` bytes go together: between
-// calls the area is the store's own, and nobody else writes to it. Every call's only premise is that our code made them (`Made`,
-// crates/store/specs/Made.antt). Each call is tied to the demands in crates/demands/src/ties.rt, by its name here.
+// The public face: document 01's calls under the Rust's names, as they stand in their crates, re-exported and not wrapped; and every type that a
+// call takes or gives back, with the types of its fields, so that a caller names no other crate. `fresh` is the Rust's `new`, `open` the same
+// over an area that is lent, `restore` its `restore_from_snapshot_entries`, `capture_snapshot_table` its `capture_snapshot_state` of one table. A
+// store and its area of `AREA` bytes go together: between calls the area is the store's own, and nobody else writes to it. Every call's only
+// premise is that our code made them (`Made`, crates/store/specs/Made.antt). Each call is tied to the demands in crates/demands/src/ties.rt, by
+// its name here.
 #![tactic(auto)]
 
 // A store, fresh or from an image; the image of one of its tables; an old image as one of today.

@@ -17,7 +17,8 @@ use forms::{Entry, mutations_of};
 use rules::{CommitTerms, Refusal};
 use store::{AREA, Store};
 
-// The steps of a batch in form whose head has passed, and the applying pass. Where all of it is applied already, no entry is applied.
+// The steps of a batch in form whose head has passed, and the applying pass. Where all of it is applied already, no entry is applied. It answers
+// a count, so its end is not calls' `settle`.
 fn step_all(
     store: &mut Store,
     area: &mut [u8],

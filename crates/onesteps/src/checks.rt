@@ -34,7 +34,7 @@ pub struct Checks {
     pub tally: Tally,
     // the steps of an entry that is not applied
     pub steps: Result<(), Refusal>,
-    // what it would add and free, where its steps pass
+    // what it would add and free, where its steps pass. It stands beside the steps and not within their `Ok`, since the sum goes on past a refusal
     pub weight: Weight,
 }
 

@@ -39,7 +39,7 @@ fn join(t: Checks, m: Checks) -> Checks
     }
 }
 
-// Every entry on the store before the call.
+// Every entry on the store before the call. It goes on past an entry that is refused, so it is not calls' `check_each`.
 pub fn check_all(
     store: &Store,
     area: &[u8],

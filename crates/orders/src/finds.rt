@@ -19,7 +19,8 @@ fn probe(low: usize, high: usize, last: usize) -> usize
     }
 }
 
-// By halves, so that an image whose starts stand in any order costs no more. In most images it is the one after the last.
+// By halves, so that an image whose starts stand in any order costs no more. In most images it is the one after the last. The marks are made of
+// whole entries: `mark_at` reads no more than a default's head, and so says another key where the rest of it does not stand.
 pub fn row_place(s: &[u8], rows: &[u32], e: ImageEntry, last: usize) -> usize
     requires { PlaceAsks s.now rows.now e }
     ensures { result ≡ place_of s.now rows.now (key_inside s.now e) e.second }
@@ -32,17 +33,17 @@ pub fn row_place(s: &[u8], rows: &[u32], e: ImageEntry, last: usize) -> usize
     let mut low: usize = 0;
     let mut high = rows.len();
     while low < high {
-        let i = probe(low, high, last);
-        let d = stood_at(s, rows[i], Section::Default);
+        let middle = probe(low, high, last);
+        let found = stood_at(s, rows[middle], Section::Default);
         let mark = Mark {
-            key: d.key,
+            key: found.key,
             lock: false,
-            value: d.first,
+            value: found.first,
         };
         if mark_before(s, mark, pair) {
-            low = i + 1;
+            low = middle + 1;
         } else {
-            high = i;
+            high = middle;
         }
     }
     low

@@ -1,7 +1,7 @@
 // Entries of an image in order, as places in its bytes: a list of places, or two in one, is sorted and asked whether it ascends; a place is found
 // by what stands there.
-// `orders`, `pairs`, `faults`, `verdicts` and `restores` are one layer, kept apart for the gate's time: a must-fail edit repeats the check of its
-// whole crate.
+// `orders`, `pairs`, `faults`, `verdicts` and `restores` are one layer, set apart for the check's time with the older kit
+// (docs/ARCHITECTURE.md, 'The crates').
 #![tactic(auto)]
 
 pub mod finds;

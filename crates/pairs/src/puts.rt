@@ -20,18 +20,18 @@ pub fn points_to(s: &[u8], e: ImageEntry, place: u32) -> bool
 
 // "a Put lock without its default; a default to which no Put lock or Put record of its key and start points": each Put is of the next default's
 // key and start, and no default is left.
-pub fn puts_match(s: &[u8], writes: usize, ds: &[u32], ps: &[u32]) -> bool
-    ensures { result ≡ puts_match s.now writes ds.now ps.now }
+pub fn puts_match(s: &[u8], writes: usize, defaults: &[u32], lines: &[u32]) -> bool
+    ensures { result ≡ puts_match s.now writes defaults.now lines.now }
 {
     let mut j: usize = 0;
-    for place in ps {
+    for place in lines {
         let e = line_at(s, *place, writes);
         if e.is_put() {
-            if ds.len() <= j || !points_to(s, e, ds[j]) {
+            if defaults.len() <= j || !points_to(s, e, defaults[j]) {
                 return false;
             }
             j += 1;
         }
     }
-    ds.len() <= j
+    defaults.len() <= j
 }

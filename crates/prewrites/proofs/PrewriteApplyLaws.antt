@@ -28,11 +28,11 @@ use Rattle.laws.proofs.PrewriteLoad.{prewrites-load}
 use Rattle.store.specs.View.{box_of}
 use Rattle.actions.specs.declared.action.Action.{Action}
 use Rattle.actions.specs.declared.action.Action.TheVariants.{Prewrite}
-use Rattle.calls.specs.Passes.{EntryReady, Ready}
+use Rattle.calls.specs.Passes.{EntryReady, Ready, Weighed}
 use Rattle.calls.proofs.EntryPartLaws.{row_fits}
 use Rattle.calls.proofs.AnswerLaws.{terms-split}
 use Rattle.calls.proofs.ApplyAllLaws.{Changes, Applying, applying-passed, ready-all}
-use Rattle.calls.proofs.RoomJudgeLaws.{Weighed, applying-free}
+use Rattle.calls.proofs.RoomJudgeLaws.{applying-free}
 use Rattle.calls.proofs.DoneLaws.{ByEntries}
 use Rattle.prewrites.specs.declared.heads.LockTerms.{LockTerms}
 use Rattle.prewrites.specs.Checks.{with_primary, steps_of}

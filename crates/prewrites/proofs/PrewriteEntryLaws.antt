@@ -2,7 +2,6 @@
 -- the row that is stored for the key and the start is the lock's own, and without a lock there is none.
 -- Assumes nothing.
 use Rattle.std.specs.Prelude.{None, Some, Ok, Err}
-use Rattle.std.specs.Prelude.{Option as Maybe}
 use Prim.Native.Nat.{ℕ, ◌≤◌}
 use native.Mathlib.Omega.{arith}
 use mathlib.Core.Path.{◌≡◌, refl, sym, ap, ◌∙◌}
@@ -15,9 +14,6 @@ use borrow.Author.Tests.{eqb-true}
 use Rattle.forms.specs.Bytes.{Bytes, bytes_at, eq_bytes}
 use Rattle.forms.specs.Key.{Key, key_form}
 use Rattle.forms.specs.Row.{Row}
-use Rattle.forms.specs.Places.{key_at, given_part, GivenIn, EntryIn}
-use Rattle.forms.specs.declared.part.Part.{Part}
-use Rattle.forms.specs.declared.batch.Entry.{Entry}
 use Rattle.rules.specs.Answers.{Answer, Accepted, Holder, ◌▸◌, need, need_own}
 use Rattle.rules.specs.declared.records.Kind.{Kind}
 use Rattle.rules.specs.declared.records.Kind.TheVariants.{Put, Delete, Rollback}
@@ -39,7 +35,6 @@ use Rattle.store.specs.View.{row_if, box_of}
 use Rattle.store.specs.Made.{Built}
 use Rattle.store.specs.Views.{lock_in}
 use Rattle.lookups.specs.KeyStates.{Locked, locked_by, LockThere, IntentThere, KeyStateAt}
-use Rattle.forms.proofs.WriterLaws.{bytes-long}
 use Rattle.store.proofs.TidyLaws.{built-tidy}
 use Rattle.changes.specs.Loads.{row_size, lock_size}
 use Rattle.changes.proofs.LineLoadLaws.{row-most}
@@ -47,7 +42,6 @@ use Rattle.changes.proofs.KeptLaws.{lock-size}
 use Rattle.changes.specs.Changes.{entry_for, row_bytes}
 use Rattle.calls.specs.Weights.{no_weight, checked, EntryChecked}
 use Rattle.calls.specs.declared.weights.Weight.{Weight}
-use Rattle.calls.proofs.EntryPartLaws.{key_short}
 use Rattle.calls.proofs.AnswerLaws.{then_same}
 use Rattle.calls.proofs.SeenLaws.{checked_refused}
 use Rattle.prewrites.specs.Checks.{steps_of, adds_of, PartsShort, Weighs, LockIn, row_held, entry_steps}
@@ -75,14 +69,6 @@ old-weighs key primary row e = record {
   freed_is = refl;
   light = record { added = omega arith; freed = omega arith };
 }
-
--- the parts of an entry
-pub parts-short : {s : Bytes} (e : Entry) {primary : Bytes} → EntryIn s e → length primary ≤ 255 → PartsShort (key_at s e) primary (row_bytes (given_part s e.row))
-parts-short {s} e {primary} i p = record { key_short = key_short e i; primary_short = p; row_short = go e.row i.row-in }
-  where
-    go : (o : Maybe Part) → GivenIn s o → length (row_bytes (given_part s o)) ≤ 255
-    go None g = omega arith
-    go (Some r) g = omega (arith, bytes-long s r.at r.len g.within, g.small)
 
 -- ---- the steps that no store can fail
 

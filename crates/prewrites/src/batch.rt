@@ -14,7 +14,7 @@ ghost use Rattle.prewrites.specs.Checks.{with_primary};
 use crate::heads::{LockTerms, terms_step};
 use crate::passes::check_all;
 use actions::Action;
-use calls::{apply_all, batch_step};
+use calls::{batch_step, settle};
 use forms::{Entry, mutations_of};
 use rules::Refusal;
 use store::{AREA, Store};
@@ -31,17 +31,13 @@ fn prewrite_all(
     requires { (AllAsks store.old area.old batch.now entries.now) × (prewrite_terms_step 0 (with_primary terms primary.now) ≡ Accepted) }
     ensures { Settled store.old area.old (all_done (need (ltb store.old.floor terms.start) 14) (prewrite_entry (with_primary terms primary.now)) (apply_prewrite (with_primary terms primary.now)) (map (mutation_of batch.now) entries.now) (box_of store.old area.old)) (record { store = store.new; answer = outcome result }) area.new }
 {
-    let moves = check_all(store, area, terms, primary, batch, entries)?;
-    if !moves {
-        return Ok(());
-    }
+    let judged = check_all(store, area, terms, primary, batch, entries);
     let action = Action::Prewrite {
         txn: terms.txn,
         start: terms.start,
         ttl: terms.ttl,
     };
-    apply_all(store, area, action, primary, batch, entries);
-    Ok(())
+    settle(store, area, judged, action, primary, batch, entries)
 }
 
 // "batch 6, 5; transaction, start 3; primary 1; time to live 3"; 14; "then per entry ascending ..; Then 11."

@@ -4,15 +4,15 @@ ghost use Rattle.forms.specs.Places.{part_of};
 ghost use Rattle.images.specs.Entries.{raw_of};
 ghost use Rattle.images.specs.Sections.{line_at};
 ghost use Rattle.orders.specs.Finds.{rows_at};
+ghost use Rattle.faults.specs.Judged.{kind_said};
 ghost use Rattle.restores.specs.Fills.{WriteAsks, line_from, carrying, Comes, laid, here, AsksIf, ComesIf};
 
 use crate::rows::{RowPlace, find_row};
-use changes::{append_lock, append_record};
+use changes::{append_lock, append_record, lock_slot, record_slot};
 use images::ImageEntry;
 use orders::line_at;
-use rules::Kind;
 use store::table::no_slot;
-use store::{Line, LockSlot, RecordSlot, Slot, pairs_in};
+use store::{Slot, pairs_in};
 
 // A slot, the first byte past its stretch, and the place of the last default that was found.
 #[derive(Clone, Copy)]
@@ -22,27 +22,12 @@ pub struct Filled {
     pub last: usize,
 }
 
-fn fill_slot(at: usize, len: usize, line: Line, top: usize, last: usize) -> Filled
-    requires { (at ≤ 65535) × (len ≤ 255) }
-    ensures { result ≡ record { slot = record { at = at; len = len; used = true; line = line }; top = top; last = last } }
-{
-    Filled {
-        slot: Slot {
-            at: at as u16,
-            len: len as u8,
-            used: true,
-            line,
-        },
-        top,
-        last,
-    }
-}
-
 // "a standing intent with its kind": the entry's key and numbers, its row, its time to live and its primary.
 fn write_lock(area: &mut [u8], top: usize, s: &[u8], e: ImageEntry, found: RowPlace) -> Filled
     requires { WriteAsks s.now true e found area.old top }
     ensures { Comes (carrying (line_from true (raw_of s.now e)) (part_of s.now found.row)) area.old top result.slot result.top area.new }
 {
+    let Some(kind) = e.kind else { unreachable!() };
     let at = pairs_in(top);
     let end = append_lock(
         area,
@@ -54,12 +39,11 @@ fn write_lock(area: &mut [u8], top: usize, s: &[u8], e: ImageEntry, found: RowPl
         e.third,
         e.piece.of(s),
     );
-    let line = Line::Standing(LockSlot {
-        plen: e.piece.len as u8,
-        rowlen: found.row.len as u8,
-        kind: e.kind.unwrap_or(Kind::Rollback),
-    });
-    fill_slot(at, e.key.len, line, end, found.last)
+    Filled {
+        slot: lock_slot(at, e.key.len, e.piece.len, kind, found.row.len),
+        top: end,
+        last: found.last,
+    }
 }
 
 // "a finished record": the entry's key and numbers, and its row.
@@ -67,6 +51,7 @@ fn write_record(area: &mut [u8], top: usize, s: &[u8], e: ImageEntry, found: Row
     requires { WriteAsks s.now false e found area.old top }
     ensures { Comes (carrying (line_from false (raw_of s.now e)) (part_of s.now found.row)) area.old top result.slot result.top area.new }
 {
+    let Some(kind) = e.kind else { unreachable!() };
     let at = pairs_in(top);
     let end = append_record(
         area,
@@ -76,19 +61,19 @@ fn write_record(area: &mut [u8], top: usize, s: &[u8], e: ImageEntry, found: Row
         e.second,
         found.row.of(s),
     );
-    let line = Line::Finished(RecordSlot {
-        rowlen: found.row.len as u8,
-        kind: e.kind.unwrap_or(Kind::Rollback),
-    });
-    fill_slot(at, e.key.len, line, end, found.last)
+    Filled {
+        slot: record_slot(at, e.key.len, kind, found.row.len),
+        top: end,
+        last: found.last,
+    }
 }
 
-// The place of line k of n; none past them.
-pub fn place_at(places: &[u32], n: usize, k: usize) -> Option<u32>
-    requires { n ≤ length places.now }
-    ensures { result ≡ here (ltb k n) (get_or places.now k 0) }
+// The place of line k of so many; none past them.
+pub fn place_at(places: &[u32], count: usize, k: usize) -> Option<u32>
+    requires { count ≤ length places.now }
+    ensures { result ≡ here (ltb k count) (get_or places.now k 0) }
 {
-    if k < n { Some(places[k]) } else { None }
+    if k < count { Some(places[k]) } else { None }
 }
 
 // The line at a place of the image: a lock below the place of the writes, else a write. For no place, the empty slot.
@@ -101,7 +86,7 @@ pub fn put_line(
     place: Option<u32>,
     last: usize,
 ) -> Filled
-    requires { AsksIf place (line_at s.now writes) (rows_at s.now rows.now) area.old top }
+    requires { AsksIf place (line_at s.now writes) (kind_said s.now writes) (rows_at s.now rows.now) area.old top }
     ensures { ComesIf place (line_at s.now writes) (rows_at s.now rows.now) area.old top result.slot result.top area.new }
 {
     match place {

@@ -18,21 +18,28 @@ pub fn restore(store: &mut Store, area: &mut [u8; AREA], image: &[u8]) -> Result
 {
     let mut rows = [0u32; 1024];
     let mut places = [0u32; 1024];
-    let v = verdict(image, &mut rows, &mut places)?;
-    let n = v.load.lines;
-    let d = v.load.defaults;
-    let end = n.max(store.load.lines);
+    let accepted = verdict(image, &mut rows, &mut places)?;
+    let load = accepted.load;
+    let end = load.lines.max(store.load.lines);
     let mut top: usize = 0;
     let mut last: usize = 0;
     for k in 0..end {
-        let place = place_at(&places, n, k);
-        let l = put_line(area, top, image, v.writesat, &rows[..d], place, last);
-        store.lines[k] = l.slot;
-        top = l.top;
-        last = l.last;
+        let place = place_at(&places, load.lines, k);
+        let filled = put_line(
+            area,
+            top,
+            image,
+            accepted.writesat,
+            &rows[..load.defaults],
+            place,
+            last,
+        );
+        store.lines[k] = filled.slot;
+        top = filled.top;
+        last = filled.last;
     }
-    store.load = v.load;
+    store.load = load;
     store.top = top;
-    store.floor = v.floor;
+    store.floor = accepted.floor;
     Ok(())
 }

@@ -23,10 +23,10 @@ pub fn find_row(s: &[u8], rows: &[u32], e: ImageEntry, last: usize) -> RowPlace
             last,
         };
     }
-    let i = row_place(s, rows, e, last);
-    let d = stood_at(s, rows[i], Section::Default);
+    let at = row_place(s, rows, e, last);
+    let found = stood_at(s, rows[at], Section::Default);
     RowPlace {
-        row: d.piece,
-        last: i,
+        row: found.piece,
+        last: at,
     }
 }

@@ -25,10 +25,10 @@ use Rattle.laws.proofs.BatchLaws.{check_all, apply_all}
 use Rattle.laws.proofs.RollbackLaws.{rollback-depends, rollback-only, rollback_keys-all, apply_rollbacks-all, rollbacks-load}
 use Rattle.store.specs.View.{box_of}
 use Rattle.actions.specs.declared.action.Action.TheVariants.{Rollback}
-use Rattle.calls.specs.Passes.{EntryReady, Ready}
+use Rattle.calls.specs.Passes.{EntryReady, Ready, Weighed}
 use Rattle.calls.proofs.AnswerLaws.{terms-split}
 use Rattle.calls.proofs.ApplyAllLaws.{Changes, Applying, applying-passed, ready-all}
-use Rattle.calls.proofs.RoomJudgeLaws.{Weighed, applying-free}
+use Rattle.calls.proofs.RoomJudgeLaws.{applying-free}
 use Rattle.calls.proofs.DoneLaws.{ByEntries}
 use Rattle.rollbacks.specs.Checks.{steps_of}
 

@@ -13,7 +13,7 @@ ghost use Rattle.calls.specs.Passes.{all_done};
 
 use crate::passes::check_all;
 use actions::Action;
-use calls::{apply_all, batch_step, zero_step};
+use calls::{batch_step, settle, zero_step};
 use forms::{Entry, keys_of};
 use rules::Refusal;
 use store::{AREA, Store};
@@ -31,13 +31,9 @@ fn rollback_all(
     requires { (AllAsks store.old area.old batch.now entries.now) × (zero_step txn start ≡ Accepted) }
     ensures { Settled store.old area.old (all_done (need (ltb store.old.floor start) 14) (rollback_key txn start) (apply_rollback start) (map (key_at batch.now) entries.now) (box_of store.old area.old)) (record { store = store.new; answer = outcome result }) area.new }
 {
-    let moves = check_all(store, area, txn, start, batch, entries)?;
-    if !moves {
-        return Ok(());
-    }
+    let judged = check_all(store, area, txn, start, batch, entries);
     let action = Action::Rollback { txn, start };
-    apply_all(store, area, action, &[], batch, entries);
-    Ok(())
+    settle(store, area, judged, action, &[], batch, entries)
 }
 
 // "6, 5; 3"; 14; "per key: ..; Then 11." Transaction and start stay two numbers, as the definitions and the steps of `calls` take them.

@@ -5,9 +5,8 @@ use Prim.Native.Nat.{ℕ, ◌+◌, ◌-◌, ◌≤◌, ◌<◌}
 use native.Mathlib.Omega.{arith}
 use mathlib.Core.Path.{◌≡◌, refl, sym, ◌∙◌, ap, subst}
 use mathlib.Core.Bool.{Bool, true, false, not}
-use mathlib.Core.List.{◌++◌}
 use lib.ListN.{length, take, drop, replicate, length-append, length-drop, length-replicate, replicate-append-replicate}
-use lib.Seq.{take_at, length-take-le}
+use lib.Seq.{take_at}
 use lib.Dec.{leb, eqb}
 use borrow.Author.Tests.{leb-true}
 use Rattle.std.specs.Prelude.{Option as Maybe, None, Some}
@@ -52,16 +51,9 @@ short-in n h = omega arith
 pub long-in : (n : ℕ) → n < 262145 → n ≤ 262144
 long-in n h = omega arith
 
--- a buffer for the longest payload but the image
-pub fits-lent : {buffer : Bytes} (n : ℕ) → buffer ≡ lent 65535 → n < 65536 → n ≤ length buffer
-fits-lent n e h = fits n 65535 e (short-in n h)
-
--- and for the image
+-- a buffer for the longest image
 pub fits-long : (n : ℕ) → n < 262145 → n ≤ length (lent 262144)
 fits-long n h = fits {buffer = lent 262144} n 262144 refl (long-in n h)
-
-pub at_most : {a b : ℕ} → a ≡ b → a ≤ b
-at_most e = omega arith
 
 -- ---- its length
 
@@ -113,40 +105,23 @@ converted-long s buffer = by-image (convertible (old_image s))
 
 -- ---- what was written to the front of a longer buffer, shown
 
-front-shown : (w : Written) (state : State) (n : ℕ) (buffer : Bytes) {done : Wrote} {r : Shown} {out : Bytes} → WroteAs w done out → ShownOf done n r → length w.buffer ≡ n → ShownTold (paging w state) state r (out ++ drop n buffer)
-front-shown w state n buffer {r = r} {out = out} v u e =
-    let long : length out ≡ r.len = ap length v.out_is ∙ e ∙ sym u.len_is in
+pub lent-shown : (w : Bytes → Written) (n most : ℕ) (state : State) {buffer : Bytes} {done : Wrote} {out : Bytes} {r : Shown} → buffer ≡ lent most → n ≤ most → WroteAs (w (take n buffer)) done out → ShownOf done out r → ShownTold (paging (w (lent n)) state) state r
+lent-shown w n most state {done = done} {out = out} e small v u =
+    let i : WroteAs (w (lent n)) done out = subst (λ (x : Bytes). WroteAs (w x) done out) (ap (take n) e ∙ front n most 238 small) v in
     record {
-      told = record {
-        answer_is = u.answer_is ∙ v.answer_is.case_is;
-        count_is = u.count_is ∙ v.count_is;
-        within = omega (arith, length-append out (drop n buffer));
-        payload_is = take_at out (drop n buffer) r.len long ∙ v.out_is;
-      };
+      told = record { answer_is = u.answer_is ∙ i.answer_is.case_is; count_is = u.count_is ∙ i.count_is; payload_is = u.payload_is ∙ i.out_is };
       state_is = refl;
     }
 
--- in a buffer of the call's length
-module _ (w : Bytes → Written) (same-long : (buffer : Bytes) → length (w buffer).buffer ≡ length buffer) (n most : ℕ) (state : State) {buffer : Bytes} {done : Wrote} {out : Bytes} (Lent-is : buffer ≡ lent most) (small : n ≤ most) (v : WroteAs (w (take n buffer)) done out) where
-  pub lent-shown : {r : Shown} → ShownOf done n r → ShownTold (paging (w (lent n)) state) state r (out ++ drop n buffer)
-  lent-shown u =
-      let e : take n buffer ≡ lent n = ap (take n) Lent-is ∙ front n most 238 small in
-      front-shown (w (lent n)) state n buffer (subst (λ (x : Bytes). WroteAs (w x) done out) e v) u (same-long (lent n) ∙ length-replicate {A = ℕ} n 238)
-
-  pub lent-room : length (out ++ drop n buffer) ≡ most
-  lent-room =
-      let l : length buffer ≡ most = ap length Lent-is ∙ length-replicate {A = ℕ} most 238 in
-      let k : length out ≡ n = ap length v.out_is ∙ same-long (take n buffer) ∙ length-take-le n buffer (omega arith) in
-      omega (arith, length-append out (drop n buffer), length-drop n buffer)
-
 -- an image of a table
-module _ (floor t n : ℕ) (b : Box) {buffer : Bytes} {done : Wrote} {out : Bytes} (Lent-is : buffer ≡ lent 262144) (small : n < 262145) (v : WroteAs (capture_image floor t b (take n buffer)) done out) where
-  pub capture-shown : {r : Shown} → ShownOf done n r → ShownTold (told (Call.Capture t) n (record { box = b; floor = floor })) (record { box = b; floor = floor }) r (out ++ drop n buffer)
+module _ (floor t n : ℕ) (b : Box) (small : n < 262145) where
+  pub capture-shown : {buffer : Bytes} {done : Wrote} {out : Bytes} {r : Shown} → buffer ≡ lent 262144 → WroteAs (capture_image floor t b (take n buffer)) done out → ShownOf done out r → ShownTold (told (Call.Capture t) n (record { box = b; floor = floor })) (record { box = b; floor = floor }) r
   unfolding told
-  capture-shown u = lent-shown (capture_image floor t b) (captured-long floor t b) n 262144 (record { box = b; floor = floor }) Lent-is (long-in n small) v u
+  capture-shown e v u = lent-shown (capture_image floor t b) n 262144 (record { box = b; floor = floor }) e (long-in n small) v u
 
-  pub capture-room : length (out ++ drop n buffer) ≡ 262144
-  capture-room = lent-room (capture_image floor t b) (captured-long floor t b) n 262144 (record { box = b; floor = floor }) Lent-is (long-in n small) v
+  pub capture-short : length (told (Call.Capture t) n (record { box = b; floor = floor })).payload ≤ 262144
+  unfolding told
+  capture-short = omega (arith, captured-long floor t b (lent n), length-replicate {A = ℕ} n 238)
 
 -- ---- a page, shown
 
@@ -165,7 +140,7 @@ bounds-in : (a : Args) → bounds_of (asked_by a) ≡ bounds_in a
 bounds-in a = rw (asked-behind a.from, asked-behind a.to, asked-behind a.resume) refl
 
 -- what is told is the front of the longer buffer
-pub page-shown : (w : Bounds → Bytes → Written) (same-long : (x : Bounds) (buffer : Bytes) → length (w x buffer).buffer ≡ length buffer) (a : Args) (state : State) {buffer : Bytes} {done : Wrote} {r : Shown} {out : Bytes}
-    → buffer ≡ lent 65535 → a.buffer < 65536 → WroteAs (w (bounds_of (asked_by a)) (take a.buffer buffer)) done out → ShownOf done a.buffer r → ShownTold (paging (w (bounds_in a) (lent a.buffer)) state) state r (out ++ drop a.buffer buffer)
-page-shown w same-long a state {buffer} {done} {r} {out} Lent-is small v u =
-    lent-shown (w (bounds_in a)) (same-long (bounds_in a)) a.buffer 65535 state Lent-is (short-in a.buffer small) (subst (λ (x : Bounds). WroteAs (w x (take a.buffer buffer)) done out) (bounds-in a) v) u
+pub page-shown : (w : Bounds → Bytes → Written) (a : Args) (state : State) {buffer : Bytes} {done : Wrote} {r : Shown} {out : Bytes}
+    → buffer ≡ lent 65535 → a.buffer < 65536 → WroteAs (w (bounds_of (asked_by a)) (take a.buffer buffer)) done out → ShownOf done out r → ShownTold (paging (w (bounds_in a) (lent a.buffer)) state) state r
+page-shown w a state {buffer} {done} {r} {out} Lent-is small v u =
+    lent-shown (w (bounds_in a)) a.buffer 65535 state Lent-is (short-in a.buffer small) (subst (λ (x : Bounds). WroteAs (w x (take a.buffer buffer)) done out) (bounds-in a) v) u

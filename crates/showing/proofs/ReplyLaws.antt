@@ -8,8 +8,7 @@ use mathlib.Core.Bool.{Bool, true, false, ◌&&◌, not}
 use mathlib.Core.List.{List, [], ◌∷◌}
 use mathlib.Core.Option.{Option, none, some}
 use lib.ListN.{length}
-use lib.Dec.{leb, ltb, eqb}
-use borrow.Author.Tests.{le-leb}
+use lib.Dec.{ltb, eqb}
 use Rattle.seqs.proofs.Tests.{and_right}
 use Rattle.std.specs.Prelude.{None, Some, Ok, Err}
 use Rattle.forms.specs.Bytes.{Bytes}
@@ -28,14 +27,9 @@ use Rattle.rules.specs.Read.{show_if, show_row, Examined, one_record, walk, exam
 use Rattle.rules.specs.Intent.{lock_if, unless_above, judge_lock, intent_at}
 use Rattle.reads.specs.Seen.{RowSeen, LockSeen, shown_lock, seen_in, SeenBelow, SeenAs, pointed_in, PointedBelow, PointedAs}
 use Rattle.reads.specs.Parts.{RowPart, PrimaryPart, row_shown, primary_shown}
-use Rattle.traces.specs.Put as put
 use Rattle.traces.specs.Payloads.{lock_payload, read_payload, intent_payload}
 use Rattle.traces.proofs.FormLaws.{length-lock}
-use Rattle.showing.specs.Told.{Writes}
 use Rattle.showing.specs.Replying.{seen_payload, pointed_payload}
-use Rattle.showing.specs.Shows.{ShownAs}
-use Rattle.showing.specs.declared.shown.Shown.{Shown}
-use Rattle.showing.proofs.TellLaws.{put-shown}
 
 -- ---- how long the payloads are
 
@@ -114,21 +108,6 @@ unfolding intent_at
 intent-short k m b = after-steps LockShort refused-lock _ _ (judge-short m (lock_of k b.lines))
 
 -- ---- a reply, told
-
--- what is put for one case of an answer is shown for the answer
-pub seen-shown : (row : Bytes) (s t : RowSeen) (count : ℕ) {pay pay' : Bytes} {r : Shown} → s ≡ t → outcome r.answer ≡ outcome t → r.count ≡ count → length (seen_payload s row) ≤ length pay → Writes (seen_payload t row) pay r.len pay'
-    → ShownAs (outcome s) count (seen_payload s row) r pay'
-seen-shown row s t count {pay} {pay'} {r} e a c h v =
-    subst (λ (x : RowSeen). length (seen_payload x row) ≤ length pay → ShownAs (outcome x) count (seen_payload x row) r pay') (sym e) (λ g. put-shown a c g v) h
-
-pub pointed-shown : (primary : Bytes) (s t : LockSeen) {pay pay' : Bytes} {r : Shown} → s ≡ t → outcome r.answer ≡ outcome t → r.count ≡ 0 → length (pointed_payload s primary) ≤ length pay → Writes (pointed_payload t primary) pay r.len pay'
-    → ShownAs (outcome s) 0 (pointed_payload s primary) r pay'
-pointed-shown primary s t {pay} {pay'} {r} e a c h v =
-    subst (λ (x : LockSeen). length (pointed_payload x primary) ≤ length pay → ShownAs (outcome x) 0 (pointed_payload x primary) r pay') (sym e) (λ g. put-shown a c g v) h
-
--- a lock whose primary has a length byte
-pub lock-put : (primary : Bytes) {b pay pay' : Bytes} {n : ℕ} → length primary ≤ 255 → put.Put (leb (length primary) 255 && put.room b pay) b pay n pay' → Writes b pay n pay'
-lock-put primary {b} {pay} {pay'} {n} h v = subst (λ (f : Bool). put.Put (f && put.room b pay) b pay n pay') (le-leb (length primary) 255 h) v
 
 module _ {want : Reply Row} {area : Bytes} {s : RowSeen} (v : SeenAs want area s) where
   pub seen-answer : outcome s ≡ answer_of want

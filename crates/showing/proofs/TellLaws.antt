@@ -9,7 +9,6 @@ use lib.Seq.{take_at}
 use borrow.Author.Tests.{le-leb}
 use Rattle.forms.specs.Bytes.{Bytes}
 use Rattle.rules.specs.Answers.{Answer}
-use Rattle.rules.specs.Outcomes.{outcome}
 use Rattle.rules.specs.declared.figures.Stats.{Stats}
 use Rattle.rules.specs.declared.figures.Marks.{Marks}
 use Rattle.traces.specs.Put.{Put}
@@ -34,18 +33,13 @@ module _ {b s : Bytes} {r : ℕ} {t : Bytes} where
       ap (take r) (written h v).is
       ∙ take_at b (drop (length b) s) r (sym (written_count h v))
 
--- and so it is what is shown
-pub put-shown : {a : Answer} {count : ℕ} {b s t : Bytes} {r : Shown} → outcome r.answer ≡ a → r.count ≡ count → length b ≤ length s → Writes b s r.len t → ShownAs a count b r t
-put-shown {b = b} {s = s} e c h v = record {
-  answer_is = e;
-  count_is = c;
-  within = omega (arith, written_count h v, ap length (written h v).is, length-append b (drop (length b) s));
-  payload_is = written-front h v;
-}
+  -- and they stand in the buffer
+  pub written-within : length b ≤ length s → Writes b s r t → r ≤ length t
+  written-within h v = omega (arith, written_count h v, ap length (written h v).is, length-append b (drop (length b) s))
 
 -- the same, said in other words
-pub shown-as : {a a' : Answer} {n n' : ℕ} {p p' : Bytes} {r : Shown} {buffer : Bytes} → a ≡ a' → n ≡ n' → p ≡ p' → ShownAs a n p r buffer → ShownAs a' n' p' r buffer
-shown-as e c f v = record { answer_is = v.answer_is ∙ e; count_is = v.count_is ∙ c; within = v.within; payload_is = v.payload_is ∙ f }
+pub shown-as : {a a' : Answer} {n n' : ℕ} {p p' : Bytes} {r : Shown} → a ≡ a' → n ≡ n' → p ≡ p' → ShownAs a n p r → ShownAs a' n' p' r
+shown-as e c f v = record { answer_is = v.answer_is ∙ e; count_is = v.count_is ∙ c; payload_is = v.payload_is ∙ f }
 
 -- ---- statistics and marks: 15 numbers, and two
 

@@ -1,6 +1,6 @@
--- What a call that shows something tells, as it stands in a lent buffer.
+-- What a call that shows something tells.
 -- Assumes nothing.
-use Rattle.std.specs.Prelude.{ℕ, ◌≤◌, ◌≡◌, length, take}
+use Rattle.std.specs.Prelude.{ℕ, ◌≡◌}
 use Rattle.forms.specs.Bytes.{Bytes}
 use Rattle.rules.specs.Answers.{Answer, Reply, answer_of}
 use Rattle.rules.specs.Outcomes.{outcome, Wrote}
@@ -8,23 +8,20 @@ use Rattle.rules.specs.Calls.{State}
 use Rattle.showing.specs.Told.{Told}
 use Rattle.showing.specs.declared.shown.Shown.{Shown}
 
--- the answer, the count, and the payload as the front of the buffer that was lent for it
-pub record ShownAs (answer : Answer) (count : ℕ) (payload : Bytes) (r : Shown) (buffer : Bytes) : Type 0 where
+-- the answer, the count, and the payload
+pub record ShownAs (answer : Answer) (count : ℕ) (payload : Bytes) (r : Shown) : Type 0 where
   pub answer_is : outcome r.answer ≡ answer
   pub count_is : r.count ≡ count
-  pub within : r.len ≤ length buffer
-  pub payload_is : take r.len buffer ≡ payload
+  pub payload_is : r.payload.now ≡ payload
 
-abbrev pub ShownReply : {A : Type 0} → (Reply A → Bytes) → ℕ → Reply A → Shown → Bytes → Type 0
-ShownReply payload count reply r buffer = ShownAs (answer_of reply) count (payload reply) r buffer
+abbrev pub ShownReply : {A : Type 0} → (Reply A → Bytes) → ℕ → Reply A → Shown → Type 0
+ShownReply payload count reply r = ShownAs (answer_of reply) count (payload reply) r
 
 -- all that is told, of a state that stays as it is
-pub record ShownTold (t : Told) (state : State) (r : Shown) (buffer : Bytes) : Type 0 where
-  pub told : ShownAs t.answer t.count t.payload r buffer
+pub record ShownTold (t : Told) (state : State) (r : Shown) : Type 0 where
+  pub told : ShownAs t.answer t.count t.payload r
   pub state_is : state ≡ t.state
 
--- what a writing call gave, and so many bytes of its buffer
-pub record ShownOf (w : Wrote) (len : ℕ) (r : Shown) : Type 0 where
-  pub answer_is : outcome r.answer ≡ w.answer
-  pub count_is : r.count ≡ w.count
-  pub len_is : r.len ≡ len
+-- what a writing call gave, and its buffer
+abbrev pub ShownOf : Wrote → Bytes → Shown → Type 0
+ShownOf w buffer r = ShownAs w.answer w.count buffer r

@@ -18,7 +18,8 @@ pub fn run_capture(
     requires { CaptureAsks store.now area.now len out.old }
     ensures { RanAs (told (Call.Capture table) len (state_shown store.now area.now)) out.old (record { store = store.now; len = result }) area.now out.new }
 {
-    let mut image = [0xEEu8; 262144];
-    let done = captures::capture_snapshot_table(store, area, table, &mut image[..len]);
-    written(done, len).tell(&image, out)
+    let mut longest = [0xEEu8; 262144];
+    let image = &mut longest[..len];
+    let done = captures::capture_snapshot_table(store, area, table, image);
+    written(done, image).tell(out)
 }

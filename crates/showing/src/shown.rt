@@ -1,44 +1,42 @@
-// What a call tells: an answer with its payload, which is the front of a lent buffer.
-ghost use Rattle.std.specs.Prelude.{◌≤◌, length, take};
+// What a call tells: an answer with its count and its payload.
 ghost use Rattle.rules.specs.Outcomes.{outcome, wrote};
 ghost use Rattle.traces.specs.Answers.{answer_bytes};
 ghost use Rattle.showing.specs.Told.{Writes};
-ghost use Rattle.showing.specs.Shows.{ShownOf};
+ghost use Rattle.showing.specs.Shows.{ShownAs, ShownOf};
 
 use rules::Refusal;
 
-// The answer, its count, and how many bytes its payload has.
+// The payload is the front of a buffer that was lent for it.
 #[derive(Clone, Copy)]
-pub struct Shown {
+pub struct Shown<'a> {
     pub answer: Result<(), Refusal>,
     pub count: u64,
-    pub len: usize,
+    pub payload: &'a [u8],
 }
 
 // "A writing call also gives the bytes written"; its payload is the whole lent buffer, refused or not.
-pub fn written(done: Result<usize, Refusal>, len: usize) -> Shown
-    ensures { ShownOf (wrote done) len result }
+pub fn written(done: Result<usize, Refusal>, buffer: &[u8]) -> Shown<'_>
+    ensures { ShownOf (wrote done) buffer.now result }
 {
-    match done {
-        Ok(count) => Shown {
-            answer: Ok(()),
-            count: count as u64,
-            len,
-        },
-        Err(why) => Shown {
-            answer: Err(why),
-            count: 0,
-            len,
-        },
-    }
+    Shown::of(done, done.unwrap_or(0), buffer)
 }
 
-impl Shown {
-    // Writes the answer over the front of the buffer `out`, if it fits there, and says how many bytes it has.
-    pub fn tell(self, buffer: &[u8], out: &mut [u8]) -> usize
-        requires { self.len ≤ length buffer.now }
-        ensures { Writes (answer_bytes (outcome self.answer) self.count (take self.len buffer.now)) out.old result out.new }
+impl<'a> Shown<'a> {
+    // Of a call's result only the answer is told; what it shows is in the payload.
+    pub(crate) fn of<T: Copy>(done: Result<T, Refusal>, count: usize, payload: &'a [u8]) -> Self
+        ensures { ShownAs (outcome done) count payload.now result }
     {
-        traces::put_answer(out, self.answer, self.count, &buffer[..self.len])
+        Shown {
+            answer: done.map(|_| ()),
+            count: count as u64,
+            payload,
+        }
+    }
+
+    // Writes the answer over the front of the buffer `out`, if it fits there, and says how many bytes it has.
+    pub fn tell(self, out: &mut [u8]) -> usize
+        ensures { Writes (answer_bytes (outcome self.entry.answer) self.entry.count self.entry.payload.now) out.old result out.new }
+    {
+        traces::put_answer(out, self.answer, self.count, self.payload)
     }
 }

@@ -15,9 +15,15 @@ use traces::{Args, ShowOp};
 
 // The payload of the call that the arguments say. A page's lent buffer is the front of `payload`, and what is told is "the whole lent buffer as it
 // stands after the call, refused or not".
-fn show(store: &Store, area: &[u8; AREA], args: &Args, op: ShowOp, payload: &mut [u8]) -> Shown
+fn show<'a>(
+    store: &Store,
+    area: &[u8; AREA],
+    args: &Args,
+    op: ShowOp,
+    payload: &'a mut [u8],
+) -> Shown<'a>
     requires { ShowAsks store.now area.now args.now payload.old }
-    ensures { ShownTold (told (call_as (Op.Shows op) args.now) args.now.buffer (state_shown store.now area.now)) (state_shown store.now area.now) result payload.new }
+    ensures { ShownTold (told (call_as (Op.Shows op) args.now) args.now.buffer (state_shown store.now area.now)) (state_shown store.now area.now) result }
 {
     let (a, b, c) = (args.first, args.second, args.third);
     let bounds = Bounds {
@@ -28,18 +34,21 @@ fn show(store: &Store, area: &[u8; AREA], args: &Args, op: ShowOp, payload: &mut
     let n = args.buffer;
     match op {
         ShowOp::Read => show_read(store, area, args.key, a, payload),
-        ShowOp::Page => written(
-            scan_page(store, area, a, b, c, bounds, &mut payload[..n]),
-            n,
-        ),
-        ShowOp::IntentPage => written(
-            scan_intent_page(store, area, a, bounds, &mut payload[..n]),
-            n,
-        ),
-        ShowOp::ConflictingIntents => written(
-            scan_conflicting_intents(store, area, a, b, c, bounds, &mut payload[..n]),
-            n,
-        ),
+        ShowOp::Page => {
+            let page = &mut payload[..n];
+            let done = scan_page(store, area, a, b, c, bounds, page);
+            written(done, page)
+        }
+        ShowOp::IntentPage => {
+            let page = &mut payload[..n];
+            let done = scan_intent_page(store, area, a, bounds, page);
+            written(done, page)
+        }
+        ShowOp::ConflictingIntents => {
+            let page = &mut payload[..n];
+            let done = scan_conflicting_intents(store, area, a, b, c, bounds, page);
+            written(done, page)
+        }
         ShowOp::OneIntent => show_lock(store, area, args.key, a, payload),
         ShowOp::Statistics => show_stats(store, area, payload),
         ShowOp::Marks => show_marks(store, area, payload),
@@ -52,5 +61,5 @@ pub fn run_shown(store: &Store, area: &[u8; AREA], args: &Args, op: ShowOp, out:
     ensures { RanAs (told (call_as (Op.Shows op) args.now) args.now.buffer (state_shown store.now area.now)) out.old (record { store = store.now; len = result }) area.now out.new }
 {
     let mut payload = [0xEEu8; 65535];
-    show(store, area, args, op, &mut payload).tell(&payload, out)
+    show(store, area, args, op, &mut payload).tell(out)
 }

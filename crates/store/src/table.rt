@@ -38,6 +38,7 @@ pub enum Line {
 pub struct Slot {
     pub at: u16,
     pub len: u8,
+    // "each with key place, used flag and line enum": document 01 names the flag beside the line
     pub used: bool,
     pub line: Line,
 }

@@ -44,10 +44,6 @@ pub hands_on : {A B : Type 0} {view : B → A} {s : Bytes} (x : B) → Takes (ju
 unfolding just
 hands_on x = record { is = refl }
 
--- the code's value stands for another of the code's, and both say the same
-pub seen_as : {A B D : Type 0} {r : Reader A} {view : B → A} {s left : Bytes} {x : B} {see : D → A} {y : D} → view x ≡ see y → Takes r view s (Some x) left → Takes r see s (Some y) left
-seen_as {left = left} e v = record { is = v.is ∙ ap (λ a. some (record { got = a; rest = left })) e }
-
 -- ---- an argument that a call has or has not
 
 module _ {A B : Type 0} (r : Reader A) {view : B → A} {wanted : Bool} {s : Bytes} where
@@ -60,14 +56,6 @@ module _ {A B : Type 0} (r : Reader A) {view : B → A} {wanted : Bool} {s : Byt
 
 -- ---- the end of the bytes
 
-pub passes_all : {A B : Type 0} (r : Reader A) {view : B → A} {wanted : Bool} {s : Bytes} (x : B) → wanted ≡ false → length s ≡ 0 → Ends (given wanted r (view x)) view s (Some x)
-unfolding whole ended just
-passes_all r {view} {s = s} x h e = record { is = ap (λ (w : Bool). whole (given w r (view x)) s) h ∙ go s e }
-  where
-    go : (s : Bytes) → length s ≡ 0 → whole (just (view x)) s ≡ some (view x)
-    go [] e = refl
-    go (y ∷ s) e = absurd (omega arith)
-
 pub left-over : {A B : Type 0} (r : Reader A) (y : A) {view : B → A} {wanted : Bool} {s : Bytes} → wanted ≡ false → 0 < length s → Ends (given wanted r y) view s None
 unfolding whole ended just
 left-over r y {s = s} h l = record { is = ap (λ (w : Bool). whole (given w r y) s) h ∙ go s l }
@@ -79,6 +67,14 @@ left-over r y {s = s} h l = record { is = ap (λ (w : Bool). whole (given w r y)
 pub takes-rest : {wanted : Bool} {s : Bytes} (t : Bor Bytes) → wanted ≡ true → t.now ≡ s → Ends (given wanted remaining []) behind s (Some t)
 unfolding whole ended remaining
 takes-rest {s = s} t h e = record { is = ap (λ (w : Bool). whole (given w remaining []) s) h ∙ ap some (sym e) }
+
+pub takes-nothing : {wanted : Bool} {s : Bytes} (t : Bor Bytes) → wanted ≡ false → length s ≡ 0 → t.now ≡ s → Ends (given wanted remaining []) behind s (Some t)
+unfolding whole ended just
+takes-nothing {s = s} t h l e = record { is = ap (λ (w : Bool). whole (given w remaining []) s) h ∙ go s l ∙ ap some (sym e) }
+  where
+    go : (s : Bytes) → length s ≡ 0 → whole (just []) s ≡ some s
+    go [] l = refl
+    go (y ∷ s) l = absurd (omega arith)
 
 -- ---- the last reader, whose value goes into what is said
 

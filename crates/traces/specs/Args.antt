@@ -19,7 +19,7 @@ use Rattle.traces.specs.declared.args.Args.{Args}
 use Rattle.traces.specs.Ops.{is_long}
 use Rattle.traces.specs.Arguments.{number, kind, text, bound, remaining}
 use Rattle.traces.specs.Calls.{TraceCall, lending, one_entry}
-use Rattle.traces.specs.Taken.{given, first_width, buffer_by, kind_of, key_behind}
+use Rattle.traces.specs.Taken.{given, first_width, buffer_by, key_behind}
 
 -- a call from its arguments, of which each takes its own
 abbrev pub call_by : Op → (first second third : ℕ) → Kind → (primary key row : Bytes) → (from to resume : Option Key) → (rest : Bytes) → Call
@@ -65,7 +65,7 @@ shaped w = do
 
 abbrev pub call_as : Op → Args → Call
 call_as op a =
-    call_by op a.first a.second a.third (kind_of a.put) a.primary.now a.key.now a.row.now
+    call_by op a.first a.second a.third a.kind a.primary.now a.key.now a.row.now
     (key_behind a.from) (key_behind a.to) (key_behind a.resume) a.rest.now
 
 abbrev pub call_of : Args → TraceCall

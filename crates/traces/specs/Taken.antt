@@ -6,8 +6,6 @@ use Rattle.std.proofs.Math.Option.{Option, none, some}
 use Rattle.forms.specs.Bytes.{Bytes}
 use Rattle.forms.specs.Readers.{Read, Reader, just, whole}
 use Rattle.forms.specs.Key.{Key}
-use Rattle.rules.specs.declared.records.Kind.{Kind}
-use Rattle.rules.specs.declared.records.Kind.TheVariants.{Put, Delete}
 use Rattle.traces.specs.Arguments.{buffer, long_buffer}
 
 -- an option of the code, as the definitions have it
@@ -43,10 +41,6 @@ behind t = t.now
 abbrev pub key_behind : Maybe (Bor Bytes) → Option Key
 key_behind None = none
 key_behind (Some k) = some k.now
-
-abbrev pub kind_of : Bool → Kind
-kind_of true = Put
-kind_of false = Delete
 
 -- ---- an argument that a call has or has not
 

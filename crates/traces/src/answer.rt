@@ -7,7 +7,7 @@ ghost use Rattle.traces.specs.Answers.{HeadOf, answer_bytes};
 use forms::{Width, put_byte, put_bytes, put_digits};
 use rules::Refusal;
 
-// The number of an answer and its holder, zeros where it has none.
+// The number of an answer and its holder, as docs/TRACE.md writes them: zeros where it has none.
 #[derive(Clone, Copy, Default)]
 pub struct Head {
     pub number: u8,

@@ -4,15 +4,16 @@ ghost use Rattle.traces.specs.Ops.{is_long};
 ghost use Rattle.traces.specs.Taken.{first_width, buffer_below};
 
 use crate::op::Op;
+use rules::Kind;
 
-// An argument that the call has not is 0, or absent, or no bytes; the table of an image is the first number.
+// An argument that the call has not is 0, or a Delete, or absent, or no bytes; the table of an image is the first number.
 #[derive(Clone, Copy)]
 pub struct Args<'a> {
     pub op: Op,
     pub first: u64,
     pub second: u64,
     pub third: u64,
-    pub put: bool,
+    pub kind: Kind,
     pub primary: &'a [u8],
     pub key: &'a [u8],
     pub row: &'a [u8],

@@ -1,16 +1,17 @@
 // The arguments of a call, each read off the front of its bytes. A call has or has not an argument: one that it has not is passed over, and its
-// value is 0, or absent, or no bytes.
+// value is 0, or a Delete, or absent, or no bytes.
 ghost use Rattle.std.specs.Prelude.{◌<◌, ◌^◌, [], IfSome};
 ghost use Rattle.std.proofs.Math.Option.{none};
 ghost use Rattle.forms.specs.Numbers.{number_of, width_of};
 ghost use Rattle.rules.specs.declared.records.Kind.TheVariants.{Delete};
 ghost use Rattle.traces.specs.Arguments.{kind, text, bound, remaining};
 ghost use Rattle.traces.specs.Ops.{is_long};
-ghost use Rattle.traces.specs.Taken.{Takes, Ends, behind, key_behind, kind_of, given, first_width, buffer_by, buffer_below};
+ghost use Rattle.traces.specs.Taken.{Takes, Ends, behind, key_behind, given, first_width, buffer_by, buffer_below};
 
 use crate::op::{Op, is_long};
 use crate::reader::Reader;
 use forms::Width;
+use rules::Kind;
 
 // "a 4-byte length, at most 262,144"
 const LONG: u64 = 262144;
@@ -35,15 +36,15 @@ impl<'a> Reader<'a> {
     }
 
     // "1 Put, 2 Delete"
-    pub(crate) fn kind_if(&mut self, wanted: bool) -> Option<bool>
-        ensures { Takes (given wanted kind Delete) kind_of self.old.left.now result self.new.left.now }
+    pub(crate) fn kind_if(&mut self, wanted: bool) -> Option<Kind>
+        ensures { Takes (given wanted kind Delete) (λ k. k) self.old.left.now result self.new.left.now }
     {
         if !wanted {
-            return Some(false);
+            return Some(Kind::Delete);
         }
         match self.byte()? {
-            1 => Some(true),
-            2 => Some(false),
+            1 => Some(Kind::Put),
+            2 => Some(Kind::Delete),
             _ => None,
         }
     }
@@ -97,11 +98,8 @@ impl<'a> Reader<'a> {
     pub(crate) fn rest_if(self, wanted: bool) -> Option<&'a [u8]>
         ensures { Ends (given wanted remaining []) behind self.entry.left.now result }
     {
-        if wanted {
-            return Some(self.left);
-        }
-        if self.left.is_empty() {
-            Some(&[])
+        if wanted || self.left.is_empty() {
+            Some(self.left)
         } else {
             None
         }

@@ -18,7 +18,7 @@ fn args_for<'a>(bytes: &'a [u8], shape: Shape) -> Option<Args<'a>>
     let first = reader.first_if(0 < shape.numbers, op)?;
     let second = reader.number_if(1 < shape.numbers, Width::Eight)?;
     let third = reader.number_if(2 < shape.numbers, Width::Eight)?;
-    let put = reader.kind_if(shape.kind)?;
+    let kind = reader.kind_if(shape.kind)?;
     let primary = reader.text_if(shape.primary)?;
     let key = reader.text_if(shape.key)?;
     let row = reader.text_if(shape.row)?;
@@ -32,7 +32,7 @@ fn args_for<'a>(bytes: &'a [u8], shape: Shape) -> Option<Args<'a>>
         first,
         second,
         third,
-        put,
+        kind,
         primary,
         key,
         row,

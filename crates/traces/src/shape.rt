@@ -5,6 +5,7 @@ ghost use Rattle.traces.specs.Shapes.{shape_of, with_key, with_numbers, with_row
 
 use crate::op::{AskOp, ChangeOp, Op, ShowOp};
 
+// Each argument is there or not by itself, so each has its flag; `args_for` reads them in one order.
 #[derive(Clone, Copy)]
 pub struct Shape {
     pub op: Op,

@@ -6,7 +6,8 @@ use crate::asked::{PageQuery, Scan};
 use rules::{Kind, Refusal};
 use store::{LineView, Slot};
 
-// Whether the key's lock lets a read pass, and the line that the page would list for the key, if any.
+// Whether the key's lock lets a read pass, and the line that the page would list for the key, if any. No `Result` of the line, since the definition keeps
+// the line beside a refusal.
 #[derive(Clone, Copy)]
 pub struct Due {
     pub lets: Result<(), Refusal>,
@@ -22,7 +23,8 @@ pub fn no_due() -> Due
     }
 }
 
-// "keys of locks only", and of those in the way of a read, "skipped if it starts above the moment".
+// "keys of locks only", and of those in the way of a read, "skipped if it starts above the moment". The flag
+// is the definition's: both pages are one step.
 fn see_lock(every: bool, moment: u64, s: Slot, line: LineView) -> Due
     ensures { due_in result ≡ see_lock every moment s line }
 {

@@ -1,5 +1,5 @@
-// What each line of the table says to a page, and what the page does with it: the judging walk (`walks`) takes the lines in turn. The two are apart
-// for the gate's time, since a must-fail edit repeats the check of its whole crate.
+// What each line of the table says to a page, and what the page does with it: the judging walk (`walks`) takes the lines in turn. The two were
+// set apart for the check's time with the older kit (docs/ARCHITECTURE.md, 'The crates').
 #![tactic(auto)]
 
 pub mod asked;

@@ -2,7 +2,7 @@
 -- Assumes nothing.
 use Prim.Native.Nat.{ℕ, ◌+◌, ◌≤◌}
 use native.Mathlib.Omega.{arith}
-use mathlib.Core.Path.{◌≡◌, refl, sym, ◌∙◌, ap}
+use mathlib.Core.Path.{◌≡◌, refl, sym, ◌∙◌, ap, subst}
 use mathlib.Core.Bool.{Bool, true, false, not, ◌&&◌, true≢false, false≢true}
 use mathlib.Core.List.{List, ◌++◌, map}
 use mathlib.Core.Option.{Option, none, some}
@@ -17,13 +17,14 @@ use Rattle.rules.specs.Room.{fits, Fits, load_of, room_for}
 use Rattle.rules.specs.Image.{Image, image}
 use Rattle.rules.specs.Restore.{good_image, healthy_image, floored_image, box_of, state_of, restore_steps, restore_to, restore}
 use Rattle.rules.proofs.RoomLaws.{fits_out}
+use Rattle.seqs.specs.Tables.{All}
 use Rattle.seqs.proofs.Tests.{and_both}
 use Rattle.laws.proofs.SettleLaws.{settle_state-answer}
 use Rattle.laws.proofs.StepLaws.{need-true}
 use Rattle.images.specs.declared.sections.Sections.{Sections}
 use Rattle.images.specs.Sections.{row_at, line_at}
 use Rattle.images.proofs.TestLaws.{holds}
-use Rattle.faults.specs.Judged.{is_sound, load_from}
+use Rattle.faults.specs.Judged.{is_sound, load_from, KindSaid}
 use Rattle.verdicts.specs.Verdicts.{DecideAsk, Accepts}
 
 -- ---- restore's answer
@@ -102,4 +103,5 @@ module _ {s : Bytes} {i : Sections} {ds ps rows lines : List ℕ} (v : DecideAsk
             rows_are = ap (map (row_at s)) (copied i.defaults ds rows x v.judged.few_rows p) ∙ g.rows_are;
             lines_are = ap (map (line_at s i.writesat)) (copied all ps lines y v.judged.few_lines q) ∙ g.lines_are;
           };
+          said = subst (All (KindSaid s i.writesat)) (sym (copied all ps lines y v.judged.few_lines q)) g.said;
         }

@@ -1,6 +1,7 @@
 -- What restore decides from the bytes of an image alone, and of an image that it accepts its entries in the order of the box.
 -- Assumes nothing.
-use Rattle.std.specs.Prelude.{◌≡◌, List, ℕ, ◌+◌, ◌≤◌, length, Result, Ok, Err}
+use Rattle.std.specs.Prelude.{◌≡◌, List, ℕ, ◌+◌, ◌≤◌, length, take, Result, Ok, Err}
+use Rattle.seqs.specs.Tables.{All}
 use Rattle.forms.specs.Bytes.{Bytes}
 use Rattle.rules.specs.declared.answers.Refusal.{Refusal}
 use Rattle.rules.specs.Answers.{Accepted}
@@ -9,7 +10,7 @@ use Rattle.rules.specs.Calls.{State}
 use Rattle.rules.specs.Restore.{restore}
 use Rattle.images.specs.declared.sections.Sections.{Sections}
 use Rattle.images.specs.Sections.{Enough, Placed}
-use Rattle.faults.specs.Judged.{Sound}
+use Rattle.faults.specs.Judged.{KindSaid, Sound}
 use Rattle.verdicts.specs.declared.outcome.ImageVerdict.{ImageVerdict}
 
 -- room for the places of a box that is full
@@ -28,10 +29,11 @@ pub record DecideAsk (s : Bytes) (i : Sections) (ds ps rows lines : List ℕ) : 
   pub judged : Sound s i ds ps
   pub wide : Wide rows lines
 
--- an image that restore accepts, whatever it replaces; the two lists have the places of its box
+-- an image that restore accepts, whatever it replaces; the two lists have the places of its box, whose lines say their kinds
 pub record Accepts (s : Bytes) (v : ImageVerdict) (rows lines : List ℕ) : Type 0 where
   pub answer_is : (st : State) → (restore s st).answer ≡ Accepted
   pub placed : Placed s v.load v.floor v.writesat rows lines
+  pub said : All (KindSaid s v.writesat) (take v.load.lines lines)
 
 -- the answer is restore's, whatever the image replaces
 abbrev pub Decided : Bytes → Result ImageVerdict Refusal → List ℕ → List ℕ → Type 0

@@ -10,32 +10,31 @@ use rules::{Load, Refusal, load_fits};
 // The verdict on an image s that was judged; of an accepted one the places of its defaults and of its lines, in order.
 fn decide(
     s: &[u8],
-    i: Sections,
-    ds: &[u32],
-    ps: &[u32],
+    found: Sections,
+    defaults: &[u32],
+    sorted: &[u32],
     rows: &mut [u32],
     lines: &mut [u32],
 ) -> Result<ImageVerdict, Refusal>
-    requires { DecideAsk s.now i ds.now ps.now rows.old lines.old }
+    requires { DecideAsk s.now found defaults.now sorted.now rows.old lines.old }
     ensures { Decided s.now result rows.new lines.new }
 {
-    let d = i.defaults;
-    let n = i.locks + i.writes;
+    let count = found.locks + found.writes;
     let load = Load {
-        lines: n,
-        locks: i.locks,
-        defaults: d,
-        bytes: i.bytes,
+        lines: count,
+        locks: found.locks,
+        defaults: found.defaults,
+        bytes: found.bytes,
     };
     if !load_fits(load) {
         return Err(Refusal::NoRoom);
     }
-    rows[..d].copy_from_slice(&ds[..d]);
-    lines[..n].copy_from_slice(&ps[..n]);
+    rows[..found.defaults].copy_from_slice(&defaults[..found.defaults]);
+    lines[..count].copy_from_slice(&sorted[..count]);
     Ok(ImageVerdict {
         load,
-        floor: i.floor,
-        writesat: i.writesat,
+        floor: found.floor,
+        writesat: found.writesat,
     })
 }
 
@@ -48,13 +47,20 @@ fn verdict_in<const N: usize, const M: usize>(
     requires { PlacesFor s.now N M rows.old lines.old }
     ensures { Decided s.now result rows.new lines.new }
 {
-    let mut ds = [0u32; N];
-    let mut ls = [0u32; N];
-    let mut ws = [0u32; N];
-    let mut ps = [0u32; M];
+    let mut defaults = [0u32; N];
+    let mut locks = [0u32; N];
+    let mut writes = [0u32; N];
+    let mut sorted = [0u32; M];
     let mut room = [0u32; M];
-    match judge(s, &mut ds, &mut ls, &mut ws, &mut ps, &mut room) {
-        Some(i) => decide(s, i, &ds, &ps, rows, lines),
+    match judge(
+        s,
+        &mut defaults,
+        &mut locks,
+        &mut writes,
+        &mut sorted,
+        &mut room,
+    ) {
+        Some(found) => decide(s, found, &defaults, &sorted, rows, lines),
         None => Err(Refusal::BadImage),
     }
 }

@@ -45,6 +45,7 @@ pub(crate) fn walk_lines(
     requires { WalkAsks store.now area.now asked.now }
     ensures { WalkedAs area.now (walk_from asked.now (bounds_of bounds.now) (box_of store.now area.now) (box_of store.now area.now).lines 0 0) (walked_in result) }
 {
+    // Count and sum stand beside the slots: a struct of the three would be 8 KB by value in each step.
     let mut found = [store::table::no_slot(); 1024];
     let mut due = no_due();
     let mut count: usize = 0;

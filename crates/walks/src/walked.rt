@@ -1,4 +1,5 @@
-// What the judging walk leaves: the answer, and the lines that the page is to hold. specs/Walked.antt gives the page that they show.
+// What the judging walk leaves of a page that it does not refuse: the lines that the page is to hold. specs/Walked.antt gives the page that they
+// show.
 ghost use Rattle.std.specs.Prelude.{◌≡◌, ◌≤◌, take};
 ghost use Rattle.rules.specs.Answers.{Accepted};
 ghost use Rattle.walks.specs.Walked.{lines_in, empty_of};
@@ -6,8 +7,8 @@ ghost use Rattle.walks.specs.Walked.{lines_in, empty_of};
 use store::Slot;
 
 // "At most 1,024 lines": so many has a page at most. A record stands for its key and row, an intent for its key and lock. Slots from the count
-// on say nothing. `size` is how many bytes the page has. It is an array beside its count, as a vector of fixed capacity is within: such a vector
-// would fill its places with a default slot, as here, and whoever reads the lines sees a slice (`listed`).
+// on say nothing. `size` is how many bytes the page has. The array stands beside its count and is no `ArrayVec`: that one would have to be filled
+// with a default slot too, and whoever reads the lines gets a slice anyway (`listed`).
 #[derive(Clone, Copy)]
 pub struct Walked {
     pub more: bool,

@@ -1,7 +1,7 @@
 use Rattle.std.proofs.Common.{arith, lit≤, false}
 use Rattle.store.proofs.BuiltLaws.{slot-in}
 use Rattle.collects.proofs.WalkLaws.{walk_start, walk-asks, walk_more}
-use Rattle.collects.proofs.CollectedLaws.{packing-start, packing-goes, packing-stays, collect-low, collect-held, freed-within, collect-done}
+use Rattle.collects.proofs.CollectedLaws.{packing-start, packing-goes, packing-stays, collect-low, held_low, collect-held, freed-within, collect-done}
 use lib.ListN.{length-replicate}
 use Rattle.collects.proofs.collecting.collect.Goals as goal
 use Rattle.collects.proofs.collecting.collect.Goals.{then-kept-i, else-kept-i}
@@ -19,10 +19,10 @@ pub loop-i-preserved : goal.loop-i-preserved
 loop-i-preserved c = walk_more c.requires.built c.args.floor c.loop-i.invariant c.loop-i-test.true c.pass_line-p.ensures
 
 pub line_step-requires : goal.line_step-requires
-line_step-requires c = slot-in c.requires.built _ c.if-p-n.true
+line_step-requires c = slot-in c.requires.built _ (held_low c.requires c.args.floor c.if-floor-store.false c.loop-i.invariant c.loop-i-test.false c.in-Some.is)
 
-pub returns-then-p-n : goal.returns-then-p-n
-returns-then-p-n c = collect-held c.requires c.args.floor c.if-floor-store.false c.loop-i.invariant c.loop-i-test.false c.if-p-n.true c.line_step.ensures
+pub returns-in-Some : goal.returns-in-Some
+returns-in-Some c = collect-held c.requires c.args.floor c.if-floor-store.false c.loop-i.invariant c.loop-i-test.false c.in-Some.is c.line_step.ensures
 
 pub loop-i-2-init : goal.loop-i-2-init
 loop-i-2-init c = packing-start (lit≤ tt)
@@ -46,5 +46,8 @@ loop-i-2-preserved c =
 pub less-store-requires : goal.less-store-requires
 less-store-requires c = freed-within c.requires c.args.floor c.if-floor-store.false c.loop-i.invariant c.loop-i-test.false
 
+pub bounds-store-first : goal.bounds-store-first
+bounds-store-first c = omega (arith, held_low c.requires c.args.floor c.if-floor-store.false c.loop-i.invariant c.loop-i-test.false c.in-Some.is, c.requires.built.lines.count_fits)
+
 pub returns : goal.returns
-returns c = collect-done c.requires c.args.floor c.if-floor-store.false c.loop-i.invariant c.loop-i-test.false c.if-p-n.false c.loop-i-2.invariant c.loop-i-2-test.false c.less-store.ensures
+returns c = collect-done c.requires c.args.floor c.if-floor-store.false c.loop-i.invariant c.loop-i-test.false c.in_default.is c.loop-i-2.invariant c.loop-i-2-test.false c.less-store.ensures

@@ -11,5 +11,5 @@ use Rattle.converts.proofs.puts.puts_have.Goals as goal
 
 pub returns : goal.returns
 returns c =
-    all_from_yields_List (λ p. has_default (rows_at c.args.s.now c.args.ds.now) (write_at c.args.s.now p)) _ _ _ c.all.ensures.ran (YieldsList-from_slice c.args.ws.now cc) (λ x b q k. search (rules, tests))
-    ∙ all-each (has_default (rows_at c.args.s.now c.args.ds.now)) (write_at c.args.s.now) c.args.ws.now
+    all_from_yields_List (λ p. has_default (rows_at c.args.s.now c.args.defaults.now) (write_at c.args.s.now p)) _ _ _ c.all.ensures.ran (YieldsList-from_slice c.args.writes.now cc) (λ x b q k. search (rules, tests))
+    ∙ all-each (has_default (rows_at c.args.s.now c.args.defaults.now)) (write_at c.args.s.now) c.args.writes.now

@@ -4,4 +4,4 @@ use Rattle.converts.proofs.OldImageLaws.{told}
 use Rattle.converts.proofs.puts.write_has.Goals as goal
 
 pub returns : goal.returns
-returns c = told c.args.ds.now c.stood_at-e.ensures c.entry_has.ensures
+returns c = told c.args.defaults.now c.stood_at-e.ensures c.entry_has.ensures

@@ -5,8 +5,8 @@ use mathlib.Core.Path.{refl}
 use Rattle.converts.proofs.GrownLaws.{laid-row}
 use Rattle.converts.proofs.rows.put_row.Goals as goal
 
-pub overflow_cast-n : goal.overflow_cast-n
-overflow_cast-n c = omega (arith, c.requires.short)
+pub overflow_cast-len : goal.overflow_cast-len
+overflow_cast-len c = omega (arith, c.requires.short)
 
 pub put_byte-a-requires : goal.put_byte-a-requires
 put_byte-a-requires c = omega (arith, c.requires.room)

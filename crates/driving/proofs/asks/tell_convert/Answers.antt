@@ -3,21 +3,12 @@
 use lib.Seq.{length-take-le}
 use Rattle.showing.specs.Told.{lent}
 use Rattle.showing.proofs.PagingLaws.{fits-long}
-use Rattle.driving.proofs.AskLaws.{convert-room, convert-within, convert-told}
+use Rattle.driving.proofs.AskLaws.{convert-told}
 use mathlib.Core.Path.{refl, sym}
 use Rattle.driving.proofs.asks.tell_convert.Goals as goal
 
-pub slice_bounds-convert_image-end : goal.slice_bounds-convert_image-end
-slice_bounds-convert_image-end c = sym (length-take-le _ (lent 262144) (fits-long _ c.requires))
-
-pub slice_bounds-tell-end : goal.slice_bounds-tell-end
-slice_bounds-tell-end c = sym (convert-room c.args.image.now c.args.len {buffer = lent 262144} refl c.requires c.convert_image-done.ensures.wrote)
-
-pub tell-requires : goal.tell-requires
-tell-requires c = convert-within c.args.image.now c.args.len {buffer = lent 262144} refl c.requires c.convert_image-done.ensures.wrote c.written.ensures
+pub slice_bounds-converted-end : goal.slice_bounds-converted-end
+slice_bounds-converted-end c = sym (length-take-le _ (lent 262144) (fits-long _ c.requires))
 
 pub returns : goal.returns
 returns c = convert-told c.args.image.now c.args.len {buffer = lent 262144} refl c.requires c.convert_image-done.ensures.wrote c.written.ensures c.tell.ensures
-
-pub slice_bounds-lent-end : goal.slice_bounds-lent-end
-slice_bounds-lent-end c = fits-long _ c.requires

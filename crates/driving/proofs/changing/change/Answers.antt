@@ -1,14 +1,17 @@
 -- `driving::changing::change` meets its contract: `by-change` for each op that changes the store, by the promise of its call.
 -- Assumes nothing.
+use mathlib.Core.Path.{◌∙◌}
+use Rattle.rules.specs.declared.records.Kind.TheVariants.{Put}
 use Rattle.rules.specs.Commit.{commit}
 use Rattle.rules.specs.Rollback.{rollback}
 use Rattle.rules.specs.Call.{perform}
 use Rattle.traces.specs.declared.op.ChangeOp.{ChangeOp}
+use Rattle.calls.proofs.SettledLaws.{same-kind}
 use Rattle.driving.proofs.RunCallLaws.{settled, replaced, prewritten, by-change}
 use Rattle.driving.proofs.changing.change.Goals as goal
 
 pub returns-in-Prewrite : goal.returns-in-Prewrite
-returns-in-Prewrite c = by-change _ ChangeOp.Prewrite c.args.args.now _ c.in-Prewrite.is (prewritten _ _ _ c.args.args.now.put c.prewrite.ensures)
+returns-in-Prewrite c = by-change _ ChangeOp.Prewrite c.args.args.now _ c.in-Prewrite.is (prewritten _ _ _ c.args.args.now.kind (rw (c.eq-put.ensures ∙ same-kind _ Put) at c.prewrite.ensures))
 
 pub returns-in-PrewriteBatch : goal.returns-in-PrewriteBatch
 unfolding perform

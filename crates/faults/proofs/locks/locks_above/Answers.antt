@@ -10,5 +10,5 @@ use Rattle.faults.proofs.locks.locks_above.Goals as goal
 
 pub returns : goal.returns
 returns c =
-    all_from_yields_List (λ p. lock_above c.args.floor (lock_at c.args.s.now p)) _ _ _ c.all.ensures.ran (YieldsList-from_slice c.args.ls.now cc) (λ x b q k. search (rules, tests))
-    ∙ all-each (lock_above c.args.floor) (lock_at c.args.s.now) c.args.ls.now
+    all_from_yields_List (λ p. lock_above c.args.floor (lock_at c.args.s.now p)) _ _ _ c.all.ensures.ran (YieldsList-from_slice c.args.locks.now cc) (λ x b q k. search (rules, tests))
+    ∙ all-each (lock_above c.args.floor) (lock_at c.args.s.now) c.args.locks.now

@@ -3,20 +3,20 @@
 use Rattle.images.proofs.ImageLaws.{sections-zero, sections-no-defaults, sections-no-locks, sections-no-writes, sections-tail, sections-good}
 use Rattle.images.proofs.sections.sections_of.Goals as goal
 
-pub returns-then-t-eq0 : goal.returns-then-t-eq0
-returns-then-t-eq0 c = sections-zero _ c.in_ok-t.ensures c.if-t-eq0.true
+pub returns-then-head-eq0 : goal.returns-then-head-eq0
+returns-then-head-eq0 c = sections-zero _ c.in_ok-head.ensures c.if-head-eq0.true
 
-pub returns-in_err-d : goal.returns-in_err-d
-returns-in_err-d c = rw c.from_residual-in_err-d.ensures (sections-no-defaults c.args.form c.in_ok-t.ensures c.in_err-d.ensures)
+pub returns-in_err-of_defaults : goal.returns-in_err-of_defaults
+returns-in_err-of_defaults c = rw c.from_residual-in_err-of_defaults.ensures (sections-no-defaults c.args.form c.in_ok-head.ensures c.in_err-of_defaults.ensures)
 
-pub returns-in_err-l : goal.returns-in_err-l
-returns-in_err-l c = rw c.from_residual-in_err-l.ensures (sections-no-locks c.args.form c.in_ok-t.ensures c.in_ok-d.ensures c.in_err-l.ensures)
+pub returns-in_err-of_locks : goal.returns-in_err-of_locks
+returns-in_err-of_locks c = rw c.from_residual-in_err-of_locks.ensures (sections-no-locks c.args.form c.in_ok-head.ensures c.in_ok-of_defaults.ensures c.in_err-of_locks.ensures)
 
-pub returns-in_err-w : goal.returns-in_err-w
-returns-in_err-w c = rw c.from_residual-in_err-w.ensures (sections-no-writes c.args.form c.in_ok-t.ensures c.in_ok-d.ensures c.in_ok-l.ensures c.in_err-w.ensures)
+pub returns-in_err-of_writes : goal.returns-in_err-of_writes
+returns-in_err-of_writes c = rw c.from_residual-in_err-of_writes.ensures (sections-no-writes c.args.form c.in_ok-head.ensures c.in_ok-of_defaults.ensures c.in_ok-of_locks.ensures c.in_err-of_writes.ensures)
 
-pub returns-then-w-s : goal.returns-then-w-s
-returns-then-w-s c = sections-tail _ c.in_ok-t.ensures c.in_ok-d.ensures c.in_ok-l.ensures c.in_ok-w.ensures c.if-w-s.true
+pub returns-then-of_writes-s : goal.returns-then-of_writes-s
+returns-then-of_writes-s c = sections-tail _ c.in_ok-head.ensures c.in_ok-of_defaults.ensures c.in_ok-of_locks.ensures c.in_ok-of_writes.ensures c.if-of_writes-s.true
 
 pub returns : goal.returns
-returns c = sections-good _ c.in_ok-t.ensures c.in_ok-d.ensures c.in_ok-l.ensures c.in_ok-w.ensures c.if-t-eq0.false c.if-w-s.false
+returns c = sections-good _ c.in_ok-head.ensures c.in_ok-of_defaults.ensures c.in_ok-of_locks.ensures c.in_ok-of_writes.ensures c.if-head-eq0.false c.if-of_writes-s.false

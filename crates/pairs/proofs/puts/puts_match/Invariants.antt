@@ -4,4 +4,4 @@ use Rattle.pairs.proofs.PutsMatchLaws.{Matching}
 use Rattle.pairs.proofs.puts.puts_match.Given as goal
 
 abbrev pub invariant-loop-place : goal.invariant-loop-place
-invariant-loop-place l = Matching l.s l.writes l.ds l.ps l.place-index l.j
+invariant-loop-place l = Matching l.s l.writes l.defaults l.lines l.place-index l.j

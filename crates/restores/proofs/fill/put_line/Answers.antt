@@ -1,9 +1,5 @@
 -- `restores::fill::put_line` meets its contract: a line that comes has place and is shown with its row, else the slot is empty (`PutLineLaws`).
 -- Assumes nothing.
-use Rattle.std.proofs.Common.{rules}
-use Rattle.images.specs.Sections.{line_at}
-use Rattle.orders.specs.Finds.{rows_at}
-use Rattle.restores.specs.Fills.{AsksIf, ComesIf}
 use Rattle.restores.proofs.PutLineLaws.{put-row-asks, put-asks, put-done}
 use borrow.Author.Tests.{lt-ltb, le-ltb}
 use mathlib.Core.Path.{refl}

@@ -5,4 +5,4 @@ use Rattle.restores.proofs.RestoreLaws.{Filling}
 use Rattle.restores.proofs.replace.restore.Given as goal
 
 abbrev pub invariant-loop-k : goal.invariant-loop-k
-invariant-loop-k l = Filling l.image l.v.load l.v.floor l.v.writesat l.rows l.places l.initial.store l.end l.k l.top l.area l.store
+invariant-loop-k l = Filling l.image l.accepted.load l.accepted.floor l.accepted.writesat l.rows l.places l.initial.store l.end l.k l.top l.area l.store

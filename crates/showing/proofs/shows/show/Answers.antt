@@ -4,23 +4,10 @@ use Rattle.rules.specs.Written.{scan_page, scan_intent_page, scan_conflicting_in
 use Rattle.traces.specs.declared.op.ShowOp.{ShowOp}
 use Rattle.store.specs.View.{box_of}
 use Rattle.showing.specs.Told.{told}
-use Rattle.showing.proofs.PagingLaws.{fits-lent, page-shown, page-long, intents-long, conflicts-long}
+use Rattle.showing.proofs.PagingLaws.{page-shown}
 use Rattle.showing.proofs.ShowLaws.{by-show}
-use native.Mathlib.Omega.{arith}
 use mathlib.Core.Path.{refl}
 use Rattle.showing.proofs.shows.show.Goals as goal
-
-pub show_read-requires : goal.show_read-requires
-show_read-requires c = (c.requires.made, fits-lent _ c.requires.lent_is (omega arith))
-
-pub show_lock-requires : goal.show_lock-requires
-show_lock-requires c = (c.requires.made, fits-lent _ c.requires.lent_is (omega arith))
-
-pub show_stats-requires : goal.show_stats-requires
-show_stats-requires c = (c.requires.made, fits-lent _ c.requires.lent_is (omega arith))
-
-pub show_marks-requires : goal.show_marks-requires
-show_marks-requires c = (c.requires.made, fits-lent _ c.requires.lent_is (omega arith))
 
 pub returns-in-Read : goal.returns-in-Read
 unfolding told
@@ -29,17 +16,17 @@ returns-in-Read c = by-show c.args.args.now _ c.args.op ShowOp.Read c.in-Read.is
 pub returns-in-Page : goal.returns-in-Page
 unfolding told
 returns-in-Page c = by-show c.args.args.now _ c.args.op ShowOp.Page c.in-Page.is
-    (page-shown (λ x buffer. scan_page c.args.store.now.floor x c.args.args.now.first (record { rows = c.args.args.now.second; bytes = c.args.args.now.third }) (box_of c.args.store.now c.args.area.now) buffer) (λ x buffer. page-long x _ buffer _ _ _) c.args.args.now _ c.requires.lent_is c.requires.small c.scan_page.ensures c.written.ensures)
+    (page-shown (λ x buffer. scan_page c.args.store.now.floor x c.args.args.now.first (record { rows = c.args.args.now.second; bytes = c.args.args.now.third }) (box_of c.args.store.now c.args.area.now) buffer) c.args.args.now _ c.requires.lent_is c.requires.small c.scan_page-done.ensures c.written.ensures)
 
 pub returns-in-IntentPage : goal.returns-in-IntentPage
 unfolding told
 returns-in-IntentPage c = by-show c.args.args.now _ c.args.op ShowOp.IntentPage c.in-IntentPage.is
-    (page-shown (λ x buffer. scan_intent_page x c.args.args.now.first (box_of c.args.store.now c.args.area.now) buffer) (λ x buffer. intents-long x _ buffer _) c.args.args.now _ c.requires.lent_is c.requires.small c.scan_intent_page.ensures c.written-in-IntentPage.ensures)
+    (page-shown (λ x buffer. scan_intent_page x c.args.args.now.first (box_of c.args.store.now c.args.area.now) buffer) c.args.args.now _ c.requires.lent_is c.requires.small c.scan_intent_page-done.ensures c.written-in-IntentPage.ensures)
 
 pub returns-in-ConflictingIntents : goal.returns-in-ConflictingIntents
 unfolding told
 returns-in-ConflictingIntents c = by-show c.args.args.now _ c.args.op ShowOp.ConflictingIntents c.in-ConflictingIntents.is
-    (page-shown (λ x buffer. scan_conflicting_intents x c.args.args.now.first (record { rows = c.args.args.now.second; bytes = c.args.args.now.third }) (box_of c.args.store.now c.args.area.now) buffer) (λ x buffer. conflicts-long x _ buffer _ _) c.args.args.now _ c.requires.lent_is c.requires.small c.scan_conflicting_intents.ensures c.written-in-ConflictingIntents.ensures)
+    (page-shown (λ x buffer. scan_conflicting_intents x c.args.args.now.first (record { rows = c.args.args.now.second; bytes = c.args.args.now.third }) (box_of c.args.store.now c.args.area.now) buffer) c.args.args.now _ c.requires.lent_is c.requires.small c.scan_conflicting_intents-done.ensures c.written-in-ConflictingIntents.ensures)
 
 pub returns-in-OneIntent : goal.returns-in-OneIntent
 unfolding told
