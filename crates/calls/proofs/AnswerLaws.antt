@@ -1,16 +1,23 @@
 -- What a call does where one of its first steps decides: 6, 5 and the head of a batch, for every kind of entries.
 -- Assumes nothing.
 use native.Mathlib.Omega.{arith}
-use mathlib.Core.Path.{◌≡◌, refl, sym, ap, ◌∙◌}
+use mathlib.Core.Path.{◌≡◌, refl, sym, ap, ◌∙◌, subst}
 use mathlib.Core.Bool.{Bool, true, false}
 use mathlib.Core.List.{List, [], ◌∷◌}
 use mathlib.Core.Option.{Option, none, some}
 use lib.ListN.{length}
+use Rattle.std.specs.Prelude.{None, Some}
+use Rattle.std.specs.Prelude.{Option as Maybe}
+use Rattle.forms.specs.Bytes.{Bytes}
+use Rattle.forms.specs.Places.{AreEntries, Decoded}
+use Rattle.forms.specs.declared.batch.Entry.{Entry}
+use Rattle.forms.specs.declared.entries.Entries.{Entries}
 use Rattle.rules.specs.Answers.{Answer, Accepted, No, Held, ◌▸◌, need}
 use Rattle.rules.specs.Box.{Box}
 use Rattle.rules.specs.Calls.{Done, settle, of_batch, non_empty}
 use Rattle.laws.proofs.StepLaws.{then-assoc}
 use Rattle.laws.proofs.SettleLaws.{settle-old, of_batch-some, of_batch-none}
+use Rattle.calls.specs.Steps.{in_form, entries_read}
 use Rattle.calls.proofs.SettledLaws.{then-refused}
 
 -- ---- a first step, and the others
@@ -71,3 +78,16 @@ module _ {A : Type 0} (steps : List A → Box → Answer) (new : List A → Box 
     pub full-batch : (length xs ≡ 0 → ⊥) → of_batch o batch_call b ≡ settle (steps xs b) (new xs b) b
     unfolding need ◌▸◌
     full-batch n = by_count (some_of xs n)
+
+-- ---- a batch as it was decoded: out of form, or the steps of its entries decide
+
+module _ {A : Type 0} {item : Entry → A} {s : Bytes} {o : Option (List A)} where
+  pub by-form : (r : Maybe Entries) → Decoded item s o r → {a v : Answer} → a ≡ need (in_form r) 6 ▸ v → (P : Answer → Type 0) → (o ≡ none → P (No 6)) → (AreEntries item s o (entries_read r) → a ≡ v → P a) → P a
+  unfolding need ◌▸◌
+  by-form None d e P bad good = subst P (sym e) (bad d)
+  by-form (Some r) d e P bad good = good d e
+
+  pub form-passed : (r : Maybe Entries) → Decoded item s o r → {a v : Answer} → a ≡ need (in_form r) 6 ▸ v → a ≡ Accepted → AreEntries item s o (entries_read r) × (a ≡ v)
+  unfolding need ◌▸◌
+  form-passed None d e p = cc
+  form-passed (Some r) d e p = (d, e)

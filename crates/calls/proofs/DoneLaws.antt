@@ -6,11 +6,14 @@ use mathlib.Core.List.{List, map}
 use lib.ListN.{length}
 use Rattle.std.proofs.lemmas.List.{length-map}
 use mathlib.Core.Option.{Option, none, some}
+use Rattle.std.specs.Prelude.{Option as Maybe}
 use lib.Dec.{eqb}
 use borrow.Author.Tests.{eqb-true, eqb-false}
 use Rattle.forms.specs.Bytes.{Bytes}
 use Rattle.forms.specs.Key.{Key}
+use Rattle.forms.specs.Places.{AreEntries, Decoded}
 use Rattle.forms.specs.declared.batch.Entry.{Entry}
+use Rattle.forms.specs.declared.entries.Entries.{Entries}
 use Rattle.rules.specs.Answers.{Answer, Accepted, No, Held, ◌▸◌, need}
 use Rattle.rules.specs.Box.{Box}
 use Rattle.rules.specs.Room.{load_of, room_for, Fits}
@@ -26,10 +29,11 @@ use Rattle.actions.specs.declared.action.Action.{Action}
 use Rattle.actions.specs.Actions.{StartsAbove}
 use Rattle.calls.specs.Settled.{Changed, Settled}
 use Rattle.calls.specs.Entries.{AllAsks}
+use Rattle.calls.specs.Steps.{in_form, entries_read}
 use Rattle.calls.specs.Passes.{BatchVerdict, all_done, Judged, apply_entry, Ready, ApplyAsks, AllApplied, SettledBy}
 use Rattle.calls.proofs.SettledLaws.{settled_same, settled-new}
 use Rattle.calls.proofs.ApplyAllLaws.{applied-is}
-use Rattle.calls.proofs.AnswerLaws.{head-out, head-on, batch_call, bad-batch, empty-batch, full-batch}
+use Rattle.calls.proofs.AnswerLaws.{head-out, head-on, batch_call, bad-batch, empty-batch, full-batch, by-form, form-passed}
 
 -- a call that leaves the box as it was
 settle-still : (a : Answer) (new old : Box) → (a ≡ Accepted → new ≡ old) → settle a new old ≡ record { answer = a; box = old }
@@ -155,3 +159,22 @@ module _ {A : Type 0} {check : Box → A → Answer} {apply : A → Box → Box}
       pub batch-done : {t : Changed} {area' : Bytes} → Settled st area (all_done late check apply (map item es) (box_of st area)) t area' → Settled st area (of_batch o call (box_of st area)) t area'
       unfolding all_done
       batch-done {t} {area'} v = subst (λ (x : Done). Settled st area x t area') (sym (batch-is ∙ head-on a rest (apply_all apply xs old) old p)) v
+
+  -- by the batch as it was decoded
+  module _ (item : Entry → A) (s : Bytes) (o : Option (List A)) (r : Maybe Entries) (d : Decoded item s o r) {a : Answer} (e : a ≡ need (in_form r) 6 ▸ need (not (eqb (length (entries_read r)) 0)) 5 ▸ head) where
+    -- 6, 5, or the head's
+    pub decoded-refused : (a ≡ Accepted → ⊥) → Settled st area (of_batch o call (box_of st area)) (record { store = st; answer = a }) area
+    decoded-refused n = by-form r d e (λ (x : Answer). Settled st area (of_batch o call old) (record { store = st; answer = x }) area) batch-bad (λ f q. batch-refused item (entries_read r) f.is q n)
+
+    module _ (p : a ≡ Accepted) where
+      in-form : AreEntries item s o (entries_read r) × (a ≡ need (not (eqb (length (entries_read r)) 0)) 5 ▸ head)
+      in-form = form-passed r d e p
+
+      pub decoded-entries : AreEntries item s o (entries_read r)
+      decoded-entries = in-form.0
+
+      pub decoded-head : head ≡ Accepted
+      decoded-head = batch-head item (entries_read r) in-form.0.is in-form.1 p
+
+      pub decoded-done : {t : Changed} {area' : Bytes} → Settled st area (all_done late check apply (map item (entries_read r)) (box_of st area)) t area' → Settled st area (of_batch o call (box_of st area)) t area'
+      decoded-done v = batch-done item (entries_read r) in-form.0.is in-form.1 p v

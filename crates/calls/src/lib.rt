@@ -15,6 +15,8 @@ pub use applying::{apply_all, settle};
 pub use checking::check_each;
 pub use judged::judge;
 pub use parts::row_of;
-pub use steps::{argument_step, batch_step, floor_step, own_step, row_stands, zero_step};
+pub use steps::{
+    argument_step, batch_step, decoded_step, floor_step, own_step, row_stands, zero_step,
+};
 pub use terms::commit_terms_step;
 pub use weights::{Weight, left_load, plus_weight};

@@ -1,5 +1,5 @@
 // Tests that several calls make, as rules' Calls says them.
-ghost use Rattle.std.specs.Prelude.{◌≡◌, not, ◌+◌, ◌≤◌, eqb, ltb, length};
+ghost use Rattle.std.specs.Prelude.{◌≡◌, not, ◌+◌, ◌≤◌, eqb, ltb, length, IfOk};
 ghost use Rattle.std.proofs.Math.Option.{some};
 ghost use Rattle.forms.specs.Bytes.{Bytes, bytes_at};
 ghost use Rattle.rules.specs.Answers.{◌▸◌, need};
@@ -8,21 +8,41 @@ ghost use Rattle.rules.specs.Calls.{zero_step, row_argument, row_stands};
 ghost use Rattle.lookups.specs.KeyStates.{locked_by};
 ghost use Rattle.changes.specs.Changes.{entry_for};
 ghost use Rattle.forms.specs.Readers.{given};
-ghost use Rattle.calls.specs.Steps.{argument_step, own_step};
+ghost use Rattle.calls.specs.Steps.{is_there, those, in_form, entries_read, argument_step, own_step};
 
-use forms::Entry;
+use forms::{Entries, Entry};
 use rules::Refusal;
 use store::LockView;
 
-// "5", of a batch in form, and then the steps of the call's terms
+// "6, 5", of a batch's entries, if it is in form, and then the steps of the call's terms
 #[tactic(auto, using(laws::proofs::ChainLaws::chain))]
-pub fn batch_step(entries: &[Entry], terms: Result<(), Refusal>) -> Result<(), Refusal>
-    ensures { outcome result ≡ need (not (eqb (length entries.now) 0)) 5 ▸ outcome terms }
+pub fn batch_step(entries: Option<&[Entry]>, terms: Result<(), Refusal>) -> Result<(), Refusal>
+    ensures { outcome result ≡ need (is_there entries.entry) 6 ▸ need (not (eqb (length (those entries.entry)) 0)) 5 ▸ outcome terms }
 {
+    let Some(entries) = entries else {
+        return Err(Refusal::BatchForm);
+    };
     if entries.is_empty() {
         return Err(Refusal::EmptyBatch);
     }
     terms
+}
+
+// The same of a batch as it was decoded; where they pass, its entries.
+#[tactic(auto, using(laws::proofs::ChainLaws::chain))]
+pub fn decoded_step<'a>(
+    decoded: &'a Option<Entries>,
+    terms: Result<(), Refusal>,
+) -> Result<&'a [Entry], Refusal>
+    ensures answer { outcome result ≡ need (in_form decoded.now) 6 ▸ need (not (eqb (length (entries_read decoded.now)) 0)) 5 ▸ outcome terms }
+    ensures entries { IfOk result (λ es. es.now ≡ entries_read decoded.now) }
+{
+    let entries = match decoded {
+        Some(batch) => Some(batch.as_slice()),
+        None => None,
+    };
+    batch_step(entries, terms)?;
+    Ok(entries.unwrap_or(&[]))
 }
 
 // "zero transaction, start": 3

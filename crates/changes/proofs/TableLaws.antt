@@ -52,10 +52,10 @@ copied-over l i j x h g =
     ∙ ap (λ (v : List _). set (take i l ++ slice (suc i) j l ++ v) (j - 1) x) (ap (λ (m : ℕ). drop m l) e ∙ drop-cons l (j - 1) x a ∙ ap (λ (m : ℕ). get_or l (j - 1) x ∷ drop m l) k)
     ∙ set_at (take i l ++ slice (suc i) j l) (get_or l (j - 1) x) (drop j l) x (j - 1) len
 
-inserts : {st : Store} {c : Change} {n : NewSlot} → c ≡ Inserts n → ChangeAsks st c → InsertAsks st n.to
+pub inserts : {st : Store} {c : Change} {n : NewSlot} → c ≡ Inserts n → ChangeAsks st c → InsertAsks st n.to
 inserts {st} p asks = subst (ChangeAsks st) p asks
 
-replaces : {st : Store} {c : Change} {i : ℕ} {n : NewSlot} → c ≡ Replaces i n → ChangeAsks st c → ReplaceAsks st i n.to
+pub replaces : {st : Store} {c : Change} {i : ℕ} {n : NewSlot} → c ≡ Replaces i n → ChangeAsks st c → ReplaceAsks st i n.to
 replaces {st} p asks = subst (ChangeAsks st) p asks
 
 -- the change that it makes of the table

@@ -94,7 +94,7 @@ abbrev changes_of : CommitTerms → Changes Key
 changes_of h = record { key = λ (k : Key). k; start = h.start; check = commit_key h; apply = apply_commit h; depends = commit-depends h; only = commit-only h h.start }
 
 -- what each key asks in its turn, where all would pass
-ends-ready : (h : CommitTerms) (primary : Key) {s : Bytes} {es : List Entry} (b : Box) → commit_terms_step 0 h ≡ Accepted → InForm s es → commit_keys h b (map (key_at s) es) ≡ Accepted → Ready (Commit h) primary s es b
+pub ends-ready : (h : CommitTerms) (primary : Key) {s : Bytes} {es : List Entry} (b : Box) → commit_terms_step 0 h ≡ Accepted → InForm s es → commit_keys h b (map (key_at s) es) ≡ Accepted → Ready (Commit h) primary s es b
 ends-ready h primary {s} {es} b p form c =
     ready-all (changes_of h) (key_at s) (Commit h) primary s (λ e x. refl) one es b (record { ascends = form.ascends; passed = sym (commit_keys-all h b (map (key_at s) es)) ∙ c; is = refl })
   where
@@ -144,7 +144,7 @@ module _ {st : Store} {area s : Bytes} {es : List Entry} (a : AllAsks st area s 
     pass-asks p {primary} = record { made = a.made; listed = a.form.listed; ready = ends-ready h primary b p a.form checked; above = λ _. tt }
 
     -- and the box becomes another one, for which there is room: a commit takes none
-    pass-done : {primary : Key} {t : Store} {area' : Bytes} → AllApplied (Commit h) primary st area s es t area' → Settled st area (all_done st.floor h (map (key_at s) es) (box_of st area)) (record { store = t; answer = Accepted }) area'
+    pub pass-done : {primary : Key} {t : Store} {area' : Bytes} → AllApplied (Commit h) primary st area s es t area' → Settled st area (all_done st.floor h (map (key_at s) es) (box_of st area)) (record { store = t; answer = Accepted }) area'
     pass-done {primary} {t} {area'} w =
         let y = load_fields (w.built.kept.load_is ∙ ap load_of same) in
         let z = load_fields a.made.built.kept.load_is in

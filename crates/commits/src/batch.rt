@@ -12,7 +12,7 @@ ghost use Rattle.commits.specs.Passes.{all_done};
 
 use crate::passes::check_all;
 use actions::Action;
-use calls::{batch_step, commit_terms_step, settle};
+use calls::{commit_terms_step, decoded_step, settle};
 use forms::{Entry, keys_of};
 use rules::{CommitTerms, Refusal};
 use store::{AREA, Store};
@@ -48,9 +48,7 @@ pub fn commit_intents_batch(
     ensures { Settled store.old area.old (commit_batch store.old.floor (record { txn = txn; start = start; commit = commit }) batch.now (box_of store.old area.old)) (record { store = store.new; answer = outcome result }) area.new }
 {
     let terms = CommitTerms { txn, start, commit };
-    let Some(entries) = keys_of(batch) else {
-        return Err(Refusal::BatchForm);
-    };
-    batch_step(&entries, commit_terms_step(0, terms))?;
-    commit_all(store, area, terms, batch, &entries)
+    let decoded = keys_of(batch);
+    let entries = decoded_step(&decoded, commit_terms_step(0, terms))?;
+    commit_all(store, area, terms, batch, entries)
 }

@@ -7,7 +7,7 @@ use mathlib.Core.Bool.{Bool, true, false, not, ◌&&◌, and-true, and-false, an
 use mathlib.Core.List.{List, [], ◌∷◌, ◌++◌, map, map-map}
 use mathlib.Core.Option.{none, some}
 use mathlib.Core.Option as maths
-use Rattle.std.specs.Prelude.{Option, Some, None}
+use Rattle.std.specs.Prelude.{Option, Some, None, Result, Ok, Err}
 use Rattle.rules.specs.declared.records.Kind.{Kind}
 use Rattle.rules.specs.declared.records.Kind.TheVariants.{Put, Delete, Rollback}
 use lib.Dec.{eqb}
@@ -51,11 +51,11 @@ module _ {s : Bytes} {ds : List ℕ} {e : ImageEntry} (a : PlaceAsks s ds e) whe
     by_row : entry_has s ds e ≡ found
     by_row = go e.kind put
       where
-        go : (k : Option Kind) → is_put k ≡ true → kind_has_default (kind_of k) found ≡ found
-        go None q = absurd (false≢true q)
-        go (Some Put) q = refl
-        go (Some Delete) q = absurd (false≢true q)
-        go (Some Rollback) q = absurd (false≢true q)
+        go : (k : Result Kind ℕ) → is_put k ≡ true → kind_has_default (kind_of k) found ≡ found
+        go (Err n) q = absurd (false≢true q)
+        go (Ok Put) q = refl
+        go (Ok Delete) q = absurd (false≢true q)
+        go (Ok Rollback) q = absurd (false≢true q)
 
     pub has-none : length ds ≤ i → false ≡ entry_has s ds e
     has-none h = sym (by_row ∙ row-past (key_inside s e) e.second (row_at s 0) (rows_at s ds) a.sorted (omega (arith, length-map ds (row_at s))))

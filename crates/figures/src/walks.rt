@@ -6,6 +6,7 @@ use crate::runs::Run;
 use rules::Figures;
 
 // A run of `n` keys ends: "chains of 1, 2 to 4, 5 to 16 and above 16, and the longest". One of none is no run.
+#[tactic(auto, using(crate::proofs::CloseLaws::end_none, crate::proofs::CloseLaws::chain_one, crate::proofs::CloseLaws::chain_four, crate::proofs::CloseLaws::chain_sixteen, crate::proofs::CloseLaws::chain_above))]
 pub fn close(n: usize, f: Figures) -> Figures
     requires { Few n f }
     ensures { result ≡ ended n f }
@@ -13,14 +14,30 @@ pub fn close(n: usize, f: Figures) -> Figures
     if n == 0 {
         return f;
     }
-    Figures {
+    let chain = Figures {
         keys: f.keys + 1,
         all: n + f.all,
-        one: f.one + usize::from(n == 1),
-        four: f.four + usize::from((2..=4).contains(&n)),
-        sixteen: f.sixteen + usize::from((5..=16).contains(&n)),
-        above: f.above + usize::from(16 < n),
         longest: n.max(f.longest),
+        ..f
+    };
+    // The counts of the other classes are not touched: the walk over the lines makes this step at every key.
+    match n {
+        1 => Figures {
+            one: f.one + 1,
+            ..chain
+        },
+        2..=4 => Figures {
+            four: f.four + 1,
+            ..chain
+        },
+        5..=16 => Figures {
+            sixteen: f.sixteen + 1,
+            ..chain
+        },
+        _ => Figures {
+            above: f.above + 1,
+            ..chain
+        },
     }
 }
 

@@ -9,7 +9,6 @@ use mathlib.Core.Option.{Option, none, some}
 use lib.ListN.{length, take, drop}
 use borrow.Author.Tests.{le-leb, lt-leb}
 use Rattle.std.specs.Prelude.{Option as Maybe}
-use Rattle.arrayvec.specs.ArrayVec.{ArrayVec}
 use Rattle.forms.specs.Bytes.{Bytes, lt_bytes}
 use Rattle.forms.specs.Key.{Key}
 use Rattle.forms.specs.Readers.{Read, Reader, read_on, ◌>>=◌, when, up_to, times, section, ended, whole}
@@ -17,6 +16,7 @@ use Rattle.forms.specs.Numbers.{number, number_of}
 use Rattle.forms.specs.Batch.{key_inside, above, ascend, if_ascend, batch_of, mutations, keys}
 use Rattle.forms.specs.Places.{IsNumber, key_at, mutation_of, entries, AreEntries, Decoded, InForm}
 use Rattle.forms.specs.declared.batch.Entry.{Entry}
+use Rattle.forms.specs.declared.entries.Entries.{Entries}
 use Rattle.forms.proofs.ReaderLaws.{up_to-none, up_to-many, up_to-good}
 use Rattle.forms.proofs.NumberLaws.{number_is, number-value, number_short}
 
@@ -62,7 +62,7 @@ module _ {A : Type 0} (key : A → Key) (r : Reader A) (s : Bytes) where
     decode_few h = batch-few key r s decode-long (omega (arith, number-value v)) ∙ sym (ap (λ (m : ℕ). if_ascend key (entries r m (drop 2 s))) (number-value v))
 
 -- the same entries, said otherwise
-pub decoded_as : {A : Type 0} (item : Entry → A) (s : Bytes) {o o' : Option (List A)} (r : Maybe (ArrayVec Entry)) → o ≡ o' → Decoded item s o' r → Decoded item s o r
+pub decoded_as : {A : Type 0} (item : Entry → A) (s : Bytes) {o o' : Option (List A)} (r : Maybe Entries) → o ≡ o' → Decoded item s o' r → Decoded item s o r
 decoded_as {A} item s r e d = subst (λ (o : Option (List A)). Decoded item s o r) (sym e) d
 
 -- "Keys strictly ascend"

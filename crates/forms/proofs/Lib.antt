@@ -1,6 +1,7 @@
 -- The laws of `forms`, in the order in which they build on each other.
 pub mod Orders
 pub mod CompareLaws
+pub mod SameLaws
 pub mod ReaderLaws
 pub mod NumberLaws
 pub mod WriterLaws

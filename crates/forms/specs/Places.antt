@@ -1,9 +1,8 @@
 -- What the code's places say: a reader of the code finds at a place what the definition's reader reads there, and where it ends.
 -- Assumes nothing.
-use Rattle.std.specs.Prelude.{ℕ, ◌+◌, ◌≤◌, ◌<◌, ◌^◌, ◌≡◌, Bool, true, false, List, map, length, drop, None, Some}
+use Rattle.std.specs.Prelude.{ℕ, ◌+◌, ◌≤◌, ◌<◌, ◌^◌, ◌≡◌, Bool, true, false, List, map, length, take, drop, None, Some}
 use Rattle.std.specs.Prelude.{Option as Maybe}
 use Rattle.std.proofs.Math.Option.{Option, none, some}
-use Rattle.arrayvec.specs.ArrayVec.{ArrayVec}
 use Rattle.seqs.specs.Tables.{All}
 use Rattle.forms.specs.Bytes.{Bytes, bytes_at, lt_bytes}
 use Rattle.forms.specs.Readers.{Read, Reader, when, byte, up_to, times, piece, whole}
@@ -15,6 +14,7 @@ use Rattle.forms.specs.declared.part.Part.{Part}
 use Rattle.forms.specs.declared.row.Mask.{Mask}
 use Rattle.forms.specs.declared.batch.Entry.{Entry}
 use Rattle.forms.specs.declared.batch.Step.{Step}
+use Rattle.forms.specs.declared.entries.Entries.{Entries}
 
 -- what was found, and what follows from the place next on; or nothing
 abbrev pub found : {A : Type 0} → Bytes → Bool → A → ℕ → Option (Read A)
@@ -171,10 +171,14 @@ pub record AreEntries {A : Type 0} (item : Entry → A) (s : Bytes) (o : Option 
   pub is : o ≡ some (map item es)
   pub listed : Listed s es
 
+-- the entries that count
+abbrev pub counting : Entries → List Entry
+counting v = take v.count v.list
+
 -- or they are not in form
-abbrev pub Decoded : {A : Type 0} → (Entry → A) → Bytes → Option (List A) → Maybe (ArrayVec Entry) → Type 0
+abbrev pub Decoded : {A : Type 0} → (Entry → A) → Bytes → Option (List A) → Maybe Entries → Type 0
 Decoded item s o None = o ≡ none
-Decoded item s o (Some v) = AreEntries item s o v.items
+Decoded item s o (Some v) = AreEntries item s o (counting v)
 
 -- ---- the walk over a batch: the key before, if any
 

@@ -4,10 +4,10 @@ ghost use Rattle.std.specs.Prelude.{◌≡◌, ◌≤◌, Bool, true, false, len
 ghost use Rattle.forms.specs.Batch.{if_ascend, batch_of, mutations, keys};
 ghost use Rattle.forms.specs.Places.{PartIn, GivenIn, part_of, given_part, key_at, mutation_of, StepAt, item_at, item_key, item_of, entries, Decoded, above_head};
 
+pub use crate::entries::Entries;
 use crate::key::below;
 use crate::number::{Width, number_at};
 use crate::part::{Part, part_at};
-use arrayvec::ArrayVec;
 
 // The places of one entry: its key, and a Put's row.
 #[derive(Clone, Copy, Default)]
@@ -15,9 +15,6 @@ pub struct Entry {
     pub key: Part,
     pub row: Option<Part>,
 }
-
-// The entries of a batch, which lie in the value itself.
-pub type Entries = ArrayVec<Entry, 32>;
 
 // An entry, and where the next begins.
 #[derive(Clone, Copy)]
@@ -94,7 +91,7 @@ fn read_all<F: Form>(s: &[u8], count: usize) -> Option<Entries>
     requires { (2 ≤ length s.now) × (count ≤ 32) }
     ensures { Decoded (item_of F.rows s.now) s.now (if_ascend (item_key F.rows) (entries (item_at F.rows) count (drop 2 s.now))) result }
 {
-    let mut list = ArrayVec::new();
+    let mut list = Entries::new();
     let mut last = None;
     let mut at: usize = 2;
     for _ in 0..count {

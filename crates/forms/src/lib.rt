@@ -3,6 +3,7 @@
 #![tactic(auto)]
 
 pub mod batch;
+pub mod entries;
 pub mod key;
 pub mod number;
 pub mod ones;
@@ -10,7 +11,8 @@ pub mod part;
 pub mod row;
 pub mod writers;
 
-pub use batch::{Entries, Entry, keys_of, mutations_of};
+pub use batch::{Entry, keys_of, mutations_of};
+pub use entries::Entries;
 pub use key::{below, compare, key_in_form, same};
 pub use number::{Width, bytes_in, number_at};
 pub use ones::{one_key, one_mutation};

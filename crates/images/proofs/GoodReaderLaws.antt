@@ -6,7 +6,7 @@ use mathlib.Core.Bool.{Bool, true, false, not, ◌&&◌, true≢false, false≢t
 use mathlib.Core.List.{List, [], ◌∷◌, map}
 use mathlib.Core.Option.{none, some}
 use mathlib.Core.Option as maths
-use Rattle.std.specs.Prelude.{Option, Some, None}
+use Rattle.std.specs.Prelude.{Some, None, Result}
 use lib.ListN.{drop}
 use lib.Dec.{eqb}
 use borrow.Author.Tests.{not-true, not-false}
@@ -80,14 +80,14 @@ module _ (k : Bytes) where
     abbrev of_kind : Kind → Reader box.Lock
     of_kind i = just (record { txn = n; primary = p; start = b; ttl = c; kind = i })
 
-    abbrev raw : Option Kind → Raw
+    abbrev raw : Result Kind ℕ → Raw
     raw z = record { key = k; first = n; piece = p; second = b; third = c; kind = z }
 
     lock-kind : (z : ℕ) (u : Bytes) → read_on (read_on (kind_if (eqb z 1) (eqb z 2) (eqb z 3) u) of_kind) locked ≡ map_read key_lock_of (pass known_raw (some (record { got = raw (entries.kind_from z); rest = u })))
     unfolding read_on just kind_if pass
     lock-kind z u = go (eqb z 1) (eqb z 2) (eqb z 3)
       where
-        go : (a d r : Bool) → read_on (read_on (kind_if a d r u) of_kind) locked ≡ map_read key_lock_of (pass known_raw (some (record { got = raw (kind_by a d r); rest = u })))
+        go : (a d r : Bool) → read_on (read_on (kind_if a d r u) of_kind) locked ≡ map_read key_lock_of (pass known_raw (some (record { got = raw (kind_by z a d r); rest = u })))
         go true d r = refl
         go false true r = refl
         go false false true = refl
@@ -115,14 +115,14 @@ module _ (k : Bytes) (w b c : ℕ) where
   abbrev write_kind : Kind → Reader KeyRecord
   write_kind i = just (record { key = k; write = record { stamp = w; start = b; commit = c; kind = i } })
 
-  abbrev written : Option Kind → Raw
+  abbrev written : Result Kind ℕ → Raw
   written z = record { key = k; first = w; piece = []; second = b; third = c; kind = z }
 
   write-kind : (z : ℕ) (u : Bytes) → read_on (kind_if (eqb z 1) (eqb z 2) (eqb z 3) u) write_kind ≡ map_read key_record_of (pass known_raw (some (record { got = written (entries.kind_from z); rest = u })))
   unfolding read_on just kind_if pass
   write-kind z u = go (eqb z 1) (eqb z 2) (eqb z 3)
     where
-      go : (a d r : Bool) → read_on (kind_if a d r u) write_kind ≡ map_read key_record_of (pass known_raw (some (record { got = written (kind_by a d r); rest = u })))
+      go : (a d r : Bool) → read_on (kind_if a d r u) write_kind ≡ map_read key_record_of (pass known_raw (some (record { got = written (kind_by z a d r); rest = u })))
       go true d r = refl
       go false true r = refl
       go false false true = refl

@@ -7,7 +7,7 @@ use mathlib.Core.Bool.{Bool, true, false, false≢true}
 use mathlib.Core.List.{[]}
 use mathlib.Core.Option.{none, some}
 use mathlib.Core.Option as maths
-use Rattle.std.specs.Prelude.{Option, Some, None}
+use Rattle.std.specs.Prelude.{Option, Some, None, Result, Err}
 use Rattle.std.specs.Option.{unwrap_or}
 use lib.ListN.{length, get_or, drop, length-drop}
 use lib.Seq.{length-take-le}
@@ -105,7 +105,7 @@ abbrev second_on : ℕ → Reader End
 second_on b = number_of 8 >>= third_on b
 
 module _ (s : Bytes) (at : ℕ) where
-  pub tail_none : at ≤ length s → TailAt false s at (Some (record { second = 0; third = 0; kind = None; next = at }))
+  pub tail_none : at ≤ length s → TailAt false s at (Some (record { second = 0; third = 0; kind = Err 0; next = at }))
   unfolding just
   tail_none h = record { read = record { is = refl; within = h }; low = omega arith; high = omega arith }
 
@@ -130,11 +130,11 @@ module _ (s : Bytes) (at : ℕ) where
       pub tail-no-kind : length s ≤ at + 16 → TailAt true s at None
       tail-no-kind h = goes ∙ on_none byte (kind_on b c) (byte-none s (at + 16) h)
 
-      pub tail-good : {k : Option Kind} → k ≡ kind_from (get_or s (at + 16) 0) → at + 16 < length s → TailAt true s at (Some (record { second = b; third = c; kind = k; next = at + 16 + 1 }))
+      pub tail-good : {k : Result Kind ℕ} → k ≡ kind_from (get_or s (at + 16) 0) → at + 16 < length s → TailAt true s at (Some (record { second = b; third = c; kind = k; next = at + 16 + 1 }))
       unfolding just
       tail-good q h = record {
         read = record {
-          is = goes ∙ on_some byte (kind_on b c) (byte_at s (at + 16) h) ∙ ap (λ (i : Option Kind). some (record { got = record { second = b; third = c; kind = i }; rest = drop (at + 16 + 1) s })) (sym q);
+          is = goes ∙ on_some byte (kind_on b c) (byte_at s (at + 16) h) ∙ ap (λ (i : Result Kind ℕ). some (record { got = record { second = b; third = c; kind = i }; rest = drop (at + 16 + 1) s })) (sym q);
           within = omega arith;
         };
         low = omega arith;
@@ -147,7 +147,7 @@ abbrev end_on : Key → ℕ → Bytes → End → Reader Raw
 end_on k n p t = just (record { key = k; first = n; piece = p; second = t.second; third = t.third; kind = t.kind })
 
 abbrev pub empty : ImageEntry
-empty = record { key = record { at = 0; len = 0 }; first = 0; piece = record { at = 0; len = 0 }; second = 0; third = 0; kind = None; next = 0 }
+empty = record { key = record { at = 0; len = 0 }; first = 0; piece = record { at = 0; len = 0 }; second = 0; third = 0; kind = Err 0; next = 0 }
 
 nowhere : (s : Bytes) → PartIn s (record { at = 0; len = 0 })
 nowhere s = record { within = omega arith; small = omega arith }

@@ -3,7 +3,7 @@
 -- One form for the entries of the three sections: a key and a number; a piece, where the section has one; two numbers and a kind, where it
 -- has them.
 -- Assumes nothing.
-use Rattle.std.specs.Prelude.{ℕ, ◌+◌, ◌≤◌, ◌≡◌, Bool, true, false, [], length, drop, eqb, Option, Some, None}
+use Rattle.std.specs.Prelude.{ℕ, ◌+◌, ◌≤◌, ◌≡◌, Bool, true, false, [], length, drop, eqb, Option, Some, None, Result, Ok, Err}
 use Rattle.std.proofs.Math.Option.{none, some}
 use Rattle.std.proofs.Math.Option as maths
 use Rattle.forms.specs.Bytes.{Bytes}
@@ -19,35 +19,35 @@ use Rattle.images.specs.declared.entries.Section.TheVariants.{Default, Lock, Wri
 use Rattle.images.specs.declared.entries.Tail.{Tail}
 use Rattle.images.specs.declared.entries.ImageEntry.{ImageEntry}
 
--- an entry as it stands; of another number than a kind's there is no kind
+-- an entry as it stands; of another number than a kind's there is the number
 pub record Raw : Type 0 where
   pub key : Key
   pub first : ℕ
   pub piece : Bytes
   pub second : ℕ
   pub third : ℕ
-  pub kind : Option Kind
+  pub kind : Result Kind ℕ
 
 pub record End : Type 0 where
   pub second : ℕ
   pub third : ℕ
-  pub kind : Option Kind
+  pub kind : Result Kind ℕ
 
--- "Kinds: 1 Put, 2 Delete, 3 Rollback"
-abbrev pub kind_by : Bool → Bool → Bool → Option Kind
-kind_by true d r = Some Put
-kind_by false true r = Some Delete
-kind_by false false true = Some Rollback
-kind_by false false false = None
+-- "Kinds: 1 Put, 2 Delete, 3 Rollback", and else the number itself
+abbrev pub kind_by : ℕ → Bool → Bool → Bool → Result Kind ℕ
+kind_by n true d r = Ok Put
+kind_by n false true r = Ok Delete
+kind_by n false false true = Ok Rollback
+kind_by n false false false = Err n
 
-abbrev pub kind_from : ℕ → Option Kind
-kind_from n = kind_by (eqb n 1) (eqb n 2) (eqb n 3)
+abbrev pub kind_from : ℕ → Result Kind ℕ
+kind_from n = kind_by n (eqb n 1) (eqb n 2) (eqb n 3)
 
-abbrev pub is_put : Option Kind → Bool
-is_put None = false
-is_put (Some Put) = true
-is_put (Some Delete) = false
-is_put (Some Rollback) = false
+abbrev pub is_put : Result Kind ℕ → Bool
+is_put (Err n) = false
+is_put (Ok Put) = true
+is_put (Ok Delete) = false
+is_put (Ok Rollback) = false
 
 abbrev pub has_piece : Section → Bool
 has_piece Default = true
@@ -72,7 +72,7 @@ tail_from = do
   just (record { second = b; third = c; kind = kind_from n })
 
 abbrev pub no_end : End
-no_end = record { second = 0; third = 0; kind = None }
+no_end = record { second = 0; third = 0; kind = Err 0 }
 
 unfoldable pub entry_from : Section → Reader Raw
 entry_from section = do
@@ -83,7 +83,7 @@ entry_from section = do
   just (record { key = k; first = n; piece = p; second = t.second; third = t.third; kind = t.kind })
 
 abbrev pub no_raw : Raw
-no_raw = record { key = []; first = 0; piece = []; second = 0; third = 0; kind = None }
+no_raw = record { key = []; first = 0; piece = []; second = 0; third = 0; kind = Err 0 }
 
 abbrev pub raw_or : maths.Option (Read Raw) → Raw
 raw_or none = no_raw

@@ -1,7 +1,7 @@
 -- Entries of an image as document 01's defaults, locks and writes, and which of them are good.
 -- Assumes nothing.
-use Rattle.std.specs.Prelude.{ℕ, ◌≡◌, Bool, true, false, not, ◌&&◌, drop, eqb, Option, Some, None}
-use Rattle.std.specs.Option.{unwrap_or}
+use Rattle.std.specs.Prelude.{ℕ, ◌≡◌, Bool, true, false, not, ◌&&◌, drop, eqb, Option, Some, None, Result, Ok, Err}
+use Rattle.std.specs.Result.{result_unwrap_or}
 use Rattle.std.proofs.Math.Option.{none, some}
 use Rattle.std.proofs.Math.Option as maths
 use Rattle.forms.specs.Bytes.{Bytes}
@@ -23,13 +23,13 @@ use Rattle.images.specs.declared.entries.ImageEntry.{ImageEntry}
 use Rattle.images.specs.declared.checks.Form.{Form}
 use Rattle.images.specs.declared.checks.Form.TheVariants.{Old, New}
 
--- whether a number said a kind; where it said none, Rollback stands for it
-abbrev pub known : Option Kind → Bool
-known None = false
-known (Some k) = true
+-- whether a number says a kind; of one that says none the kind is Rollback
+abbrev pub known : Result Kind ℕ → Bool
+known (Err n) = false
+known (Ok k) = true
 
-abbrev pub kind_of : Option Kind → Kind
-kind_of k = unwrap_or k Rollback
+abbrev pub kind_of : Result Kind ℕ → Kind
+kind_of k = result_unwrap_or k Rollback
 
 abbrev pub default_of : Raw → box.Default
 default_of x = record { key = x.key; start = x.first; row = x.piece }

@@ -84,9 +84,9 @@ fn entry_good(s: &[u8], section: Section, form: Form, table: u64, e: ImageEntry)
     }
     match (section, e.kind) {
         (Section::Default, _) => default_good(s, form, e),
-        (Section::Lock, Some(kind)) => lock_good(s, e, kind),
-        (Section::Write, Some(kind)) => write_good(e, kind),
-        (Section::Lock | Section::Write, None) => false,
+        (Section::Lock, Ok(kind)) => lock_good(s, e, kind),
+        (Section::Write, Ok(kind)) => write_good(e, kind),
+        (Section::Lock | Section::Write, Err(_)) => false,
     }
 }
 

@@ -1,5 +1,5 @@
-// An entry of an image at a place, in any of the three sections: where its key and its piece lie, its numbers as they stand, and its kind. Whether
-// an entry may be without a kind is for the one who judges.
+// An entry of an image at a place, in any of the three sections: where its key and its piece lie, its numbers as they stand, and its kind. A
+// number that is no kind's stands in its place: whether an entry may have one is for the one who judges.
 ghost use Rattle.std.specs.Prelude.{◌≡◌, true, ◌≤◌, length};
 ghost use Rattle.images.specs.Entries.{kind_from, is_put, PieceAt, TailAt, EntryAt, Stood, has_tail};
 
@@ -14,15 +14,15 @@ pub enum Section {
     Write,
 }
 
-// "Kinds: 1 Put, 2 Delete, 3 Rollback"
-fn kind_from(n: u8) -> Option<Kind>
+// "Kinds: 1 Put, 2 Delete, 3 Rollback", and else the number itself
+fn kind_from(n: u8) -> Result<Kind, u8>
     ensures { result ≡ kind_from n }
 {
     match n {
-        1 => Some(Kind::Put),
-        2 => Some(Kind::Delete),
-        3 => Some(Kind::Rollback),
-        _ => None,
+        1 => Ok(Kind::Put),
+        2 => Ok(Kind::Delete),
+        3 => Ok(Kind::Rollback),
+        _ => Err(n),
     }
 }
 
@@ -42,7 +42,7 @@ fn piece_at(s: &[u8], at: usize, section: Section) -> Option<Part>
 pub struct Tail {
     pub second: u64,
     pub third: u64,
-    pub kind: Option<Kind>,
+    pub kind: Result<Kind, u8>,
     pub next: usize,
 }
 
@@ -73,7 +73,7 @@ fn tail_at(s: &[u8], at: usize, section: Section) -> Option<Tail>
         Section::Default => Some(Tail {
             second: 0,
             third: 0,
-            kind: None,
+            kind: Err(0),
             next: at,
         }),
         Section::Lock | Section::Write => numbers_at(s, at),
@@ -88,7 +88,7 @@ pub struct ImageEntry {
     pub piece: Part,
     pub second: u64,
     pub third: u64,
-    pub kind: Option<Kind>,
+    pub kind: Result<Kind, u8>,
     pub next: usize,
 }
 
@@ -96,7 +96,7 @@ impl ImageEntry {
     pub fn is_put(&self) -> bool
         ensures { result ≡ is_put self.now.kind }
     {
-        matches!(self.kind, Some(Kind::Put))
+        matches!(self.kind, Ok(Kind::Put))
     }
 }
 
@@ -125,7 +125,7 @@ const EMPTY: ImageEntry = ImageEntry {
     piece: Part { at: 0, len: 0 },
     second: 0,
     third: 0,
-    kind: None,
+    kind: Err(0),
     next: 0,
 };
 

@@ -66,7 +66,7 @@ lesser-either true e l = lesser-more (ltb-true _ _ (sym e))
 lesser-either false e l = lesser-same (ltb-false _ _ (sym e)) l
 
 -- a range that is not empty has a round left
-round-left : (rounds : ℕ) {d : ℕ} → d < 2 ^ rounds → 0 < d → 0 < rounds
+pub round-left : (rounds : ℕ) {d : ℕ} → d < 2 ^ rounds → 0 < d → 0 < rounds
 round-left zero f g = absurd (omega (arith, f, g, pow-zero 2))
 round-left (suc r) f g = omega arith
 
@@ -140,7 +140,7 @@ module _ {st : Store} {area : Bytes} (b : Built st area) (k : Key) where
 
   -- any place of the range may be compared
   module _ (mid : ℕ) {low high : ℕ} (v : Halving area k st.lines st.load.lines low high) (from : low ≤ mid) (to : mid < high) where
-    mid-in : mid < st.load.lines
+    pub mid-in : mid < st.load.lines
     mid-in = omega (arith, v.count_fits)
 
     pub key-in : place_of (slot b mid) + (slot b mid).len ≤ length area

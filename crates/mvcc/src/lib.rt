@@ -33,7 +33,7 @@ pub use collects::collect;
 // Figures of the whole store.
 pub use figures::{allocator_high_water_marks, stats};
 
-// The types that calls take and give back.
+// The types that calls take and give back. Their methods are no calls on a store: each says itself what it asks.
 pub use bounds::Bounds;
 pub use forms::Part;
 pub use reads::{LockSeen, Reading, RowSeen, ShownLock};

@@ -56,5 +56,5 @@ pub fn commit_batch(
         return Err(Refusal::BatchForm);
     };
     commit_terms_step(store.floor, terms)?;
-    step_all(store, area, terms, batch, &entries)
+    step_all(store, area, terms, batch, entries.as_slice())
 }

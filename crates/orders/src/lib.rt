@@ -9,5 +9,5 @@ pub mod marks;
 pub mod sorts;
 
 pub use finds::row_place;
-pub use marks::{By, line_at};
+pub use marks::{By, Mark, line_at, mark_at};
 pub use sorts::{order, order_both};

@@ -85,11 +85,11 @@ module _ {area : Bytes} {want : Reply (Page Bytes)} {w : Walked} (v : WalkedAs a
 
   -- "A refusal changes nothing in store or buffers"
   module _ {r : Wrote} where
-    paged-no : {n : ℕ} → w.answer ≡ No n → r ≡ record { answer = No n; count = 0 } → WroteAs (written same want out) r out
+    pub paged-no : {n : ℕ} → w.answer ≡ No n → r ≡ record { answer = No n; count = 0 } → WroteAs (written same want out) r out
     unfolding if_passed written
     paged-no e p = by e (record { answer_is = answered (ap (λ (x : Wrote). x.answer) p); count_is = ap (λ (x : Wrote). x.count) p; out_is = refl })
 
-    paged-held : {h : Holder} → w.answer ≡ Held h → r ≡ record { answer = Held h; count = 0 } → WroteAs (written same want out) r out
+    pub paged-held : {h : Holder} → w.answer ≡ Held h → r ≡ record { answer = Held h; count = 0 } → WroteAs (written same want out) r out
     unfolding if_passed written
     paged-held e p = by e (record { answer_is = answered (ap (λ (x : Wrote). x.answer) p); count_is = ap (λ (x : Wrote). x.count) p; out_is = refl })
 

@@ -6,7 +6,7 @@ use mathlib.Core.Path.{◌≡◌, refl, sym, ◌∙◌, ap}
 use mathlib.Core.Bool.{Bool, true, false, not, ◌&&◌, true≢false, false≢true}
 use mathlib.Core.List.{List, [], ◌∷◌, map}
 use lib.Dec.{ltb, leb}
-use Rattle.std.specs.Prelude.{Option, Some, None}
+use Rattle.std.specs.Prelude.{Result, Ok, Err}
 use lib.ListN.{length, get_or, drop, drop_of_length-le}
 use lib.Seq.{drop-cons}
 use borrow.Author.Tests.{not-true, not-false, leb-true, leb-false}
@@ -59,21 +59,21 @@ module _ {s : Bytes} {w : ℕ} {ds ps : List ℕ} {i j : ℕ} (v : Matching s w 
   pub match-other : is_put e.kind ≡ false → Matching s w ds ps (i + 1) j
   match-other h = record { is = here ∙ ap (λ (l : List Default). same_pairs l rows) (go e.kind h) }
     where
-      go : (k : Option Kind) → is_put k ≡ false → put_on (kind_of k) (raw_pair (raw_of s e)) rest ≡ rest
-      go None q = refl
-      go (Some Put) q = absurd (true≢false q)
-      go (Some Delete) q = refl
-      go (Some Rollback) q = refl
+      go : (k : Result Kind ℕ) → is_put k ≡ false → put_on (kind_of k) (raw_pair (raw_of s e)) rest ≡ rest
+      go (Err n) q = refl
+      go (Ok Put) q = absurd (true≢false q)
+      go (Ok Delete) q = refl
+      go (Ok Rollback) q = refl
 
   module _ (put : is_put e.kind ≡ true) where
     a-put : puts_match s w ds ps ≡ same_pairs (raw_pair (raw_of s e) ∷ rest) rows
     a-put = here ∙ ap (λ (l : List Default). same_pairs l rows) (go e.kind put)
       where
-        go : (k : Option Kind) → is_put k ≡ true → put_on (kind_of k) (raw_pair (raw_of s e)) rest ≡ raw_pair (raw_of s e) ∷ rest
-        go None q = absurd (false≢true q)
-        go (Some Put) q = refl
-        go (Some Delete) q = absurd (false≢true q)
-        go (Some Rollback) q = absurd (false≢true q)
+        go : (k : Result Kind ℕ) → is_put k ≡ true → put_on (kind_of k) (raw_pair (raw_of s e)) rest ≡ raw_pair (raw_of s e) ∷ rest
+        go (Err n) q = absurd (false≢true q)
+        go (Ok Put) q = refl
+        go (Ok Delete) q = absurd (false≢true q)
+        go (Ok Rollback) q = absurd (false≢true q)
 
     pub match_none : length ds ≤ j → false ≡ puts_match s w ds ps
     unfolding same_pairs

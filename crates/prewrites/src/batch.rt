@@ -14,7 +14,7 @@ ghost use Rattle.prewrites.specs.Checks.{with_primary};
 use crate::heads::{LockTerms, terms_step};
 use crate::passes::check_all;
 use actions::Action;
-use calls::{batch_step, settle};
+use calls::{decoded_step, settle};
 use forms::{Entry, mutations_of};
 use rules::Refusal;
 use store::{AREA, Store};
@@ -54,9 +54,7 @@ pub fn prewrite_batch(
     ensures { Settled store.old area.old (prewrite_batch store.old.floor (with_primary (record { txn = txn; start = start; ttl = ttl }) primary.now) batch.now (box_of store.old area.old)) (record { store = store.new; answer = outcome result }) area.new }
 {
     let terms = LockTerms { txn, start, ttl };
-    let Some(entries) = mutations_of(batch) else {
-        return Err(Refusal::BatchForm);
-    };
-    batch_step(&entries, terms_step(terms, primary))?;
-    prewrite_all(store, area, terms, primary, batch, &entries)
+    let decoded = mutations_of(batch);
+    let entries = decoded_step(&decoded, terms_step(terms, primary))?;
+    prewrite_all(store, area, terms, primary, batch, entries)
 }

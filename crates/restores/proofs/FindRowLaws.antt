@@ -7,8 +7,7 @@ use mathlib.Core.Bool.{true, false≢true}
 use mathlib.Core.List.{List}
 use mathlib.Core.Option.{Option, some}
 use lib.ListN.{length, get_or, length-map, get_or-map}
-use Rattle.std.specs.Prelude.{Some, None}
-use Rattle.std.specs.Prelude.{Option as Maybe}
+use Rattle.std.specs.Prelude.{Result, Ok, Err}
 use Rattle.rules.specs.declared.records.Kind.{Kind}
 use Rattle.rules.specs.declared.records.Kind.TheVariants.{Put, Delete, Rollback}
 use Rattle.forms.specs.Bytes.{Bytes}
@@ -37,11 +36,11 @@ module _ {s : Bytes} {rows : List ℕ} {e : ImageEntry} (asks : RowAsks s rows e
     kind_is : kind_of e.kind ≡ Put
     kind_is = go e.kind put
       where
-        go : (x : Maybe Kind) → is_put x ≡ true → kind_of x ≡ Put
-        go None q = absurd (false≢true q)
-        go (Some Put) q = refl
-        go (Some Delete) q = absurd (false≢true q)
-        go (Some Rollback) q = absurd (false≢true q)
+        go : (x : Result Kind ℕ) → is_put x ≡ true → kind_of x ≡ Put
+        go (Err n) q = absurd (false≢true q)
+        go (Ok Put) q = refl
+        go (Ok Delete) q = absurd (false≢true q)
+        go (Ok Rollback) q = absurd (false≢true q)
 
     has : is_some (row_of k e.second ds) ≡ true
     has = sym (ap (λ (x : Kind). kind_has_default x (is_some (row_of k e.second ds))) kind_is) ∙ asks.has

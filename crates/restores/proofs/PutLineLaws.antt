@@ -26,14 +26,13 @@ use Rattle.store.specs.Made.{LeanRow, sound_line}
 use Rattle.forms.proofs.WriterLaws.{bytes-long}
 use Rattle.changes.proofs.WriteLaws.{past-lower}
 use Rattle.changes.specs.Writes.{LockStands, RecordStands}
-use Rattle.images.specs.Entries.{Raw, raw_at, raw_of, Lies, Stood}
+use Rattle.images.specs.Entries.{raw_at, raw_of, Lies, Stood}
 use Rattle.images.specs.declared.entries.ImageEntry.{ImageEntry}
 use Rattle.orders.specs.Marks.{section_if}
-use Rattle.images.specs.Good.{known, kind_of}
+use Rattle.images.specs.Good.{kind_of}
 use Rattle.images.specs.Sections.{line_if, line_at}
 use Rattle.restores.specs.declared.rows.RowPlace.{RowPlace}
 use Rattle.orders.specs.Finds.{rows_at, key_inside}
-use Rattle.faults.specs.Judged.{said_if, kind_said}
 use Rattle.restores.specs.Rows.{row_for, RowAsks, RowFound}
 use Rattle.restores.specs.Fills.{Laid, size_of, carrying, laid, row_bytes, Comes, line_from, tail_in, OneStamp, WriteAsks, LineAsks}
 
@@ -116,7 +115,7 @@ one-stamp true s e h = tt
 one-stamp false s e h = eqb-true e.third e.first (and_left _ _ (and_left (eqb e.third e.first && not (eqb e.second 0)) (kind_fits (kind_of e.kind) e.second e.third) h))
 
 module _ {s : Bytes} {rows : List ℕ} {e : ImageEntry} where
-  rows-ask : (b : Bool) → e.key.at + e.key.len ≤ length s → {area : Bytes} {top : ℕ} → LineAsks (entry_line b s e) (known e.kind) (rows_at s rows) area top → RowAsks s rows e
+  rows-ask : (b : Bool) → e.key.at + e.key.len ≤ length s → {area : Bytes} {top : ℕ} → LineAsks (entry_line b s e) (rows_at s rows) area top → RowAsks s rows e
   rows-ask true k a = record { place = record { sorted = a.sorted; key_in = k }; has = a.has }
   rows-ask false k a = record { place = record { sorted = a.sorted; key_in = k }; has = a.has }
 
@@ -139,11 +138,10 @@ module _ {s : Bytes} {rows : List ℕ} {e : ImageEntry} where
       room true top h = omega (arith, row_room, bytes-long s e.key.at e.key.len lies.key.within, bytes-long s e.piece.at e.piece.len lies.piece.within)
       room false top h = omega (arith, row_room, bytes-long s e.key.at e.key.len lies.key.within)
 
-      write-asks : (b : Bool) {area : Bytes} {top : ℕ} → LineAsks (entry_line b s e) (known e.kind) (rows_at s rows) area top → WriteAsks s b e found area top
+      write-asks : (b : Bool) {area : Bytes} {top : ℕ} → LineAsks (entry_line b s e) (rows_at s rows) area top → WriteAsks s b e found area top
       write-asks b a = record {
         lies = lies;
         row-in = f.inside;
-        said = a.said;
         lean = lean;
         stamp = one-stamp b s e (and_right (key_form (entry_line b s e).key) _ a.good);
         length_is = a.length_is;
@@ -158,16 +156,9 @@ module _ (writesat : ℕ) {s : Bytes} {p : ℕ} {e : ImageEntry} (v : Stood (sec
       from true = refl
       from false = refl
 
-  said-is : kind_said s writesat p ≡ known e.kind
-  said-is = ap (λ (t : Bool). said_if t s p) is ∙ from b ∙ ap (λ (x : Raw). known x.kind) (ap (λ (t : Bool). raw_at (section_if t) s p) (sym is) ∙ sym v.raw)
-    where
-      from : (t : Bool) → said_if t s p ≡ known (raw_at (section_if t) s p).kind
-      from true = refl
-      from false = refl
-
-  module _ (rows : List ℕ) (area : Bytes) (top : ℕ) (a : LineAsks (line_at s writesat p) (kind_said s writesat p) (rows_at s rows) area top) where
-    asks : LineAsks (entry_line b s e) (known e.kind) (rows_at s rows) area top
-    asks = subst (λ (x : box.KeyLine × Bool). LineAsks x.0 x.1 (rows_at s rows) area top) (λ i. (line-is i, said-is i)) a
+  module _ (rows : List ℕ) (area : Bytes) (top : ℕ) (a : LineAsks (line_at s writesat p) (rows_at s rows) area top) where
+    asks : LineAsks (entry_line b s e) (rows_at s rows) area top
+    asks = subst (λ (x : box.KeyLine). LineAsks x (rows_at s rows) area top) line-is a
 
     pub put-row-asks : RowAsks s rows e
     put-row-asks = rows-ask b v.lies.key.within asks

@@ -10,8 +10,7 @@ use lib.ListN.{length, get_or, take, drop, set, length-map, length-take, get_or-
 use lib.Seq.{get_or-take, length-take-le}
 use lib.Dec.{ltb}
 use borrow.Author.Tests.{ltb-true, ltb-false}
-use Rattle.seqs.specs.Tables.{All, shown}
-use Rattle.seqs.proofs.Alls.{all-at}
+use Rattle.seqs.specs.Tables.{shown}
 use Rattle.forms.specs.Bytes.{Bytes}
 use Rattle.rules.specs.Answers.{Accepted}
 use Rattle.rules.specs.declared.answers.Refusal.{Refusal}
@@ -42,7 +41,6 @@ use Rattle.calls.specs.Settled.{Replaced}
 use Rattle.calls.proofs.SettledLaws.{untouched}
 use Rattle.images.specs.Sections.{line_at, Placed}
 use Rattle.verdicts.specs.declared.outcome.ImageVerdict.{ImageVerdict}
-use Rattle.faults.specs.Judged.{KindSaid, kind_said}
 use Rattle.verdicts.specs.Verdicts.{Accepts}
 use Rattle.pairs.proofs.EntryPairLaws.{line_has}
 use Rattle.orders.specs.Finds.{rows_at}
@@ -103,7 +101,6 @@ module _ {s : Bytes} {load : Load} {floor writesat : ℕ} {rows places : List �
 -- the first k places of the table are filled, and there is place for the lines that are left
 pub record Filling (s : Bytes) (load : Load) (floor writesat : ℕ) (rows places : List ℕ) (old : Store) (end k top : ℕ) (area : Bytes) (st : Store) : Type 0 where
   pub placed : Placed s load floor writesat rows places
-  pub said : All (KindSaid s writesat) (take load.lines places)
   pub count_fits : end ≤ 1024
   pub half : Half old.lines (lines_told s load writesat rows places) k top area st.lines
   pub length_is : length area ≡ 131072
@@ -115,7 +112,6 @@ filling-start {v = v} {old = old} {area = area} d m q =
     let p = d.placed in
     record {
       placed = p;
-      said = d.said;
       count_fits = omega (arith, p.fit.lines, m.fit.lines);
       half = half-start old.lines _ 0 area m.built.lines.length_is;
       length_is = m.built.area_long;
@@ -126,7 +122,7 @@ pub lines_few : {s : Bytes} {load : Load} {floor writesat : ℕ} {rows places : 
 lines_few p = count_fits p
 
 module _ {s : Bytes} {load : Load} {floor writesat : ℕ} {rows places : List ℕ} {old st : Store} {end k top : ℕ} {area : Bytes} (f : Filling s load floor writesat rows places old end k top area st) where
-  asks : (b : Bool) → ltb k load.lines ≡ b → AsksIf (here b (get_or places k 0)) (line_at s writesat) (kind_said s writesat) (rows_told s load rows) area top
+  asks : (b : Bool) → ltb k load.lines ≡ b → AsksIf (here b (get_or places k 0)) (line_at s writesat) (rows_told s load rows) area top
   asks true e =
       let p = f.placed in
       let l : k < load.lines = ltb-true k load.lines e in
@@ -134,14 +130,13 @@ module _ {s : Bytes} {load : Load} {floor writesat : ℕ} {rows places : List �
         sorted = ap (box.ordered box.row_before) p.rows_are ∙ order-defaults (box_of p.img) (box_of-order p.img p.good);
         has = ap (λ (ds : List box.Default). line_has ds (line_at s writesat (get_or places k 0))) p.rows_are ∙ line-at p (line_has (box_of p.img).defaults) (image-has p.img p.good p.healthy) l;
         good = line-at p good_line (image-good p.img p.good p.healthy) l;
-        said = subst (KindSaid s writesat) (get_or-take load.lines places k 0 l) (all-at (KindSaid s writesat) 0 (take load.lines places) k f.said (omega (arith, length-take-le load.lines places (count_fits p))));
         length_is = f.length_is;
         room = omega (arith, f.left, told-next (told p) l, l);
       }
   asks false e = tt
 
-  pub line-asks : {o : Maybe ℕ} → o ≡ here (ltb k load.lines) (get_or places k 0) → AsksIf o (line_at s writesat) (kind_said s writesat) (rows_at s (take load.defaults rows)) area top
-  line-asks e = subst (λ (o : Maybe ℕ). AsksIf o (line_at s writesat) (kind_said s writesat) (rows_at s (take load.defaults rows)) area top) (sym e) (asks (ltb k load.lines) refl)
+  pub line-asks : {o : Maybe ℕ} → o ≡ here (ltb k load.lines) (get_or places k 0) → AsksIf o (line_at s writesat) (rows_at s (take load.defaults rows)) area top
+  line-asks e = subst (λ (o : Maybe ℕ). AsksIf o (line_at s writesat) (rows_at s (take load.defaults rows)) area top) (sym e) (asks (ltb k load.lines) refl)
 
   filled-by : (b : Bool) → ltb k load.lines ≡ b → (x : Slot) (on : ℕ) (area' : Bytes) → ComesIf (here b (get_or places k 0)) (line_at s writesat) (rows_told s load rows) area top x on area' → k < end
       → Filling s load floor writesat rows places old end (k + 1) on area' (record { lines = set st.lines k x; load = st.load; top = st.top; floor = st.floor })
@@ -149,7 +144,6 @@ module _ {s : Bytes} {load : Load} {floor writesat : ℕ} {rows places : List �
       let l : k < load.lines = ltb-true k load.lines e in
       record {
         placed = f.placed;
-        said = f.said;
         count_fits = f.count_fits;
         half = half-line (told f.placed) f.half (omega (arith, f.count_fits)) l x on area' c;
         length_is = c.past.length_is ∙ f.length_is;
@@ -159,7 +153,6 @@ module _ {s : Bytes} {load : Load} {floor writesat : ℕ} {rows places : List �
       let l : load.lines ≤ k = ltb-false k load.lines e in
       record {
         placed = f.placed;
-        said = f.said;
         count_fits = f.count_fits;
         half = half-none (told f.placed) f.half (omega (arith, f.count_fits)) l x on area' c;
         length_is = ap length c.area_is ∙ f.length_is;

@@ -16,7 +16,7 @@ use Rattle.changes.specs.Writes.{Past}
 use Rattle.forms.specs.Places.{PartIn}
 use Rattle.images.specs.Entries.{Raw, Lies}
 use Rattle.images.specs.declared.entries.ImageEntry.{ImageEntry}
-use Rattle.images.specs.Good.{known, kind_of, key_lock_of, key_record_of}
+use Rattle.images.specs.Good.{kind_of, key_lock_of, key_record_of}
 use Rattle.rules.specs.Restore.{kind_has_default}
 use Rattle.restores.specs.declared.rows.RowPlace.{RowPlace}
 use Rattle.restores.specs.Rows.{row_for}
@@ -98,21 +98,19 @@ OneStamp false e = e.third ≡ e.first
 pub record WriteAsks (s : Bytes) (lock : Bool) (e : ImageEntry) (found : RowPlace) (area : Bytes) (top : ℕ) : Type 0 where
   pub lies : Lies s e
   pub row-in : PartIn s found.row
-  pub said : known e.kind ≡ true
   pub lean : LeanRow (kind_of e.kind) found.row.len
   pub stamp : OneStamp lock e
   pub length_is : length area ≡ 131072
   pub room : top + 1 + e.key.len + 8 + 8 + found.row.len + tail_in lock e ≤ 131072
 
--- a good line that says its kind and has its default, with place for its stretch
-pub record LineAsks (x : box.KeyLine) (known : Bool) (ds : List box.Default) (area : Bytes) (top : ℕ) : Type 0 where
+-- a good line that has its default, with place for its stretch
+pub record LineAsks (x : box.KeyLine) (ds : List box.Default) (area : Bytes) (top : ℕ) : Type 0 where
   pub sorted : box.ordered box.row_before ds ≡ true
   pub has : kind_has_default (box.kind_in x.line) (is_some (box.row_of x.key (box.start_of x.line) ds)) ≡ true
   pub good : good_line x ≡ true
-  pub said : known ≡ true
   pub length_is : length area ≡ 131072
   pub room : top + 1 + size_of (laid ds x) ≤ 131072
 
-abbrev pub AsksIf : Maybe ℕ → (ℕ → box.KeyLine) → (ℕ → Bool) → List box.Default → Bytes → ℕ → Type 0
-AsksIf (Some p) at said ds area top = LineAsks (at p) (said p) ds area top
-AsksIf None at said ds area top = Unit {0}
+abbrev pub AsksIf : Maybe ℕ → (ℕ → box.KeyLine) → List box.Default → Bytes → ℕ → Type 0
+AsksIf (Some p) at ds area top = LineAsks (at p) ds area top
+AsksIf None at ds area top = Unit {0}

@@ -2,15 +2,16 @@
 ghost use Rattle.std.specs.Prelude.{◌≡◌, true, false, ◌≤◌, length, get_or, ltb};
 ghost use Rattle.forms.specs.Places.{part_of};
 ghost use Rattle.images.specs.Entries.{raw_of};
+ghost use Rattle.images.specs.Good.{kind_of};
 ghost use Rattle.images.specs.Sections.{line_at};
 ghost use Rattle.orders.specs.Finds.{rows_at};
-ghost use Rattle.faults.specs.Judged.{kind_said};
 ghost use Rattle.restores.specs.Fills.{WriteAsks, line_from, carrying, Comes, laid, here, AsksIf, ComesIf};
 
 use crate::rows::{RowPlace, find_row};
 use changes::{append_lock, append_record, lock_slot, record_slot};
 use images::ImageEntry;
 use orders::line_at;
+use rules::records::Kind;
 use store::table::no_slot;
 use store::{Slot, pairs_in};
 
@@ -22,12 +23,19 @@ pub struct Filled {
     pub last: usize,
 }
 
+// An entry's kind; of a number that is no kind's, Rollback.
+fn kind_of(e: ImageEntry) -> Kind
+    ensures { result ≡ kind_of e.kind }
+{
+    e.kind.unwrap_or(Kind::Rollback)
+}
+
 // "a standing intent with its kind": the entry's key and numbers, its row, its time to live and its primary.
 fn write_lock(area: &mut [u8], top: usize, s: &[u8], e: ImageEntry, found: RowPlace) -> Filled
     requires { WriteAsks s.now true e found area.old top }
     ensures { Comes (carrying (line_from true (raw_of s.now e)) (part_of s.now found.row)) area.old top result.slot result.top area.new }
 {
-    let Some(kind) = e.kind else { unreachable!() };
+    let kind = kind_of(e);
     let at = pairs_in(top);
     let end = append_lock(
         area,
@@ -51,7 +59,7 @@ fn write_record(area: &mut [u8], top: usize, s: &[u8], e: ImageEntry, found: Row
     requires { WriteAsks s.now false e found area.old top }
     ensures { Comes (carrying (line_from false (raw_of s.now e)) (part_of s.now found.row)) area.old top result.slot result.top area.new }
 {
-    let Some(kind) = e.kind else { unreachable!() };
+    let kind = kind_of(e);
     let at = pairs_in(top);
     let end = append_record(
         area,
@@ -86,7 +94,7 @@ pub fn put_line(
     place: Option<u32>,
     last: usize,
 ) -> Filled
-    requires { AsksIf place (line_at s.now writes) (kind_said s.now writes) (rows_at s.now rows.now) area.old top }
+    requires { AsksIf place (line_at s.now writes) (rows_at s.now rows.now) area.old top }
     ensures { ComesIf place (line_at s.now writes) (rows_at s.now rows.now) area.old top result.slot result.top area.new }
 {
     match place {

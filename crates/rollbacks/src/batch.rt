@@ -13,7 +13,7 @@ ghost use Rattle.calls.specs.Passes.{all_done};
 
 use crate::passes::check_all;
 use actions::Action;
-use calls::{batch_step, settle, zero_step};
+use calls::{decoded_step, settle, zero_step};
 use forms::{Entry, keys_of};
 use rules::Refusal;
 use store::{AREA, Store};
@@ -47,9 +47,7 @@ pub fn rollback_intents_batch(
     requires { Made store.old area.old }
     ensures { Settled store.old area.old (rollback_batch store.old.floor txn start batch.now (box_of store.old area.old)) (record { store = store.new; answer = outcome result }) area.new }
 {
-    let Some(entries) = keys_of(batch) else {
-        return Err(Refusal::BatchForm);
-    };
-    batch_step(&entries, zero_step(txn, start))?;
-    rollback_all(store, area, txn, start, batch, &entries)
+    let decoded = keys_of(batch);
+    let entries = decoded_step(&decoded, zero_step(txn, start))?;
+    rollback_all(store, area, txn, start, batch, entries)
 }

@@ -1,5 +1,6 @@
 -- The laws of this crate that others cite, and its theorems.
 pub mod OutcomeLaws
+pub mod OneResult
 pub mod SoundLaws
 pub mod RoomLaws
 pub mod EntryWriterLaws

@@ -6,7 +6,7 @@ fn second_box(rt: &impl Print, image: &[u8], key: &[u8]) {
     let mut second = new_hall();
     fills(rt, &mut second, image);
     asks_key(rt, &second, key, 25);
-    asks_figures(rt, &second, "the second box: ");
+    asks_figures(rt, &second, b"the second box: ");
 }
 
 pub fn copies_hall(rt: &impl Print, hall: &Hall, table: u32, key: &[u8]) {

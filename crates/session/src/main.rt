@@ -39,13 +39,13 @@ fn withdrawn_removal(rt: &impl Print, hall: &mut Hall, jaw: &[u8]) {
 fn main(rt: HostRuntime) {
     let mut hall = new_hall();
     let jaw = b"\x00\x00\x00\x01jaw";
-    asks_figures(&rt, &hall, "the hall opens: ");
+    asks_figures(&rt, &hall, b"the hall opens: ");
     two_labels(&rt, &mut hall, jaw);
     let reading = asks_key(&rt, &hall, jaw, 16);
-    asks_bones(&rt, &hall, reading);
+    asks_bones(&rt, &hall.area, reading);
     asks_page(&rt, &hall, 16);
     withdrawn_removal(&rt, &mut hall, jaw);
-    asks_figures(&rt, &hall, "after that: ");
+    asks_figures(&rt, &hall, b"after that: ");
     copies_hall(&rt, &hall, 1, jaw);
     passes_season(&rt, &mut hall, jaw);
 }

@@ -1,5 +1,7 @@
 // A season in the hall: the labels of two bones are written anew, over and over, until the box is full. What is older than a moment of the season is
 // collected; then the next edition has room, that moment shows what it showed, and those before it are gone.
+ghost use Rattle.std.specs.Prelude.{◌≡◌};
+
 use mvcc::Refusal;
 use visits::{Hall, asks_figures, asks_key, say_answer, say_refusal};
 
@@ -32,8 +34,10 @@ fn editions(rt: &impl Print, hall: &mut Hall) {
     }
 }
 
-// "Collect up to a floor F"
-fn collects(rt: &impl Print, hall: &mut Hall, floor: u64) {
+// "Collect up to a floor F": the store is another one, the area is as it was.
+fn collects(rt: &impl Print, hall: &mut Hall, floor: u64)
+    ensures { hall.new.area ≡ hall.old.area }
+{
     let _ = print!(rt; "what is older is collected, up to {floor}: ");
     say_answer(rt, mvcc::collect(&mut hall.store, &hall.area, floor));
 }
@@ -46,10 +50,10 @@ fn writes_again(rt: &impl Print, hall: &mut Hall, start: u64) {
 pub fn passes_season(rt: &impl Print, hall: &mut Hall, jaw: &[u8]) {
     let _ = print!(rt; "curator 9 writes the jaw and the rib anew, over and over: ");
     editions(rt, hall);
-    asks_figures(rt, hall, "the box is full: ");
+    asks_figures(rt, hall, b"the box is full: ");
     asks_key(rt, hall, jaw, 1000);
     collects(rt, hall, 1000);
-    asks_figures(rt, hall, "what is left: ");
+    asks_figures(rt, hall, b"what is left: ");
     writes_again(rt, hall, 2000);
     asks_key(rt, hall, jaw, 1000);
     asks_key(rt, hall, jaw, 999);

@@ -1,11 +1,13 @@
 -- A line as the code reads it: the line of the box that the slot shows, in parts that lie in its stretch.
 -- Assumes nothing.
-use Prim.Native.Nat.{ℕ, ◌+◌, ◌≤◌}
+use Prim.Native.Nat.{ℕ, ◌+◌, ◌-◌, ◌≤◌}
 use native.Mathlib.Omega.{arith}
-use mathlib.Core.Path.{◌≡◌, refl, subst}
-use lib.ListN.{length}
+use mathlib.Core.Path.{◌≡◌, refl, subst, sym, ap, ◌∙◌}
+use lib.ListN.{length, take, drop, length-drop}
+use lib.Seq.{take_all, length-take-le}
 use Rattle.std.specs.Prelude.{Some, None, IsSome}
 use Rattle.std.specs.Prelude.{Option as Maybe}
+use Rattle.forms.specs.Numbers.{number}
 use Rattle.forms.specs.Places.{NumberAt}
 use Rattle.forms.proofs.NumberLaws.{number_short, number-value}
 use Rattle.forms.specs.Bytes.{Bytes}
@@ -22,14 +24,23 @@ use Rattle.store.specs.declared.views.LockView.{LockView}
 use Rattle.store.specs.declared.views.RecordView.{RecordView}
 use Rattle.store.specs.declared.views.LineView.TheVariants as view
 
--- eight bytes that lie in the area are a number
+-- eight bytes that lie in the area are a number, read off the bytes themselves
 module _ (area : Bytes) (at : ℕ) (h : at + 8 ≤ length area) where
-  pub eight-there : (r : Maybe ℕ) → NumberAt 8 area at r → IsSome r
-  eight-there None e = absurd (omega (arith, number_short 8 area at e))
+  abbrev cut : Bytes
+  cut = take (at + 8 - at) (drop at area)
+
+  cut-is : cut ≡ take 8 (drop at area)
+  cut-is = ap (λ (n : ℕ). take n (drop at area)) (let e : at + 8 - at ≡ 8 = omega arith in e)
+
+  cut-long : length cut ≡ 8
+  cut-long = ap length cut-is ∙ length-take-le 8 (drop at area) (omega (arith, length-drop at area))
+
+  pub eight-there : (r : Maybe ℕ) → NumberAt 8 cut 0 r → IsSome r
+  eight-there None e = absurd (omega (arith, cut-long, number_short 8 cut 0 e))
   eight-there (Some v) e = refl
 
-  pub eight-is : {r : Maybe ℕ} {v : ℕ} → NumberAt 8 area at r → r ≡ Some v → v ≡ eight_at area at
-  eight-is e q = number-value (subst (NumberAt 8 area at) q e)
+  pub eight-is : {r : Maybe ℕ} {v : ℕ} → NumberAt 8 cut 0 r → r ≡ Some v → v ≡ eight_at area at
+  eight-is e q = number-value (subst (NumberAt 8 cut 0) q e) ∙ ap number (take_all 8 cut (omega (arith, cut-long)) ∙ cut-is)
 
 -- every line has its two numbers
 pub past-numbers : (x : Line) → 16 ≤ past x

@@ -42,7 +42,7 @@ pub fn eight_at(area: &[u8], at: usize) -> u64
     requires { at + 8 ≤ length area.now }
     ensures { result ≡ eight_at area.now at }
 {
-    forms::number_at(area, at, Width::Eight).unwrap()
+    forms::number_at(&area[at..at + 8], 0, Width::Eight).unwrap()
 }
 
 fn lock_view(l: LockSlot, area: &[u8], at: usize) -> LockView

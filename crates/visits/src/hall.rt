@@ -1,5 +1,5 @@
 // A hall's box: a store, and the area that goes with it.
-ghost use Rattle.store.specs.Made.{Made};
+ghost use Rattle.store.specs.Made.{Made, FreshStore};
 ghost use Rattle.visits.specs.Halls.{once};
 
 use mvcc::{AREA, Store};
@@ -13,7 +13,9 @@ pub struct Hall {
 }
 
 // A hall with nothing in its box.
-pub fn new_hall() -> Hall {
+pub fn new_hall() -> Hall
+    ensures { FreshStore result.store result.area }
+{
     let area = [0u8; AREA];
     let store = mvcc::open(&area);
     Hall { store, area }

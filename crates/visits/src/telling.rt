@@ -85,8 +85,8 @@ pub fn say_answer(rt: &impl Print, answer: Result<(), Refusal>) {
     }
 }
 
-// Names and labels are any bytes. A `Display` writes text alone, so they go out as they are.
-fn say_bytes(rt: &impl Print, bytes: &[u8]) {
+// Names, labels and the words before the figures are any bytes. A `Display` writes text alone, so they go out as they are.
+pub(crate) fn say_bytes(rt: &impl Print, bytes: &[u8]) {
     let _ = rt.write_all(bytes);
 }
 

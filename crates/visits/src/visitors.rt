@@ -1,8 +1,8 @@
 // What a visitor asks of the box, and the support desk, and what is shown. Nothing here changes the store.
 use crate::hall::Hall;
-use crate::telling::{say_label, say_name, say_refusal};
+use crate::telling::{say_bytes, say_label, say_name, say_refusal};
 use forms::Width;
-use mvcc::{Bounds, Reading, RowSeen};
+use mvcc::{AREA, Bounds, Reading, RowSeen};
 
 // A read's answer; a row that is shown is taken from the store's own bytes.
 fn say_seen(rt: &impl Print, area: &[u8], seen: RowSeen) {
@@ -108,19 +108,20 @@ fn say_bones(rt: &impl Print, row: &[u8]) {
     }
 }
 
-// Both questions are asked of a row alone: here of the one that a read shows.
-pub fn asks_bones(rt: &impl Print, hall: &Hall, reading: Reading) {
-    let row = mvcc::row_of(&hall.area, reading.seen);
+// Both questions are asked of a row alone: here of the one that a read shows, which is a part of the area.
+pub fn asks_bones(rt: &impl Print, area: &[u8; AREA], reading: Reading) {
+    let row = mvcc::row_of(area, reading.seen);
     say_bone(rt, row, 3);
     say_bone(rt, row, 4);
     say_bones(rt, row);
 }
 
-// What the box holds, from its statistics.
-pub fn asks_figures(rt: &impl Print, hall: &Hall, when: &str) {
+// What the box holds, from its statistics, behind any bytes.
+pub fn asks_figures(rt: &impl Print, hall: &Hall, when: &[u8]) {
     let stats = mvcc::stats(&hall.store, &hall.area);
     let records = stats.records.all;
     let locks = stats.locks;
     let rows = stats.defaults.all;
-    let _ = println!(rt; "{when}{records} records, {locks} locks, {rows} rows");
+    say_bytes(rt, when);
+    let _ = println!(rt; "{records} records, {locks} locks, {rows} rows");
 }

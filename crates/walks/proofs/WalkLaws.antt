@@ -231,11 +231,11 @@ module _ {st : Store} {area : Bytes} {q : PageQuery} (asks : WalkAsks st area q)
     unfolding row_page_steps
     steps-by f = ap (λ (x : Answer). x ▸ need (leb floor q.moment) 14) (sym e ∙ f)
 
-    judge-no : {n : ℕ} {r : Walked} → v ≡ No n → r ≡ empty_of (No n) → WalkedAs area (page_asked st.floor q a b) r
+    pub judge-no : {n : ℕ} {r : Walked} → v ≡ No n → r ≡ empty_of (No n) → WalkedAs area (page_asked st.floor q a b) r
     unfolding if_passed ◌▸◌
     judge-no {n} f p = empty_walked (No n) (by _ (empty_page false) (steps-by f) refl) p
 
-    judge-held : {h : Holder} {r : Walked} → v ≡ Held h → r ≡ empty_of (Held h) → WalkedAs area (page_asked st.floor q a b) r
+    pub judge-held : {h : Holder} {r : Walked} → v ≡ Held h → r ≡ empty_of (Held h) → WalkedAs area (page_asked st.floor q a b) r
     unfolding if_passed ◌▸◌
     judge-held {h} f p = empty_walked (Held h) (by _ (empty_page false) (steps-by f) refl) p
 

@@ -11,7 +11,7 @@ pub returns-then-not-follows : goal.returns-then-not-follows
 returns-then-not-follows g c = reading-low _ _ _ c.loop.invariant c.loop-test.true c.in_ok-step.ensures c.follows.ensures c.if-not-follows.true
 
 pub loop-preserved : goal.loop-preserved
-loop-preserved g c = rw c.push.ensures.items (reading-more _ _ _ c.loop.invariant c.loop-test.true c.in_ok-step.ensures c.follows.ensures c.if-not-follows.false)
+loop-preserved g c = rw c.push.ensures (reading-more _ _ _ c.loop.invariant c.loop-test.true c.in_ok-step.ensures c.follows.ensures c.if-not-follows.false)
 
 pub returns-then-at-s : goal.returns-then-at-s
 returns-then-at-s g c = reading-over _ _ _ c.loop.invariant c.loop-test.false c.if-at-s.true

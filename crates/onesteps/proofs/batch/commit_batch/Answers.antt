@@ -13,7 +13,7 @@ pub returns-in_err-commit_terms_step : goal.returns-in_err-commit_terms_step
 returns-in_err-commit_terms_step c = rw (handed-is _ _ c.from_residual.ensures.1) (head-out c.requires (record { txn = c.args.txn; start = c.args.start; commit = c.args.commit }) c.args.batch.now c.in-Some.ensures c.in_err-commit_terms_step.ensures (refusal-not _))
 
 pub step_all-requires : goal.step_all-requires
-step_all-requires c = rw c.deref.ensures.0 (batch-asks c.requires (record { txn = c.args.txn; start = c.args.start; commit = c.args.commit }) c.args.batch.now c.in-Some.ensures c.in_ok-commit_terms_step.ensures refl)
+step_all-requires c = rw c.as_slice.ensures (batch-asks c.requires (record { txn = c.args.txn; start = c.args.start; commit = c.args.commit }) c.args.batch.now c.in-Some.ensures c.in_ok-commit_terms_step.ensures refl)
 
 pub returns : goal.returns
-returns c = batch-done c.requires (record { txn = c.args.txn; start = c.args.start; commit = c.args.commit }) c.args.batch.now c.in-Some.ensures c.in_ok-commit_terms_step.ensures refl (rw c.deref.ensures.0 at c.step_all.ensures)
+returns c = batch-done c.requires (record { txn = c.args.txn; start = c.args.start; commit = c.args.commit }) c.args.batch.now c.in-Some.ensures c.in_ok-commit_terms_step.ensures refl (rw c.as_slice.ensures at c.step_all.ensures)
