@@ -24,7 +24,16 @@ use Rattle.store.specs.declared.views.LockView.{LockView}
 use Rattle.store.specs.declared.views.RecordView.{RecordView}
 use Rattle.store.specs.declared.views.LineView.TheVariants as view
 
--- eight bytes that lie in the area are a number, read off the bytes themselves
+-- eight bytes that lie in the area are a number
+module _ (area : Bytes) (at : ℕ) (h : at + 8 ≤ length area) where
+  pub eight-there : (r : Maybe ℕ) → NumberAt 8 area at r → IsSome r
+  eight-there None e = absurd (omega (arith, number_short 8 area at e))
+  eight-there (Some v) e = refl
+
+  pub eight-is : {r : Maybe ℕ} {v : ℕ} → NumberAt 8 area at r → r ≡ Some v → v ≡ eight_at area at
+  eight-is e q = number-value (subst (NumberAt 8 area at) q e)
+
+-- and so they are where they are cut out first, as `eight_at` reads them
 module _ (area : Bytes) (at : ℕ) (h : at + 8 ≤ length area) where
   abbrev cut : Bytes
   cut = take (at + 8 - at) (drop at area)
@@ -35,12 +44,11 @@ module _ (area : Bytes) (at : ℕ) (h : at + 8 ≤ length area) where
   cut-long : length cut ≡ 8
   cut-long = ap length cut-is ∙ length-take-le 8 (drop at area) (omega (arith, length-drop at area))
 
-  pub eight-there : (r : Maybe ℕ) → NumberAt 8 cut 0 r → IsSome r
-  eight-there None e = absurd (omega (arith, cut-long, number_short 8 cut 0 e))
-  eight-there (Some v) e = refl
+  pub eight-cut-there : (r : Maybe ℕ) → NumberAt 8 cut 0 r → IsSome r
+  eight-cut-there = eight-there cut 0 (omega (arith, cut-long))
 
-  pub eight-is : {r : Maybe ℕ} {v : ℕ} → NumberAt 8 cut 0 r → r ≡ Some v → v ≡ eight_at area at
-  eight-is e q = number-value (subst (NumberAt 8 cut 0) q e) ∙ ap number (take_all 8 cut (omega (arith, cut-long)) ∙ cut-is)
+  pub eight-cut-is : {r : Maybe ℕ} {v : ℕ} → NumberAt 8 cut 0 r → r ≡ Some v → v ≡ eight_at area at
+  eight-cut-is e q = eight-is cut 0 (omega (arith, cut-long)) e q ∙ ap number (take_all 8 cut (omega (arith, cut-long)) ∙ cut-is)
 
 -- every line has its two numbers
 pub past-numbers : (x : Line) → 16 ≤ past x
