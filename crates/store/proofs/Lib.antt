@@ -3,8 +3,8 @@ pub mod MemberLaws
 pub mod StoredLaws
 pub mod FreshLaws
 pub mod FloorLaws
-pub mod ViewLaws
 pub mod StretchLaws
+pub mod ViewLaws
 pub mod HolderLaws
 pub mod BuiltLaws
 pub mod KeySoundLaws

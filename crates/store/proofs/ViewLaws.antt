@@ -2,9 +2,9 @@
 -- Assumes nothing.
 use Prim.Native.Nat.{ℕ, ◌+◌, ◌-◌, ◌≤◌}
 use native.Mathlib.Omega.{arith}
-use mathlib.Core.Path.{◌≡◌, refl, subst, sym, ap, ◌∙◌}
-use lib.ListN.{length, take, drop, length-drop}
-use lib.Seq.{take_all, length-take-le}
+use mathlib.Core.Path.{◌≡◌, refl, subst, ap, ◌∙◌}
+use lib.ListN.{length, take, drop}
+use lib.Seq.{take_all}
 use Rattle.std.specs.Prelude.{Some, None, IsSome}
 use Rattle.std.specs.Prelude.{Option as Maybe}
 use Rattle.forms.specs.Numbers.{number}
@@ -23,6 +23,7 @@ use Rattle.store.specs.declared.table.Line.TheVariants.{Standing, Finished}
 use Rattle.store.specs.declared.views.LockView.{LockView}
 use Rattle.store.specs.declared.views.RecordView.{RecordView}
 use Rattle.store.specs.declared.views.LineView.TheVariants as view
+use Rattle.store.proofs.StretchLaws.{stretch, stretch-long}
 
 -- eight bytes that lie in the area are a number
 module _ (area : Bytes) (at : ℕ) (h : at + 8 ≤ length area) where
@@ -33,22 +34,19 @@ module _ (area : Bytes) (at : ℕ) (h : at + 8 ≤ length area) where
   pub eight-is : {r : Maybe ℕ} {v : ℕ} → NumberAt 8 area at r → r ≡ Some v → v ≡ eight_at area at
   eight-is e q = number-value (subst (NumberAt 8 area at) q e)
 
--- and so they are where they are cut out first, as `eight_at` reads them
+-- the same once they are cut out of the area: `eight_at` cuts them first, so that no place is left to test
 module _ (area : Bytes) (at : ℕ) (h : at + 8 ≤ length area) where
   abbrev cut : Bytes
   cut = take (at + 8 - at) (drop at area)
 
-  cut-is : cut ≡ take 8 (drop at area)
-  cut-is = ap (λ (n : ℕ). take n (drop at area)) (let e : at + 8 - at ≡ 8 = omega arith in e)
-
-  cut-long : length cut ≡ 8
-  cut-long = ap length cut-is ∙ length-take-le 8 (drop at area) (omega (arith, length-drop at area))
+  cut-fits : 0 + 8 ≤ length cut
+  cut-fits = omega (arith, stretch-long area at 8 h)
 
   pub eight-cut-there : (r : Maybe ℕ) → NumberAt 8 cut 0 r → IsSome r
-  eight-cut-there = eight-there cut 0 (omega (arith, cut-long))
+  eight-cut-there = eight-there cut 0 cut-fits
 
   pub eight-cut-is : {r : Maybe ℕ} {v : ℕ} → NumberAt 8 cut 0 r → r ≡ Some v → v ≡ eight_at area at
-  eight-cut-is e q = eight-is cut 0 (omega (arith, cut-long)) e q ∙ ap number (take_all 8 cut (omega (arith, cut-long)) ∙ cut-is)
+  eight-cut-is e q = eight-is cut 0 cut-fits e q ∙ ap number (take_all 8 cut (omega (arith, stretch-long area at 8 h)) ∙ stretch area at 8)
 
 -- every line has its two numbers
 pub past-numbers : (x : Line) → 16 ≤ past x
